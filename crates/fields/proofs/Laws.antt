@@ -1,0 +1,203 @@
+-- Laws of numbers as bytes, of fields, and of writing into a list; each holds for every width.
+use Prim.Native.Nat.{ℕ, suc, zero, _+_, _-_, _*_, _/_, _%_, _^_, _<_, _≤_}
+use mathlib.Core.Path.{_≡_, refl, sym, ap, _∙_}
+use mathlib.Core.List.{List, [], _∷_, _++_, append-assoc}
+use native.Mathlib.Omega.{arith}
+use native.Mathlib.Numerals.{add-one}
+use native.Mathlib.Nat.{pow-suc, pow-zero, add-zero, zero-add, div-lt-iff-lt-mul, pow-le-pow-right}
+use borrow.Author.Tests.{le-leb, lt-leb, leb-true}
+use lib.Dec.{leb}
+use lib.ListN.{length, getD, take, drop, set, length-append, length-take, length-drop, length-set, take-append-drop}
+use lib.Seq.{drop-cons, drop-set-lt, take-suc-set, take-at, drop-drop, length-take-le, getD-drop, append-snoc, drop-append-add, take-all}
+use Rattle.kinds.proofs.Refusing.{by-test, same-test}
+use Rattle.kinds.specs.declared.Guid.{Guid}
+use Rattle.fields.specs.Fields.{number, encode, field, written, guidBytes, Bytes}
+
+-- ---- numbers
+
+pub length-encode : (w n : ℕ) → length (encode w n) ≡ w
+unfolding encode
+length-encode zero n = refl
+length-encode (suc w) n = ap suc (length-encode w (n / 256))
+
+-- a number of w bytes, encoded, is read back
+pub number-encode : (w n : ℕ) → n < 256 ^ w → number (encode w n) ≡ n
+unfolding encode number
+number-encode zero n h = omega (arith, pow-zero 256)
+number-encode (suc w) n h =
+    let q : n < 256 ^ w * 256 = rw (pow-suc 256 w) at h in
+    let r = number-encode w (n / 256) (div-lt-iff-lt-mul (omega arith) .1 q) in
+    rw r (omega arith)
+
+tail-bytes : (b : ℕ) (s : List ℕ) → Bytes (b ∷ s) → Bytes s
+tail-bytes b s h i = h (suc i)
+
+-- bytes are the encoding of their number
+encode-number : (s : List ℕ) → Bytes s → encode (length s) (number s) ≡ s
+unfolding encode number
+encode-number [] h = refl
+encode-number (b ∷ s) h =
+    let l = h 0 in
+    let low : (b + 256 * number s) % 256 ≡ b = omega arith in
+    let high : (b + 256 * number s) / 256 ≡ number s = omega arith in
+    rw (low, high, encode-number s (tail-bytes b s h))
+
+pub power-positive : (w : ℕ) → 0 < 256 ^ w
+power-positive w =
+    let q : 0 ≤ w = omega arith in
+    let p : 256 ^ 0 ≤ 256 ^ w = pow-le-pow-right (omega arith) q in omega (arith, pow-zero 256)
+
+-- a number of less than 8 bytes leaves room for one more
+pub bound-word : (k n : ℕ) → n < 256 ^ k → k < 8 → n < 2 ^ 56
+bound-word k n h l =
+    let q : k ≤ 7 = omega arith in
+    let p : 256 ^ k ≤ 256 ^ 7 = pow-le-pow-right (omega arith) q in omega arith
+
+-- ---- reading
+
+-- the test `w <= n - at`
+pub leb-sub : (n at w : ℕ) → at ≤ n → leb w (n - at) ≡ leb (at + w) n
+leb-sub n at w h =
+    same-test (leb w (n - at)) (leb (at + w) n)
+    (λ e. let l = leb-true w (n - at) e in le-leb (at + w) n (omega arith))
+    (λ e. let l = leb-true (at + w) n e in le-leb w (n - at) (omega arith))
+
+pub field-in : (s : List ℕ) (at w : ℕ) → at + w ≤ length s → field s at w ≡ number (take w (drop at s))
+unfolding field
+field-in s at w h = rw (le-leb _ _ h)
+
+pub field-out : (s : List ℕ) (at w : ℕ) → length s < at + w → field s at w ≡ 0
+unfolding field
+field-out s at w h = rw (lt-leb _ _ h)
+
+-- one byte more below the w - i bytes that were read
+module _ (s : List ℕ) (at w i n : ℕ) (h : 0 < i) (l : i ≤ w) (room : at + w ≤ length s) where
+  pub read-more : n ≡ number (take (w - i) (drop (at + i) s)) → n * 256 + getD s (at + (i - 1)) 0 ≡ number (take (w - (i - 1)) (drop (at + (i - 1)) s))
+  unfolding number
+  read-more e =
+      let p : at + (i - 1) < length s = omega arith in
+      let k : w - (i - 1) ≡ suc (w - i) = omega arith in
+      let q : suc (at + (i - 1)) ≡ at + i = omega arith in
+      rw (k, drop-cons s (at + (i - 1)) 0 p, q) (omega arith)
+
+  pub read-bound : n < 256 ^ (w - i) → getD s (at + (i - 1)) 0 < 256 → n * 256 + getD s (at + (i - 1)) 0 < 256 ^ (w - (i - 1))
+  read-bound b e =
+      let k : w - (i - 1) ≡ suc (w - i) = omega arith in
+      rw (k, pow-suc 256 (w - i)) (omega arith)
+
+drop-bytes : (s : List ℕ) (at : ℕ) → Bytes s → Bytes (drop at s)
+drop-bytes s at h i = rw (getD-drop at s i 0) (h (at + i))
+
+take-bytes : (w : ℕ) (s : List ℕ) → Bytes s → Bytes (take w s)
+take-bytes zero s h i = omega arith
+take-bytes (suc w) [] h i = omega arith
+take-bytes (suc w) (b ∷ s) h zero = h 0
+take-bytes (suc w) (b ∷ s) h (suc i) = take-bytes w s (tail-bytes b s h) i
+
+-- a field, and the bytes after it
+pub field-then : (s : List ℕ) (at w : ℕ) (rest : List ℕ) → Bytes s → at + w ≤ length s → drop (at + w) s ≡ rest → drop at s ≡ encode w (field s at w) ++ rest
+field-then s at w rest h l e =
+    let p = take w (drop at s) in
+    let n : length p ≡ w = length-take-le w (drop at s) (rw length-drop (omega arith)) in
+    let same : encode w (number p) ≡ p = rw n at (encode-number p (take-bytes w (drop at s) (drop-bytes s at h))) in
+    rw (field-in s at w l, same, ← e, ← drop-drop) (sym (take-append-drop w (drop at s)))
+
+-- ---- writing
+
+pub written-in : (s : List ℕ) (at : ℕ) (b : List ℕ) → at + length b ≤ length s → written s at b ≡ take at s ++ (b ++ drop (at + length b) s)
+unfolding written
+written-in s at b h = rw (le-leb _ _ h)
+
+pub written-out : (s : List ℕ) (at : ℕ) (b : List ℕ) → length s < at + length b → written s at b ≡ s
+unfolding written
+written-out s at b h = rw (lt-leb _ _ h)
+
+-- bytes at the front of a buffer that has room for them
+pub written-front : (b x : List ℕ) → length x ≤ length b → written b 0 x ≡ x ++ drop (length x) b
+written-front b x h = written-in b 0 x (rw zero-add h) ∙ (rw zero-add)
+
+pub written-none : (s : List ℕ) (at : ℕ) → written s at [] ≡ s
+unfolding written
+written-none s at = by-test (λ (x : List ℕ). x ≡ s) (leb (at + 0) (length s)) _ _ (λ e. rw (add-zero at) (take-append-drop at s)) (λ e. refl)
+
+-- the first byte is stored, and the others are written after it
+module _ (s : List ℕ) (at i : ℕ) where
+  pub written-more : (b : ℕ) (bs : List ℕ) → at + i + suc (length bs) ≤ length s → written (set s (at + i) b) (at + (i + 1)) bs ≡ written s (at + i) (b ∷ bs)
+  written-more b bs h =
+      let o : at + (i + 1) ≡ suc (at + i) = omega arith in
+      let e : suc (at + i) + length bs ≡ at + i + suc (length bs) = omega arith in
+      let room : suc (at + i) + length bs ≤ length (set s (at + i) b) = rw (length-set s (at + i) b) (omega arith) in
+      let d : drop (at + i + suc (length bs)) (set s (at + i) b) ≡ drop (at + i + suc (length bs)) s =
+      drop-set-lt (at + i + suc (length bs)) s (at + i) b (omega arith) in
+      rw (o, written-in (set s (at + i) b) (suc (at + i)) bs room, written-in s (at + i) (b ∷ bs) h, e, d, take-suc-set s (at + i) b (omega arith))
+      (append-snoc (take (at + i) s) b (bs ++ drop (at + i + suc (length bs)) s))
+
+  pub written-byte : (w n : ℕ) → i < w → at + w ≤ length s → written (set s (at + i) (n % 256)) (at + (i + 1)) (encode (w - (i + 1)) (n / 256)) ≡ written s (at + i) (encode (w - i) n)
+  unfolding encode
+  written-byte w n l h =
+      let e : w - i ≡ suc (w - (i + 1)) = omega arith in
+      rw e (written-more (n % 256) (encode (w - (i + 1)) (n / 256)) (rw (length-encode (w - (i + 1)) (n / 256)) (omega arith)))
+
+  pub written-copy : (src : List ℕ) → i < length src → at + length src ≤ length s → written (set s (at + i) (getD src i 0)) (at + (i + 1)) (drop (i + 1) src) ≡ written s (at + i) (drop i src)
+  written-copy src l h = written-more (getD src i 0) (drop (i + 1) src) (rw length-drop (omega arith)) ∙ rw (drop-cons src i 0 l, add-one i)
+
+pub length-written : (s : List ℕ) (at : ℕ) (b : List ℕ) → length (written s at b) ≡ length s
+unfolding written
+length-written s at b =
+    by-test (λ (x : List ℕ). length x ≡ length s) (leb (at + length b) (length s)) _ _
+    (λ e. let h = leb-true (at + length b) (length s) e in simp (length-append, length-take, length-drop) (omega arith))
+    (λ e. refl)
+
+drop-past : (q d : List ℕ) (m k : ℕ) → length q ≡ m → drop (m + k) (q ++ d) ≡ drop k d
+drop-past q d m k e = rw (← e) (drop-append-add q d k)
+
+-- two writes, one right after the other
+pub written-two : (s a b : List ℕ) (at n : ℕ) → length a ≡ n → at + n + length b ≤ length s → written (written s at a) (at + n) b ≡ written s at (a ++ b)
+written-two s a b at n e l =
+    let p = take at s in
+    let d = drop (at + length a) s in
+    let q : length (p ++ a) ≡ at + n = length-append p a ∙ (rw (length-take-le at s (omega arith), e)) in
+    let j : at + length (a ++ b) ≡ at + length a + length b = omega (arith, length-append a b) in
+    let first : written s at a ≡ p ++ (a ++ d) = written-in s at a (omega arith) in
+    let room : at + n + length b ≤ length (written s at a) = rw (length-written s at a) l in
+    let whole : at + length (a ++ b) ≤ length s = omega arith in
+    written-in (written s at a) (at + n) b room
+    ∙ (rw (written-in s at (a ++ b) whole, first, ← append-assoc p a d, take-at (p ++ a) d (at + n) q, drop-past (p ++ a) d (at + n) (length b) q, drop-drop, j)
+    (simp append-assoc))
+
+-- ---- a run of writes
+
+-- l is the buffer b with the n bytes p written from at
+pub record Run (b : List ℕ) (at : ℕ) (l p : List ℕ) (n : ℕ) : Type 0 where
+  pub holds : l ≡ written b at p
+  pub size : length p ≡ n
+
+-- the first write
+pub first-field : {b l : List ℕ} {at : ℕ} (w v : ℕ) → l ≡ written b at (encode w v) → Run b at l (encode w v) w
+first-field w v e = record { holds = e; size = length-encode w v }
+
+-- one write more, right after the others
+pub then-bytes : {b l l′ p : List ℕ} {at n : ℕ} (x : List ℕ) (w : ℕ) → Run b at l p n → length x ≡ w → at + n + w ≤ length b → l′ ≡ written l (at + n) x → Run b at l′ (p ++ x) (n + w)
+then-bytes {b} {l} {l′} {p} {at} {n} x w r h room e =
+    record {
+      holds = e ∙ (rw (r .holds) (written-two b p x at n (r .size) (omega arith)));
+      size = length-append p x ∙ (rw (r .size, h));
+    }
+
+pub then-field : {b l l′ p : List ℕ} {at n : ℕ} (w v : ℕ) → Run b at l p n → at + n + w ≤ length b → l′ ≡ written l (at + n) (encode w v) → Run b at l′ (p ++ encode w v) (n + w)
+then-field w v r room e = then-bytes (encode w v) w r (length-encode w v) room e
+
+pub length-guid : (g : Guid) → length (guidBytes g) ≡ 16
+length-guid g = length-append (encode 8 (g .low)) (encode 8 (g .high)) ∙ (rw (length-encode 8 (g .low), length-encode 8 (g .high)))
+
+pub first-guid : {b l : List ℕ} {at : ℕ} (g : Guid) → l ≡ written b at (guidBytes g) → Run b at l (guidBytes g) 16
+first-guid g e = record { holds = e; size = length-guid g }
+
+pub then-guid : {b l l′ p : List ℕ} {at n : ℕ} (g : Guid) → Run b at l p n → at + n + 16 ≤ length b → l′ ≡ written l (at + n) (guidBytes g) → Run b at l′ (p ++ guidBytes g) (n + 16)
+then-guid g r room e = then-bytes (guidBytes g) 16 r (length-guid g) room e
+
+-- ---- parts of a slice
+
+-- the part `&s[k..]`
+pub take-rest : (s : List ℕ) (k : ℕ) → take (length s - k) (drop k s) ≡ drop k s
+take-rest s k = take-all (length s - k) (drop k s) (rw length-drop (omega arith))

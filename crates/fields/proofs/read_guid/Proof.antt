@@ -1,0 +1,41 @@
+-- `fields::read_guid`: two fields of 8 bytes; without the first there is no second.
+use Prim.Native.Nat.{_+_, _<_, _≤_}
+use mathlib.Core.Path.{_≡_, sym, _∙_}
+use native.Mathlib.Omega.{arith}
+use borrow.Author.Tests.{leb-true, leb-false}
+use lib.ListN.{length}
+use Rattle.fields.specs.Fields.{field}
+use Rattle.fields.proofs.Laws.{field-out}
+use borrow.Author.Needs.{needs}
+use Rattle.fields.proofs.read_guid.Statement.{statement}
+use Rattle.fields.proofs.read_guid.Tie as tie
+
+inside-requires : tie.Need-inside-requires
+inside-requires c κs = search needs
+
+read-u64-requires : tie.Need-read-u64-requires
+read-u64-requires c κs = search needs
+
+add-read-u64 : tie.Need-add-read-u64
+add-read-u64 c =
+    let room : c .before .before .before .before .args .at + 8 ≤ length (c .before .before .before .before .args .s .now) =
+    leb-true _ _ (sym (c .before .before .inside .ensures) ∙ c .before .if1 .taken) in omega arith
+
+read-u64-requires-2 : tie.Need-read-u64-requires-2
+read-u64-requires-2 c κs = search needs
+
+returns : tie.Need-returns
+returns c = cc (c .before .read-u64 .ensures, c .read-u642 .ensures)
+
+returns-2 : tie.Need-returns-2
+returns-2 c =
+    let a = c .before .before .before .args in
+    let outside : length (a .s .now) < a .at + 8 = leb-false _ _ (sym (c .before .inside .ensures) ∙ c .if1 .left) in
+    let low : field (a .s .now) (a .at) 8 ≡ 0 = field-out (a .s .now) (a .at) 8 outside in
+    let high : field (a .s .now) (a .at + 8) 8 ≡ 0 = field-out (a .s .now) (a .at + 8) 8 (omega arith) in
+    rw (low, high)
+
+pub read-guid-spec : {M : Type 1} → statement M
+read-guid-spec =
+    tie.close
+    (tie.spec inside-requires read-u64-requires add-read-u64 read-u64-requires-2 returns returns-2)

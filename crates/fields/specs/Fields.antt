@@ -1,0 +1,41 @@
+-- Little-endian fields in lists of bytes (000, section 2.2; GUIDs: section 2.2.5).
+use Prim.Native.Nat.{ℕ, suc, zero, _+_, _*_, _/_, _%_, _<_}
+use mathlib.Core.Bool.{cond}
+use mathlib.Core.List.{List, [], _∷_, _++_}
+use lib.ListN.{length, getD, take, drop}
+use lib.Dec.{eqb, leb}
+use Rattle.kinds.specs.declared.Guid.{Guid}
+
+-- the number that bytes make, lowest byte first
+unfoldable pub number : List ℕ → ℕ
+number [] = 0
+number (b ∷ bs) = b + 256 * number bs
+
+-- the w bytes of a number, lowest byte first
+unfoldable pub encode : ℕ → ℕ → List ℕ
+encode zero n = []
+encode (suc w) n = n % 256 ∷ encode w (n / 256)
+
+-- the number in the w bytes from at; 0 where they are not all there
+unfoldable pub field : List ℕ → ℕ → ℕ → ℕ
+field s at w = cond (leb (at + w) (length s)) (number (take w (drop at s))) 0
+
+-- s with the bytes b written from at, the rest kept; s where they do not fit
+unfoldable pub written : List ℕ → ℕ → List ℕ → List ℕ
+written s at b = cond (leb (at + length b) (length s)) (take at s ++ (b ++ drop (at + length b) s)) s
+
+-- the bytes of a buffer after a writer's answer: b at its front where the answer is 0, else no change
+abbrev pub stored : ℕ → List ℕ → List ℕ → List ℕ
+stored n b s = cond (eqb n 0) (written s 0 b) s
+
+-- the identifier in the 16 bytes from at
+abbrev pub guidAt : List ℕ → ℕ → Guid
+guidAt s at = record { low = field s at 8; high = field s (at + 8) 8 }
+
+-- the 16 bytes of an identifier
+abbrev pub guidBytes : Guid → List ℕ
+guidBytes g = encode 8 (g .low) ++ encode 8 (g .high)
+
+-- each element is a byte
+abbrev pub Bytes : List ℕ → Type 0
+Bytes s = (i : ℕ) → getD s i 0 < 256

@@ -1,0 +1,36 @@
+-- `OrpcThat::read`: a refusal, or the fields.
+use mathlib.Core.Path.{sym, _∙_}
+use borrow.Author.Tests.{eq-eqb, ne-eqb}
+use Rattle.headers.specs.Headers.{readThat, thatAt}
+use borrow.Author.Needs.{needs}
+use Rattle.headers.proofs.OrpcThat.read.Statement.{statement}
+use Rattle.headers.proofs.OrpcThat.read.Tie as tie
+
+judge-requires : tie.Need-judge-requires
+judge-requires c κs = search needs
+
+new-requires : tie.Need-new-requires
+new-requires c κs = search needs
+
+returns : tie.Need-returns
+unfolding readThat
+returns c =
+    let number = c .before .before .judge .ensures in
+    simp (ne-eqb _ _ (λ z. c .before .if1 .taken (number ∙ z))) (cc (number, c .new .ensures))
+
+read-u32-requires : tie.Need-read-u32-requires
+read-u32-requires c κs = search needs
+
+new-requires-2 : tie.Need-new-requires-2
+new-requires-2 c κs = search needs
+
+returns-2 : tie.Need-returns-2
+unfolding readThat thatAt
+returns-2 c =
+    let number = c .before .before .before .judge .ensures in
+    simp (eq-eqb _ _ (sym number ∙ c .before .before .if1 .left)) (cc (c .new2 .ensures, c .before .read-u32 .ensures))
+
+pub read-spec : {M : Type 1} → statement M
+read-spec =
+    tie.close
+    (tie.spec judge-requires new-requires returns read-u32-requires new-requires-2 returns-2)

@@ -1,0 +1,50 @@
+-- `OrpcThis::read`: a refusal, or the fields.
+use mathlib.Core.Path.{sym, _∙_}
+use borrow.Author.Tests.{eq-eqb, ne-eqb}
+use Rattle.headers.specs.Headers.{readThis, thisAt}
+use borrow.Author.Needs.{needs}
+use Rattle.headers.proofs.OrpcThis.read.Statement.{statement}
+use Rattle.headers.proofs.OrpcThis.read.Tie as tie
+
+judge-requires : tie.Need-judge-requires
+judge-requires c κs = search needs
+
+new-requires : tie.Need-new-requires
+new-requires c κs = search needs
+
+returns : tie.Need-returns
+unfolding readThis
+returns c =
+    let number = c .before .before .judge .ensures in
+    simp (ne-eqb _ _ (λ z. c .before .if1 .taken (number ∙ z))) (cc (number, c .new .ensures))
+
+read-guid-requires : tie.Need-read-guid-requires
+read-guid-requires c κs = search needs
+
+read-u16-requires : tie.Need-read-u16-requires
+read-u16-requires c κs = search needs
+
+read-u32-requires : tie.Need-read-u32-requires
+read-u32-requires c κs = search needs
+
+new-requires-2 : tie.Need-new-requires-2
+new-requires-2 c κs = search needs
+
+returns-2 : tie.Need-returns-2
+unfolding readThis thisAt
+returns-2 c =
+    let number = c .before .before .before .before .before .judge .ensures in
+    simp (eq-eqb _ _ (sym number ∙ c .before .before .before .before .if1 .left)) (cc (c .new2 .ensures, c .before .read-u32 .ensures, c .before .before .read-u16 .ensures, c .before .before .before .read-guid .ensures))
+
+pub read-spec : {M : Type 1} → statement M
+read-spec =
+    tie.close
+    (tie.spec
+    judge-requires
+    new-requires
+    returns
+    read-guid-requires
+    read-u16-requires
+    read-u32-requires
+    new-requires-2
+    returns-2)

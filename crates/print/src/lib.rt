@@ -1,0 +1,56 @@
+// What the programs print on standard output. No contract can speak of what is written.
+use kinds::Guid;
+use libc::STDOUT_FILENO;
+
+pub fn text(s: &[u8]) {
+    io::write_all(STDOUT_FILENO, s);
+}
+
+pub fn end_line() {
+    io::write_all(STDOUT_FILENO, b"\n");
+}
+
+pub fn decimal(n: u64) {
+    io::print_decimal(STDOUT_FILENO, n);
+}
+
+// A number in hex, with zeros in front up to width digits.
+pub fn hex(n: u64, width: usize) {
+    io::print_hex(STDOUT_FILENO, n, width);
+}
+
+// Bytes in hex, two digits each.
+pub fn bytes(s: &[u8]) {
+    let mut i = 0;
+    while i < s.len() {
+        io::print_hex(STDOUT_FILENO, wide(s[i]), 2);
+        i += 1;
+    }
+}
+
+fn wide(x: u8) -> u64 {
+    x as u64
+}
+
+// A GUID in its usual text: {00112233-4455-6677-8899-aabbccddeeff}.
+pub fn guid(g: Guid) {
+    let low = g.low;
+    let high = g.high;
+    text(b"{");
+    hex(low % 0x100000000, 8);
+    text(b"-");
+    hex(low / 0x100000000 % 0x10000, 4);
+    text(b"-");
+    hex(low / 0x1000000000000, 4);
+    text(b"-");
+    hex(high % 0x100, 2);
+    hex(high / 0x100 % 0x100, 2);
+    text(b"-");
+    hex(high / 0x10000 % 0x100, 2);
+    hex(high / 0x1000000 % 0x100, 2);
+    hex(high / 0x100000000 % 0x100, 2);
+    hex(high / 0x10000000000 % 0x100, 2);
+    hex(high / 0x1000000000000 % 0x100, 2);
+    hex(high / 0x100000000000000, 2);
+    text(b"}");
+}
