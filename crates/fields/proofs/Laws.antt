@@ -8,10 +8,10 @@ use native.Mathlib.Nat.{pow-suc, pow-zero, add-zero, zero-add, div-lt-iff-lt-mul
 use borrow.Author.Tests.{le-leb, lt-leb, leb-true}
 use lib.Dec.{leb}
 use lib.ListN.{length, getD, take, drop, set, length-append, length-take, length-drop, length-set, take-append-drop}
-use lib.Seq.{drop-cons, drop-set-lt, take-suc-set, take-at, drop-drop, length-take-le, getD-drop, append-snoc, drop-append-add, take-all}
+use lib.Seq.{drop-cons, drop-set-lt, take-suc-set, take-at, drop-drop, length-take-le, getD-drop, append-snoc, drop-append-add, drop-append-le, take-append-le, take-take, take-all}
 use Rattle.kinds.proofs.Refusing.{by-test, same-test}
 use Rattle.kinds.specs.declared.Guid.{Guid}
-use Rattle.fields.specs.Fields.{number, encode, field, written, guidBytes, Bytes}
+use Rattle.fields.specs.Fields.{number, encode, field, written, guidAt, guidBytes, Bytes}
 
 -- ---- numbers
 
@@ -70,6 +70,14 @@ pub field-out : (s : List ℕ) (at w : ℕ) → length s < at + w → field s at
 unfolding field
 field-out s at w h = rw (lt-leb _ _ h)
 
+-- a field within l does not see the bytes after l
+pub field-front : (l rest : List ℕ) (at w : ℕ) → at + w ≤ length l → field (l ++ rest) at w ≡ field l at w
+field-front l rest at w h =
+    let all : at + w ≤ length (l ++ rest) = omega (arith, length-append l rest) in
+    let here : at ≤ length l = omega arith in
+    let room : w ≤ length (drop at l) = rw length-drop (omega arith) in
+    rw (field-in (l ++ rest) at w all, field-in l at w h, drop-append-le at l rest here, take-append-le w (drop at l) rest room)
+
 -- one byte more below the w - i bytes that were read
 module _ (s : List ℕ) (at w i n : ℕ) (h : 0 < i) (l : i ≤ w) (room : at + w ≤ length s) where
   pub read-more : n ≡ number (take (w - i) (drop (at + i) s)) → n * 256 + getD s (at + (i - 1)) 0 ≡ number (take (w - (i - 1)) (drop (at + (i - 1)) s))
@@ -101,6 +109,53 @@ field-then s at w rest h l e =
     let n : length p ≡ w = length-take-le w (drop at s) (rw length-drop (omega arith)) in
     let same : encode w (number p) ≡ p = rw n at (encode-number p (take-bytes w (drop at s) (drop-bytes s at h))) in
     rw (field-in s at w l, same, ← e, ← drop-drop) (sym (take-append-drop w (drop at s)))
+
+-- the same where the bytes after it are named by their own place
+pub field-next : (s : List ℕ) (at w next : ℕ) (rest : List ℕ) → Bytes s → at + w ≡ next → next ≤ length s → drop next s ≡ rest → drop at s ≡ encode w (field s at w) ++ rest
+field-next s at w next rest h e l d = field-then s at w rest h (omega arith) (rw e d)
+
+-- ---- what bytes that are a layout hold
+
+drop-of-take : (k w n : ℕ) (l : List ℕ) → k + w ≤ n → take w (drop k (take n l)) ≡ take w (drop k l)
+drop-of-take zero w n l h = take-take w n l (omega arith)
+drop-of-take (suc k) w zero l h = absurd (omega arith)
+drop-of-take (suc k) w (suc n) [] h = refl
+drop-of-take (suc k) w (suc n) (x ∷ l) h = drop-of-take k w n l (omega arith)
+
+-- a part of bytes that are x is that part of x
+pub part-of : (s x : List ℕ) (at n k w : ℕ) → take n (drop at s) ≡ x → k + w ≤ n → take w (drop (at + k) s) ≡ take w (drop k x)
+part-of s x at n k w e h = rw (← e, drop-of-take k w n (drop at s) h, drop-drop)
+
+-- bytes that are the encoding of v hold v
+pub field-as : (s : List ℕ) (at w v : ℕ) → take w (drop at s) ≡ encode w v → at + w ≤ length s → v < 256 ^ w → field s at w ≡ v
+field-as s at w v e h b = field-in s at w h ∙ (rw e (number-encode w v b))
+
+-- both halves fit their width, as the machine's numbers do
+pub record GuidFits (g : Guid) : Type 0 where
+  pub low : g .low < 2 ^ 64
+  pub high : g .high < 2 ^ 64
+
+pub guid-as : (s : List ℕ) (at : ℕ) (g : Guid) → take 16 (drop at s) ≡ guidBytes g → at + 16 ≤ length s → GuidFits g → guidAt s at ≡ g
+unfolding encode
+guid-as s at g e h b =
+    let low : take 8 (drop (at + 0) s) ≡ encode 8 (g .low) = part-of s (guidBytes g) at 16 0 8 e (omega arith) in
+    let high : take 8 (drop (at + 8) s) ≡ encode 8 (g .high) = part-of s (guidBytes g) at 16 8 8 e (omega arith) in
+    rw (field-as s at 8 (g .low) (rw (add-zero at) at low) (omega arith) (b .low), field-as s (at + 8) 8 (g .high) high (omega arith) (b .high))
+
+-- what bytes that are a layout hold at one of its places
+module _ (s x : List ℕ) (at n : ℕ) (e : take n (drop at s) ≡ x) (l : at + n ≤ length s) where
+  pub field-part : (k w v : ℕ) → k + w ≤ n → take w (drop k x) ≡ encode w v → v < 256 ^ w → field s (at + k) w ≡ v
+  field-part k w v h p b = field-as s (at + k) w v (part-of s x at n k w e h ∙ p) (omega arith) b
+
+  pub guid-part : (k : ℕ) (g : Guid) → k + 16 ≤ n → take 16 (drop k x) ≡ guidBytes g → GuidFits g → guidAt s (at + k) ≡ g
+  guid-part k g h p b = guid-as s (at + k) g (part-of s x at n k 16 e h ∙ p) (omega arith) b
+
+-- an identifier, and the bytes after it
+pub guid-then : (s : List ℕ) (at : ℕ) (rest : List ℕ) → Bytes s → at + 16 ≤ length s → drop (at + 16) s ≡ rest → drop at s ≡ guidBytes (guidAt s at) ++ rest
+guid-then s at rest h l e =
+    let past : at + 8 + 8 ≡ at + 16 = omega arith in
+    field-then s at 8 _ h (omega arith) (field-then s (at + 8) 8 rest h (omega arith) (rw past e))
+    ∙ sym (append-assoc (encode 8 (field s at 8)) (encode 8 (field s (at + 8) 8)) rest)
 
 -- ---- writing
 
@@ -173,8 +228,11 @@ pub record Run (b : List ℕ) (at : ℕ) (l p : List ℕ) (n : ℕ) : Type 0 whe
   pub size : length p ≡ n
 
 -- the first write
+pub first-bytes : {b l : List ℕ} {at : ℕ} (x : List ℕ) (n : ℕ) → length x ≡ n → l ≡ written b at x → Run b at l x n
+first-bytes x n h e = record { holds = e; size = h }
+
 pub first-field : {b l : List ℕ} {at : ℕ} (w v : ℕ) → l ≡ written b at (encode w v) → Run b at l (encode w v) w
-first-field w v e = record { holds = e; size = length-encode w v }
+first-field w v e = first-bytes (encode w v) w (length-encode w v) e
 
 -- one write more, right after the others
 pub then-bytes : {b l l′ p : List ℕ} {at n : ℕ} (x : List ℕ) (w : ℕ) → Run b at l p n → length x ≡ w → at + n + w ≤ length b → l′ ≡ written l (at + n) x → Run b at l′ (p ++ x) (n + w)
@@ -191,7 +249,7 @@ pub length-guid : (g : Guid) → length (guidBytes g) ≡ 16
 length-guid g = length-append (encode 8 (g .low)) (encode 8 (g .high)) ∙ (rw (length-encode 8 (g .low), length-encode 8 (g .high)))
 
 pub first-guid : {b l : List ℕ} {at : ℕ} (g : Guid) → l ≡ written b at (guidBytes g) → Run b at l (guidBytes g) 16
-first-guid g e = record { holds = e; size = length-guid g }
+first-guid g e = first-bytes (guidBytes g) 16 (length-guid g) e
 
 pub then-guid : {b l l′ p : List ℕ} {at n : ℕ} (g : Guid) → Run b at l p n → at + n + 16 ≤ length b → l′ ≡ written l (at + n) (guidBytes g) → Run b at l′ (p ++ guidBytes g) (n + 16)
 then-guid g r room e = then-bytes (guidBytes g) 16 r (length-guid g) room e

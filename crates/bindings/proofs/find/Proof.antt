@@ -1,0 +1,108 @@
+-- `bindings::find`: the words that are left have the binding where all the words have it.
+use Prim.Native.Nat.{suc, _+_, _*_, _-_, _≤_}
+use mathlib.Core.Path.{_≡_, refl, sym, _∙_}
+use native.Mathlib.Omega.{arith}
+use borrow.Author.Needs.{needs}
+use lib.ListN.{length}
+use Rattle.bindings.specs.Bindings.{words, bindingsOf, place}
+use Rattle.bindings.proofs.Parts.{find-none, find-end, find-here, find-later}
+use Rattle.bindings.proofs.find.Statement.{statement}
+use Rattle.bindings.proofs.find.Tie as tie
+
+abbrev Inv-loop : tie.InvT-loop
+Inv-loop s at n p k i₀ left₀ skip₀ i left skip =
+    (i + 2 * left ≤ length s) × (place (bindingsOf p (words s i left)) skip i ≡ place (bindingsOf p (words s at n)) k at)
+
+abbrev μ-loop : tie.MeasureT-loop
+μ-loop s at n p k i₀ left₀ skip₀ i left skip = left
+
+loop-holds : tie.Need-loop-holds Inv-loop μ-loop
+loop-holds c = (c .before .pre, refl)
+
+read-u16-requires : tie.Need-read-u16-requires Inv-loop μ-loop
+read-u16-requires c κs = search needs
+
+refused-requires : tie.Need-refused-requires Inv-loop μ-loop
+refused-requires c κs = search needs
+
+returns : tie.Need-returns Inv-loop μ-loop
+returns c =
+    let a = c .before .before .before .before .before .before .args in
+    let l = c .before .before .before .before .loop in
+    let z = sym (c .before .before .read-u16 .ensures) ∙ c .before .if1 .taken in
+    c .refused .ensures ∙ sym (find-end (a .p) (a .s .now) (l .i) (l .left) (omega arith) z (l .skip)) ∙ l .inv .1
+
+binding-words-requires : tie.Need-binding-words-requires Inv-loop μ-loop
+binding-words-requires c κs = search needs
+
+mul-t12 : tie.Need-mul-t12 Inv-loop μ-loop
+mul-t12 c = omega arith
+
+add-t13 : tie.Need-add-t13 Inv-loop μ-loop
+add-t13 c = omega arith
+
+returns-2 : tie.Need-returns-2 Inv-loop μ-loop
+returns-2 c =
+    let a = c .before .before .before .before .before .before .before .args in
+    let l = c .before .before .before .before .before .loop in
+    let b = c .before .binding-words .ensures in
+    let r = c .before .before .before .read-u16 .ensures in
+    let e = find-here (a .p) (a .s .now) (l .i) (l .left) (omega arith) (λ z. c .before .before .if1 .left (r ∙ z)) (c .before .binding-words .result) (b .0) (omega arith) in
+    sym e ∙ (rw (c .if2 .taken) at (l .inv .1))
+
+sub-skip : tie.Need-sub-skip Inv-loop μ-loop
+sub-skip c = omega arith
+
+mul-i : tie.Need-mul-i Inv-loop μ-loop
+mul-i c = omega arith
+
+add-i : tie.Need-add-i Inv-loop μ-loop
+add-i c = omega arith
+
+sub-left : tie.Need-sub-left Inv-loop μ-loop
+sub-left c = omega arith
+
+loop-less : tie.Need-loop-less Inv-loop μ-loop
+loop-less c = omega arith
+
+loop-again : tie.Need-loop-again Inv-loop μ-loop
+loop-again c =
+    let a = c .before .before .before .before .before .before .before .args in
+    let l = c .before .before .before .before .before .loop in
+    let b = c .before .binding-words .ensures in
+    let r = c .before .before .before .read-u16 .ensures in
+    let k : l .skip ≡ suc (l .skip - 1) = omega arith in
+    let e = find-later (a .p) (a .s .now) (l .i) (l .left) (omega arith) (λ z. c .before .before .if1 .left (r ∙ z)) (c .before .binding-words .result) (b .0) (omega arith) (l .skip - 1) in
+    (omega arith, sym e ∙ (rw (← k) (l .inv .1)))
+
+refused-requires-2 : tie.Need-refused-requires-2 Inv-loop μ-loop
+refused-requires-2 c κs = search needs
+
+returns-3 : tie.Need-returns-3 Inv-loop μ-loop
+returns-3 c =
+    let a = c .before .before .before .before .args in
+    let l = c .before .before .loop in
+    c .refused2 .ensures ∙ sym (find-none (a .p) (a .s .now) (l .i) (l .left) (omega arith) (l .skip)) ∙ l .inv .1
+
+pub find-spec : {M : Type 1} → statement M
+find-spec =
+    tie.close
+    (tie.spec
+    Inv-loop
+    μ-loop
+    loop-holds
+    read-u16-requires
+    refused-requires
+    returns
+    binding-words-requires
+    mul-t12
+    add-t13
+    returns-2
+    sub-skip
+    mul-i
+    add-i
+    sub-left
+    loop-less
+    loop-again
+    refused-requires-2
+    returns-3)

@@ -1,0 +1,75 @@
+-- `bindings::is_part`: the words that are left are a part where all the words are.
+use Prim.Native.Nat.{_+_, _*_, _≤_}
+use mathlib.Core.Path.{_≡_, refl, sym, _∙_}
+use native.Mathlib.Omega.{arith}
+use borrow.Author.Needs.{needs}
+use lib.ListN.{length}
+use Rattle.bindings.specs.Bindings.{words, isPart}
+use Rattle.bindings.proofs.Parts.{is-part-none, is-part-end, is-part-more}
+use Rattle.bindings.proofs.is_part.Statement.{statement}
+use Rattle.bindings.proofs.is_part.Tie as tie
+
+abbrev Inv-loop : tie.InvT-loop
+Inv-loop s at n p i₀ left₀ i left = (i + 2 * left ≤ length s) × (isPart p (words s i left) ≡ isPart p (words s at n))
+
+abbrev μ-loop : tie.MeasureT-loop
+μ-loop s at n p i₀ left₀ i left = left
+
+loop-holds : tie.Need-loop-holds Inv-loop μ-loop
+loop-holds c = (c .before .pre, refl)
+
+read-u16-requires : tie.Need-read-u16-requires Inv-loop μ-loop
+read-u16-requires c κs = search needs
+
+returns : tie.Need-returns Inv-loop μ-loop
+returns c =
+    let a = c .before .before .before .before .before .args in
+    let l = c .before .before .before .loop in
+    let z = sym (c .before .read-u16 .ensures) ∙ c .if1 .taken in
+    sym (is-part-end (a .p) (a .s .now) (l .i) (l .left) (omega arith) z) ∙ l .inv .1
+
+binding-words-requires : tie.Need-binding-words-requires Inv-loop μ-loop
+binding-words-requires c κs = search needs
+
+mul-i : tie.Need-mul-i Inv-loop μ-loop
+mul-i c = omega arith
+
+add-i : tie.Need-add-i Inv-loop μ-loop
+add-i c = omega arith
+
+sub-left : tie.Need-sub-left Inv-loop μ-loop
+sub-left c = omega arith
+
+loop-less : tie.Need-loop-less Inv-loop μ-loop
+loop-less c = omega arith
+
+loop-again : tie.Need-loop-again Inv-loop μ-loop
+loop-again c =
+    let a = c .before .before .before .before .before .before .args in
+    let l = c .before .before .before .before .loop in
+    let b = c .binding-words .ensures in
+    let r = c .before .before .read-u16 .ensures in
+    (omega arith, sym (is-part-more (a .p) (a .s .now) (l .i) (l .left) (omega arith) (λ z. c .before .if1 .left (r ∙ z)) (c .binding-words .result) (b .0) (omega arith)) ∙ l .inv .1)
+
+returns-2 : tie.Need-returns-2 Inv-loop μ-loop
+returns-2 c =
+    let a = c .before .before .before .args in
+    let l = c .before .loop in
+    sym (is-part-none (a .p) (a .s .now) (l .i) (l .left) (omega arith)) ∙ l .inv .1
+
+pub is-part-spec : {M : Type 1} → statement M
+is-part-spec =
+    tie.close
+    (tie.spec
+    Inv-loop
+    μ-loop
+    loop-holds
+    read-u16-requires
+    returns
+    binding-words-requires
+    mul-i
+    add-i
+    sub-left
+    loop-less
+    loop-again
+    returns-2)

@@ -1,0 +1,52 @@
+// The object data of a custom reference.
+ghost use Prim.Native.Nat.{_≤_};
+
+// The length, and the first 64 bytes in hex, 16 to a line.
+pub fn object_data(s: &[u8]) {
+    print::text(b"object data: ");
+    print::decimal(s.len() as u64);
+    print::text(b" bytes\n");
+    dump(s);
+}
+
+fn dump(s: &[u8]) {
+    let mut at = 0;
+    while at < 64 {
+        if s.len() <= at {
+            return;
+        }
+        let end = row_end(at, s.len());
+        row(at, &s[at..end]);
+        at += 16;
+    }
+}
+
+// Where the row that begins at byte number at of n ends.
+fn row_end(at: usize, n: usize) -> usize
+    requires { ⌜ at ≤ n ⌝ }
+    ensures { λ r. ⌜ (at ≤ r) × (r ≤ n) ⌝ }
+{
+    if n - at < 16 { n } else { at + 16 }
+}
+
+// The bytes from number at.
+fn row(at: usize, s: &[u8]) {
+    print::text(b"  ");
+    print::hex(at as u64, 2);
+    print::text(b":");
+    spaced(s);
+    print::end_line();
+}
+
+fn spaced(s: &[u8]) {
+    let mut i = 0;
+    while i < s.len() {
+        byte(s[i]);
+        i += 1;
+    }
+}
+
+fn byte(b: u8) {
+    print::text(b" ");
+    print::hex(b as u64, 2);
+}

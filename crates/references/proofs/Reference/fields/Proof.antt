@@ -1,0 +1,94 @@
+-- `Reference::fields`: a case for each form.
+use mathlib.Core.Path.{sym, _∙_}
+use Rattle.references.specs.References.{referenceAt}
+use Rattle.references.proofs.Laws.{by-other}
+use borrow.Author.Needs.{needs}
+use Rattle.references.proofs.Reference.fields.Statement.{statement}
+use Rattle.references.proofs.Reference.fields.Tie as tie
+
+read-u32-requires : tie.Need-read-u32-requires
+read-u32-requires c κs = search needs
+
+read-guid-requires : tie.Need-read-guid-requires
+read-guid-requires c κs = search needs
+
+read-requires : tie.Need-read-requires
+read-requires c κs = search needs
+
+standard-requires : tie.Need-standard-requires
+standard-requires c κs = search needs
+
+returns : tie.Need-returns
+unfolding referenceAt
+returns c =
+    let iid = c .before .before .before in
+    let flags = iid .before .read-u32 .ensures in
+    rw (← flags, c .before .before .if1 .taken) (cc (c .standard .ensures, iid .read-guid .ensures, c .before .read .ensures))
+
+read-requires-2 : tie.Need-read-requires-2
+read-requires-2 c κs = search needs
+
+read-guid-requires-2 : tie.Need-read-guid-requires-2
+read-guid-requires-2 c κs = search needs
+
+handler-requires : tie.Need-handler-requires
+handler-requires c κs = search needs
+
+returns-2 : tie.Need-returns-2
+unfolding referenceAt
+returns-2 c =
+    let test = c .before .before .before in
+    let iid = test .before .before in
+    let flags = iid .before .read-u32 .ensures in
+    rw (← flags, test .if2 .taken) (cc (c .handler .ensures, iid .read-guid .ensures, c .before .before .read2 .ensures, c .before .read-guid2 .ensures))
+
+read-guid-requires-3 : tie.Need-read-guid-requires-3
+read-guid-requires-3 c κs = search needs
+
+read-u32-requires-2 : tie.Need-read-u32-requires-2
+read-u32-requires-2 c κs = search needs
+
+read-u32-requires-3 : tie.Need-read-u32-requires-3
+read-u32-requires-3 c κs = search needs
+
+custom-requires : tie.Need-custom-requires
+custom-requires c κs = search needs
+
+returns-3 : tie.Need-returns-3
+unfolding referenceAt
+returns-3 c =
+    let test = c .before .before .before .before in
+    let iid = test .before .before .before in
+    let flags = iid .before .read-u32 .ensures in
+    rw (← flags, test .if3 .taken) (cc (c .custom .ensures, iid .read-guid .ensures, c .before .before .before .read-guid3 .ensures, c .before .before .read-u322 .ensures, c .before .read-u323 .ensures))
+
+zero-requires : tie.Need-zero-requires
+zero-requires c κs = search needs
+
+returns-4 : tie.Need-returns-4
+unfolding referenceAt
+returns-4 c =
+    let flags = c .before .before .before .before .before .read-u32 .ensures in
+    c .zero .ensures
+    ∙ sym (by-other _ _ _ _ _ (λ z. c .before .before .before .if1 .left (flags ∙ z)) (λ z. c .before .before .if2 .left (flags ∙ z)) (λ z. c .before .if3 .left (flags ∙ z)))
+
+pub fields-spec : {M : Type 1} → statement M
+fields-spec =
+    tie.close
+    (tie.spec
+    read-u32-requires
+    read-guid-requires
+    read-requires
+    standard-requires
+    returns
+    read-requires-2
+    read-guid-requires-2
+    handler-requires
+    returns-2
+    read-guid-requires-3
+    read-u32-requires-2
+    read-u32-requires-3
+    custom-requires
+    returns-3
+    zero-requires
+    returns-4)

@@ -1,0 +1,31 @@
+-- `binding`: a binding lies within its reference.
+use mathlib.Core.Path.{ap}
+use lib.ListN.{length}
+use Rattle.bindings.specs.Bindings.{bytesAt}
+use Rattle.bindings.proofs.Laws.{Within}
+use Rattle.references.proofs.Laws.{within-reference}
+use borrow.Author.Needs.{needs}
+use Rattle.references.proofs.binding.Statement.{statement}
+use Rattle.references.proofs.binding.Tie as tie
+
+locate-requires : tie.Need-locate-requires
+locate-requires c κs = search needs
+
+within : (c : tie.After-locate) → Within (length (c .before .before .args .s .now)) (c .locate .result)
+within c = rw (c .locate .ensures) (within-reference _ _ _)
+
+sub-result : tie.Need-sub-result
+sub-result c = within c .0
+
+part-result-start : tie.Need-part-result-start
+part-result-start c = within c .0
+
+part-result-end : tie.Need-part-result-end
+part-result-end c = within c .1
+
+returns : tie.Need-returns
+returns c = ap (bytesAt (c .before .before .before .args .s .now)) (c .before .locate .ensures)
+
+pub binding-spec : {M : Type 1} → statement M
+binding-spec =
+    tie.close (tie.spec locate-requires sub-result part-result-start part-result-end returns)

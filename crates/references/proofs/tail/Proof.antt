@@ -1,0 +1,33 @@
+-- `tail`: the tail lies within its reference.
+use mathlib.Core.Path.{ap, _∙_}
+use lib.ListN.{length}
+use Rattle.bindings.specs.Bindings.{bytesAt}
+use Rattle.bindings.proofs.Laws.{Within}
+use Rattle.references.proofs.Laws.{tail-within, tail-bytes}
+use borrow.Author.Needs.{needs}
+use Rattle.references.proofs.tail.Statement.{statement}
+use Rattle.references.proofs.tail.Tie as tie
+
+tail-place-requires : tie.Need-tail-place-requires
+tail-place-requires c κs = search needs
+
+within : (c : tie.After-tail-place) → Within (length (c .before .before .args .s .now)) (c .tail-place .result)
+within c = rw (c .tail-place .ensures) (tail-within _)
+
+sub-result : tie.Need-sub-result
+sub-result c = within c .0
+
+part-result-start : tie.Need-part-result-start
+part-result-start c = within c .0
+
+part-result-end : tie.Need-part-result-end
+part-result-end c = within c .1
+
+returns : tie.Need-returns
+returns c =
+    let s = c .before .before .before .args .s .now in
+    ap (bytesAt s) (c .before .tail-place .ensures) ∙ tail-bytes s
+
+pub tail-spec : {M : Type 1} → statement M
+tail-spec =
+    tie.close (tie.spec tail-place-requires sub-result part-result-start part-result-end returns)
