@@ -1,0 +1,56 @@
+-- Laws of GUIDs and of the columns of their halves.
+use Prim.Native.Nat.{ℕ, _+_, _<_, _≤_}
+use mathlib.Core.Path.{_≡_, refl, ap, _∙_}
+use mathlib.Core.List.{List, [], _∷_}
+use borrow.Author.Tests.{eq-eqb, eqb-true}
+use lib.Dec.{eqb}
+use lib.ListN.{getD, length, drop}
+use Rattle.kinds.specs.declared.Guid.{Guid}
+use Rattle.columns.specs.Lists.{tabulate}
+use Rattle.columns.specs.Guids.{sameGuid, guidAt, guids}
+use Rattle.columns.proofs.Tests.{and-intro, and-left, and-right}
+use Rattle.columns.proofs.Lists.{length-tabulate, getD-tabulate, tabulate-ext}
+use Rattle.columns.proofs.Distinct.{Decides}
+use Rattle.columns.proofs.Loops.{table-step, table-end}
+
+-- equality of GUIDs
+pub guid-decides : Decides sameGuid
+guid-decides =
+    record {
+      sound = λ a b e u.
+          record {
+            low = eqb-true (a .low) (b .low) (and-left (eqb (a .low) (b .low)) (eqb (a .high) (b .high)) e) u;
+            high = eqb-true (a .high) (b .high) (and-right (eqb (a .low) (b .low)) (eqb (a .high) (b .high)) e) u;
+          };
+      self = λ g. and-intro (eqb (g .low) (g .low)) (eqb (g .high) (g .high)) (eq-eqb (g .low) (g .low) refl) (eq-eqb (g .high) (g .high) refl);
+    }
+
+-- so many as low halves
+pub length-guids : (lows highs : List ℕ) → length (guids lows highs) ≡ length lows
+unfolding guids
+length-guids lows highs = length-tabulate (length lows) (guidAt lows highs)
+
+-- the GUID at an index
+pub getD-guids : (lows highs : List ℕ) (d : Guid) (i : ℕ) → i < length lows → getD (guids lows highs) i d ≡ guidAt lows highs i
+unfolding guids
+getD-guids lows highs d i h = getD-tabulate (length lows) (guidAt lows highs) d i h
+
+-- two columns that are tables
+pub guids-tabulate : (n : ℕ) (f g : ℕ → ℕ) → guids (tabulate n f) (tabulate n g) ≡ tabulate n (λ i. record { low = f i; high = g i })
+unfolding guids
+guids-tabulate n f g =
+    ap (λ (m : ℕ). tabulate m (guidAt (tabulate n f) (tabulate n g))) (length-tabulate n f)
+    ∙ tabulate-ext n (guidAt (tabulate n f) (tabulate n g)) (λ i. record { low = f i; high = g i })
+    (λ i h u. record { low = getD-tabulate n f 0 i h u; high = getD-tabulate n g 0 i h u })
+
+-- the GUIDs from i on
+
+-- the first of them, and the rest
+pub guids-step : (lows highs : List ℕ) (i : ℕ) → i < length lows → drop i (guids lows highs) ≡ guidAt lows highs i ∷ drop (i + 1) (guids lows highs)
+unfolding guids
+guids-step lows highs i h = table-step (length lows) (guidAt lows highs) i h
+
+-- none is left
+pub guids-end : (lows highs : List ℕ) (i : ℕ) → length lows ≤ i → drop i (guids lows highs) ≡ []
+unfolding guids
+guids-end lows highs i h = table-end (length lows) (guidAt lows highs) i h

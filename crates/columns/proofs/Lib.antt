@@ -1,0 +1,12 @@
+pub mod Tests
+pub mod Lists
+pub mod First
+pub mod Distinct
+pub mod Loops
+pub mod Moves
+pub mod Guids
+pub mod RowLaws
+pub mod RowLoops
+pub mod WordBits
+pub mod Bits
+pub mod Making

@@ -1,0 +1,60 @@
+-- `columns::all_below`: what is left from i on passes where the whole column does.
+use Prim.Native.Nat.{_-_}
+use mathlib.Core.Path.{_≡_, refl}
+use borrow.Author.Needs.{needs}
+use borrow.Author.Tests.{lt-ltb, le-ltb}
+use lib.Dec.{ltb}
+use lib.ListN.{length, drop}
+use Rattle.columns.specs.Lists.{every}
+use Rattle.columns.proofs.Loops.{column-step, column-end, every-passes, every-fails, every-end}
+use Rattle.columns.proofs.all_below.Statement.{statement}
+use Rattle.columns.proofs.all_below.Tie as tie
+
+abbrev Inv-loop : tie.InvT-loop
+Inv-loop col limit i₀ i = every (λ x. ltb x limit) col ≡ every (λ x. ltb x limit) (drop i col)
+
+abbrev μ-loop : tie.MeasureT-loop
+μ-loop col limit i₀ i = length col - i
+
+loop-holds : tie.Need-loop-holds Inv-loop μ-loop
+loop-holds c = refl
+
+mul-if1 : tie.Need-mul-if1 Inv-loop μ-loop
+mul-if1 c = search needs
+
+shared-slice-read-if1 : tie.Need-shared-slice-read-if1 Inv-loop μ-loop
+shared-slice-read-if1 c = search needs
+
+returns : tie.Need-returns Inv-loop μ-loop
+returns c =
+    let l = c .before .before .before .loop in
+    every-fails (column-step _ 0 (l .i) (search needs)) _ (l .inv) (le-ltb _ _ (c .if1 .taken))
+
+add-i : tie.Need-add-i Inv-loop μ-loop
+add-i c = search needs
+
+loop-less : tie.Need-loop-less Inv-loop μ-loop
+loop-less c = search needs
+
+loop-again : tie.Need-loop-again Inv-loop μ-loop
+loop-again c =
+    let l = c .before .before .before .loop in
+    every-passes (column-step _ 0 (l .i) (search needs)) _ (l .inv) (lt-ltb _ _ (c .if1 .left))
+
+returns-2 : tie.Need-returns-2 Inv-loop μ-loop
+returns-2 c = let l = c .before .loop in every-end (column-end _ (l .i) (search needs)) _ (l .inv)
+
+pub all-below-spec : {M : Type 1} → statement M
+all-below-spec =
+    tie.close
+    (tie.spec
+    Inv-loop
+    μ-loop
+    loop-holds
+    mul-if1
+    shared-slice-read-if1
+    returns
+    add-i
+    loop-less
+    loop-again
+    returns-2)

@@ -1,0 +1,60 @@
+-- `columns::guid_index_from`: the first index of g from an index on is i more than that in what is left from i on.
+use Prim.Native.Nat.{_-_, _+_}
+use mathlib.Core.Path.{_≡_, refl}
+use borrow.Author.Needs.{needs}
+use lib.ListN.{length, drop}
+use Rattle.columns.specs.Lists.{firstIndex}
+use Rattle.columns.specs.Guids.{sameGuid, guids}
+use Rattle.columns.proofs.Loops.{first-found, first-passed, first-end, told}
+use Rattle.columns.proofs.Guids.{guids-step, guids-end}
+use Rattle.columns.proofs.guid_index_from.Statement.{statement}
+use Rattle.columns.proofs.guid_index_from.Tie as tie
+
+abbrev Inv-loop : tie.InvT-loop
+Inv-loop lows highs from g i₀ i = from + firstIndex (sameGuid g) (drop from (guids lows highs)) ≡ i + firstIndex (sameGuid g) (drop i (guids lows highs))
+
+abbrev μ-loop : tie.MeasureT-loop
+μ-loop lows highs from g i₀ i = length lows - i
+
+loop-holds : tie.Need-loop-holds Inv-loop μ-loop
+loop-holds c = refl
+
+guid-at-requires : tie.Need-guid-at-requires Inv-loop μ-loop
+guid-at-requires c κs = search needs
+
+same-guid-requires : tie.Need-same-guid-requires Inv-loop μ-loop
+same-guid-requires c κs = search needs
+
+returns : tie.Need-returns Inv-loop μ-loop
+returns c =
+    let l = c .before .before .before .before .loop in
+    first-found (guids-step _ _ (l .i) (search needs)) (l .i) _ (l .inv) (told (sameGuid _) (c .before .before .guid-at .ensures) (c .before .same-guid .ensures) (c .if1 .taken))
+
+add-i : tie.Need-add-i Inv-loop μ-loop
+add-i c = search needs
+
+loop-less : tie.Need-loop-less Inv-loop μ-loop
+loop-less c = search needs
+
+loop-again : tie.Need-loop-again Inv-loop μ-loop
+loop-again c =
+    let l = c .before .before .before .before .loop in
+    first-passed (guids-step _ _ (l .i) (search needs)) (l .i) _ (l .inv) (told (sameGuid _) (c .before .before .guid-at .ensures) (c .before .same-guid .ensures) (c .if1 .left))
+
+returns-2 : tie.Need-returns-2 Inv-loop μ-loop
+returns-2 c = let l = c .before .loop in first-end (guids-end _ _ (l .i) (search needs)) (l .i) _ (l .inv)
+
+pub guid-index-from-spec : {M : Type 1} → statement M
+guid-index-from-spec =
+    tie.close
+    (tie.spec
+    Inv-loop
+    μ-loop
+    loop-holds
+    guid-at-requires
+    same-guid-requires
+    returns
+    add-i
+    loop-less
+    loop-again
+    returns-2)

@@ -1,0 +1,20 @@
+-- `columns::has_guid_from`: the search ends before the end where g is there.
+use borrow.Author.Needs.{needs}
+use lib.ListN.{length}
+use Rattle.columns.specs.Guids.{sameGuid, guids}
+use Rattle.columns.proofs.Loops.{some-from}
+use Rattle.columns.proofs.Guids.{length-guids}
+use Rattle.columns.proofs.has_guid_from.Statement.{statement}
+use Rattle.columns.proofs.has_guid_from.Tie as tie
+
+guid-index-from-requires : tie.Need-guid-index-from-requires
+guid-index-from-requires c κs = search needs
+
+returns : tie.Need-returns
+returns c =
+    let v = c .before .before .before .args in
+    some-from (sameGuid (v .g)) (v .from) (c .guid-index-from .result) (length (v .lows .now)) (guids (v .lows .now) (v .highs .now))
+    (length-guids (v .lows .now) (v .highs .now)) (c .guid-index-from .ensures)
+
+pub has-guid-from-spec : {M : Type 1} → statement M
+has-guid-from-spec = tie.close (tie.spec guid-index-from-requires returns)

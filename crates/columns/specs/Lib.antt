@@ -1,0 +1,4 @@
+pub mod Lists
+pub mod Guids
+pub mod Rows
+pub mod Members

@@ -1,0 +1,52 @@
+-- Members of a set of rows: a bit for each of 128 rows, in two words.
+use Prim.Native.Nat.{ℕ, _+_, _-_, _*_, _/_, _%_, _^_, _<_}
+use mathlib.Core.Path.{_≡_}
+use mathlib.Core.Bool.{Bool, cond, not, _&&_, _||_}
+use mathlib.Core.List.{List}
+use lib.Dec.{eqb, ltb}
+use Rattle.columns.specs.Lists.{keep, tabulate, skip}
+use Rattle.columns.specs.declared.members.Members.{Members}
+
+-- bit j of a word is 1
+unfoldable pub bitOf : ℕ → ℕ → Bool
+bitOf w j = eqb (w / 2 ^ j % 2) 1
+
+-- row j is a member
+unfoldable pub isMember : Members → ℕ → Bool
+isMember m j = cond (ltb j 64) (bitOf (m .low) j) (ltb j 128 && bitOf (m .high) (j - 64))
+
+-- the rows that are members
+unfoldable pub memberRows : Members → List ℕ
+memberRows m = keep (isMember m) (tabulate 128 (λ j. j))
+
+-- the word with bit k set to b
+unfoldable pub putBit : ℕ → ℕ → ℕ → ℕ
+putBit w k b = (w / 2 ^ k / 2 * 2 + b) * 2 ^ k + w % 2 ^ k
+
+-- the word without bit k: the higher bits move down by one
+unfoldable pub cutBit : ℕ → ℕ → ℕ
+cutBit w k = w / 2 ^ k / 2 * 2 ^ k + w % 2 ^ k
+
+-- both words are below 2 ^ 64
+abbrev pub InWords : Members → Type 0
+InWords m = (m .low < 2 ^ 64) × (m .high < 2 ^ 64)
+
+-- row j is a member just where b is 1; a row of 128 or more changes nothing
+pub record BitPut (j b : ℕ) (m r : Members) : Type 0 where
+  pub words : InWords r
+  pub member : (i : ℕ) → isMember r i ≡ cond (ltb j 128 && eqb i j) (eqb b 1) (isMember m i)
+
+-- row j became a member, where it is below 128
+pub record Added (j : ℕ) (m r : Members) : Type 0 where
+  pub words : InWords r
+  pub member : (i : ℕ) → isMember r i ≡ ((ltb j 128 && eqb i j) || isMember m i)
+
+-- row j is no member any more
+pub record Dropped (j : ℕ) (m r : Members) : Type 0 where
+  pub words : InWords r
+  pub member : (i : ℕ) → isMember r i ≡ (not (eqb i j) && isMember m i)
+
+-- row k is taken out, and the rows above it are one lower
+pub record Cut (k : ℕ) (m r : Members) : Type 0 where
+  pub words : InWords r
+  pub member : (i : ℕ) → isMember r i ≡ isMember m (skip k i)

@@ -1,0 +1,58 @@
+-- The contract of every call on the table.
+use Prim.Native.Nat.{ℕ}
+use mathlib.Core.Path.{_≡_}
+use mathlib.Core.Bool.{Bool, true, false, cond, _&&_, _||_}
+use mathlib.Core.List.{List}
+use lib.ListN.{length}
+use lib.Dec.{eqb}
+use Rattle.rules.specs.Entries.{Entries}
+use Rattle.rules.specs.Calls.{Call, reset, enterExporter, removeExporter, enterObject, enterInterface, add, release, simplePing, complexPing, clock, resolve, census, members, nextStop, Reply}
+use Rattle.rules.specs.Sound.{sound}
+use Rattle.rules.specs.Rules.{next, refused, reply}
+
+-- what is lent to every call: the array's words and the store's bytes
+pub record Memory : Type 0 where
+  pub words : List ℕ
+  pub store : List ℕ
+
+-- 8,192 words and 8,192 bytes
+abbrev pub rightLengths : Memory → Bool
+rightLengths m = eqb (length (m .words)) 8192 && eqb (length (m .store)) 8192
+
+-- a reset looks at lengths only
+abbrev pub lengthsOnly : Call → Bool
+lengthsOnly (reset t) = true
+lengthsOnly (enterExporter x u b) = false
+lengthsOnly (removeExporter x) = false
+lengthsOnly (enterObject o x i iid n np) = false
+lengthsOnly (enterInterface o i iid n) = false
+lengthsOnly (add i p q) = false
+lengthsOnly (release i p q) = false
+lengthsOnly (simplePing s) = false
+lengthsOnly (complexPing s n adds dels) = false
+lengthsOnly (clock t) = false
+lengthsOnly (resolve x buffer) = false
+lengthsOnly census = false
+lengthsOnly (members s) = false
+lengthsOnly (nextStop r) = false
+
+-- view decodes the live entries; it is the table's
+module _ (view : Memory → Entries) where
+  unfoldable pub soundMemory : Memory → Bool
+  soundMemory m = rightLengths m && sound (view m)
+
+  -- answer 1 is not given
+  unfoldable pub fit : Call → Memory → Bool
+  fit c m = rightLengths m && (lengthsOnly c || sound (view m))
+
+  -- 1 where a length is wrong or the table is not sound, else what the rules say
+  unfoldable pub replyTo : Call → Memory → Reply
+  replyTo c m = cond (fit c m) (reply c (view m)) (refused 1 c (view m))
+
+  -- Of a call that is lent m and leaves m′: its number and all that it answers or writes, as an equality; a refused call leaves every
+  -- word and byte; an accepted one leaves a sound table whose live entries are those of the rules.
+  pub record Performed (c : Call) (m : Memory) (r : Reply) (m′ : Memory) : Type 0 where
+    pub answered : r ≡ replyTo c m
+    pub kept : (r .number ≡ 0 → ⊥) → m′ ≡ m
+    pub soundAfter : r .number ≡ 0 → soundMemory m′ ≡ true
+    pub became : r .number ≡ 0 → view m′ ≡ next c (view m)

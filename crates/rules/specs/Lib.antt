@@ -1,0 +1,5 @@
+pub mod Entries
+pub mod Calls
+pub mod Sound
+pub mod Rules
+pub mod Contract

@@ -1,0 +1,282 @@
+-- Document 01, "The calls" and "Where to go next", on the live entries of a sound table: for each call its refusals in their order,
+-- the entries after it where it is accepted, and what it answers then. Answer 1 comes before all of this (Contract.antt).
+use Prim.Native.Nat.{ℕ, _+_, _-_, _^_, _%_, min}
+use mathlib.Core.Bool.{Bool, false, cond, not, _&&_, _||_}
+use mathlib.Core.List.{List, [], _∷_, _++_, map}
+use lib.ListN.{length, drop}
+use lib.Dec.{eqb, ltb, leb}
+use Rattle.kinds.specs.Refusals.{Row, order, _gives_, passes}
+use Rattle.kinds.specs.declared.Guid.{Guid}
+use Rattle.fields.specs.Fields.{field}
+use Rattle.bindings.specs.Bindings.{listAnswer}
+use Rattle.references.specs.References.{referenceAnswer, referenceAt, isCustom, tailOf}
+use Rattle.columns.specs.Lists.{keep, some, every, firstOr, among}
+use Rattle.columns.specs.Guids.{nil, sameGuid}
+use Rattle.rules.specs.Entries.{Exporter, Object, Interface, PingSet, Entries, fresh, oxids, oids, setNumbers, interfaceIpids, ipids, withClock, withNext, withExporters, withObjects, withInterfaces, withSets, heardAt, withCounts, pingedAt, withSequence, withMembers}
+use Rattle.rules.specs.Calls.{Call, reset, enterExporter, removeExporter, enterObject, enterInterface, add, release, simplePing, complexPing, clock, resolve, census, members, nextStop, Reply, Results, only}
+use Rattle.rules.specs.Sound.{longestList, held, hasInterface, overdue}
+
+-- ---- tests on the entries
+
+abbrev pub isLiveExporter : Entries → ℕ → Bool
+isLiveExporter e x = among (oxids e) x
+
+abbrev pub isLiveObject : Entries → ℕ → Bool
+isLiveObject e o = among (oids e) o
+
+abbrev pub isLiveInterface : Entries → Guid → Bool
+isLiveInterface e i = some (sameGuid i) (interfaceIpids e)
+
+abbrev pub isLiveSet : Entries → ℕ → Bool
+isLiveSet e s = among (setNumbers e) s
+
+-- an identifier to be entered is zero or already live
+abbrev badOxid : Entries → ℕ → Bool
+badOxid e x = eqb x 0 || isLiveExporter e x
+
+abbrev badOid : Entries → ℕ → Bool
+badOid e o = eqb o 0 || isLiveObject e o
+
+abbrev badIpid : Entries → Guid → Bool
+badIpid e i = sameGuid i nil || some (sameGuid i) (ipids e)
+
+-- ---- the entry of a live identifier; zeros where it is not live
+
+abbrev pub noExporter : Exporter
+noExporter = record { oxid = 0; unknown = nil; bindings = [] }
+
+abbrev pub noObject : Object
+noObject = record { oid = 0; exporter = 0; noping = false; heard = 0 }
+
+abbrev pub noInterface : Interface
+noInterface = record { ipid = nil; iid = nil; object = 0; public = 0; private = 0 }
+
+abbrev pub noSet : PingSet
+noSet = record { number = 0; sequence = 0; pinged = 0; members = [] }
+
+abbrev pub exporterOf : Entries → ℕ → Exporter
+exporterOf e x = firstOr noExporter (λ (p : Exporter). eqb x (p .oxid)) (e .exporters)
+
+abbrev pub interfaceOf : Entries → Guid → Interface
+interfaceOf e i = firstOr noInterface (λ (p : Interface). sameGuid i (p .ipid)) (e .interfaces)
+
+abbrev pub setOf : Entries → ℕ → PingSet
+setOf e s = firstOr noSet (λ (p : PingSet). eqb s (p .number)) (e .sets)
+
+-- the OXID that an accepted reference names
+abbrev pub oxidOf : List ℕ → ℕ
+oxidOf r = referenceAt r .block .oxid .0
+
+-- ---- numbers
+
+abbrev pub flag : Bool → ℕ
+flag b = cond b 1 0
+
+-- as many live entries as places, or more
+abbrev full : {A : Type 0} → ℕ → List A → Bool
+full places xs = leb places (length xs)
+
+-- 4,294,967,295 is the largest count
+abbrev pub passesCount : ℕ → Bool
+passesCount n = leb (2 ^ 32) n
+
+abbrev pub tooMany : List ℕ → Bool
+tooMany ids = ltb 65535 (length ids)
+
+-- (new - last) modulo 65,536 is 0 or above 32,767
+abbrev pub stale : ℕ → ℕ → Bool
+stale last new =
+    let d : ℕ = (new + 65536 - last) % 65536 in
+    eqb d 0 || ltb 32767 d
+
+-- ---- the refusals of each call, in their order
+
+unfoldable pub refusals : Call → Entries → List Row
+refusals (reset t) e = []
+refusals (enterExporter x u b) e =
+    (badOxid e x || badIpid e u) gives 3
+    ∷ passes (listAnswer b)
+    ∷ ltb longestList (length b) gives 19
+    ∷ full 16 (e .exporters) gives 9
+    ∷ []
+refusals (removeExporter x) e = not (isLiveExporter e x) gives 4 ∷ []
+refusals (enterObject o x i iid n np) e =
+    (badOid e o || badIpid e i) gives 3
+    ∷ not (isLiveExporter e x) gives 4
+    ∷ eqb n 0 gives 7
+    ∷ (full 128 (e .objects) || full 256 (e .interfaces)) gives 9
+    ∷ []
+refusals (enterInterface o i iid n) e =
+    badIpid e i gives 3
+    ∷ not (isLiveObject e o) gives 5
+    ∷ eqb n 0 gives 7
+    ∷ full 256 (e .interfaces) gives 9
+    ∷ []
+refusals (add i p q) e =
+    not (isLiveInterface e i) gives 6
+    ∷ (passesCount (interfaceOf e i .public + p) || passesCount (interfaceOf e i .private + q)) gives 8
+    ∷ []
+refusals (release i p q) e = not (isLiveInterface e i) gives 6 ∷ []
+refusals (simplePing s) e = (eqb s 0 || not (isLiveSet e s)) gives 11 ∷ []
+refusals (complexPing s n adds dels) e =
+    (tooMany adds || tooMany dels) gives 10
+    ∷ cond (eqb s 0)
+    (not (every (isLiveObject e) adds) gives 5
+    ∷ full 32 (e .sets) gives 9
+    ∷ eqb (e .next) (2 ^ 64 - 1) gives 18
+    ∷ [])
+    (not (isLiveSet e s) gives 11
+    ∷ stale (setOf e s .sequence) n gives 12
+    ∷ not (every (isLiveObject e) adds) gives 5
+    ∷ [])
+refusals (clock t) e = ltb t (e .clock) gives 2 ∷ []
+refusals (resolve x buffer) e =
+    not (isLiveExporter e x) gives 4
+    ∷ ltb (length buffer) (length (exporterOf e x .bindings)) gives 15
+    ∷ []
+refusals census e = []
+refusals (members s) e = not (isLiveSet e s) gives 11 ∷ []
+refusals (nextStop r) e = passes (referenceAnswer r) ∷ isCustom (field r 4 4) gives 14 ∷ []
+
+unfoldable pub number : Call → Entries → ℕ
+number c e = order (refusals c e)
+
+-- ---- the entries after an accepted call
+
+-- the objects that stay, and of interfaces and members those whose object stays
+abbrev pub withoutObjects : (Object → Bool) → Entries → Entries
+withoutObjects stays e =
+    let f : Entries = withObjects (keep stays (e .objects)) e in
+    withInterfaces (keep (λ (i : Interface). isLiveObject f (i .object)) (e .interfaces))
+    (withSets (map (λ (s : PingSet). withMembers (keep (isLiveObject f) (s .members)) s) (e .sets)) f)
+
+-- the interface i alone changed
+abbrev pub atInterface : Guid → (Interface → Interface) → Entries → Entries
+atInterface i f e = withInterfaces (map (λ (p : Interface). cond (sameGuid i (p .ipid)) (f p) p) (e .interfaces)) e
+
+-- the set s alone changed
+abbrev pub atSet : ℕ → (PingSet → PingSet) → Entries → Entries
+atSet s f e = withSets (map (λ (p : PingSet). cond (eqb s (p .number)) (f p) p) (e .sets)) e
+
+-- an interface at zero and zero goes; an object without interfaces goes, from its sets too
+abbrev pub dropEmpty : Entries → Entries
+dropEmpty e =
+    let f : Entries = withInterfaces (keep held (e .interfaces)) e in
+    withoutObjects (hasInterface f) f
+
+-- the set's ping time and every member's heard time become the clock
+abbrev pub ping : ℕ → Entries → Entries
+ping s e =
+    atSet s (pingedAt (e .clock))
+    (withObjects (map (λ (o : Object). cond (among (setOf e s .members) (o .oid)) (heardAt (e .clock) o) o) (e .objects)) e)
+
+-- adds come before deletes; the members stand in the order of the objects
+abbrev pub newMembers : Entries → List ℕ → List ℕ → List ℕ → List ℕ
+newMembers e adds dels ms = keep (λ (o : ℕ). (among ms o || among adds o) && not (among dels o)) (oids e)
+
+-- the number of the set that a complex ping is about: set 0 stands for the set that it makes
+abbrev pub setMeant : ℕ → ℕ → ℕ
+setMeant s next = cond (eqb s 0) next s
+
+-- a new set with the next number, which grows by one
+abbrev pub makeSet : Entries → Entries
+makeSet e = withNext (e .next + 1) (withSets (e .sets ++ (record { number = e .next; sequence = 0; pinged = e .clock; members = [] } ∷ [])) e)
+
+unfoldable pub next : Call → Entries → Entries
+next (reset t) e = fresh t
+next (enterExporter x u b) e = withExporters (e .exporters ++ (record { oxid = x; unknown = u; bindings = b } ∷ [])) e
+next (removeExporter x) e =
+    withExporters (keep (λ (p : Exporter). not (eqb x (p .oxid))) (e .exporters))
+    (withoutObjects (λ (o : Object). not (eqb x (o .exporter))) e)
+next (enterObject o x i iid n np) e =
+    withObjects (e .objects ++ (record { oid = o; exporter = x; noping = np; heard = e .clock } ∷ []))
+    (withInterfaces (e .interfaces ++ (record { ipid = i; iid = iid; object = o; public = n; private = 0 } ∷ [])) e)
+next (enterInterface o i iid n) e =
+    withInterfaces (e .interfaces ++ (record { ipid = i; iid = iid; object = o; public = n; private = 0 } ∷ [])) e
+next (add i p q) e = atInterface i (λ (r : Interface). withCounts (r .public + p) (r .private + q) r) e
+-- a count less a larger number is 0
+next (release i p q) e = dropEmpty (atInterface i (λ (r : Interface). withCounts (r .public - p) (r .private - q) r) e)
+next (simplePing s) e = ping s e
+next (complexPing s n adds dels) e =
+    let k : ℕ = setMeant s (e .next) in
+    ping k
+    (atSet k (λ (p : PingSet). withSequence n (withMembers (newMembers e adds dels (p .members)) p))
+    (cond (eqb s 0) (makeSet e) e))
+next (clock t) e =
+    let f : Entries = withoutObjects (λ (o : Object). o .noping || not (overdue t (o .heard))) e in
+    withClock t (withSets (keep (λ (s : PingSet). not (overdue t (s .pinged))) (f .sets)) f)
+next (resolve x buffer) e = e
+next census e = e
+next (members s) e = e
+next (nextStop r) e = e
+
+-- ---- what an accepted call answers
+
+-- the live numbers of the four kinds
+abbrev pub liveNumbers : Entries → List ℕ
+liveNumbers e = length (e .exporters) ∷ length (e .objects) ∷ length (e .interfaces) ∷ length (e .sets) ∷ []
+
+-- what was taken, public and private, and whether interface and object went
+abbrev pub releaseValues : Guid → ℕ → ℕ → Entries → Entries → List ℕ
+releaseValues i p q e after =
+    min p (interfaceOf e i .public)
+    ∷ min q (interfaceOf e i .private)
+    ∷ flag (not (isLiveInterface after i))
+    ∷ flag (not (isLiveObject after (interfaceOf e i .object)))
+    ∷ []
+
+-- how many of a kind went
+abbrev went : {A : Type 0} → List A → List A → ℕ
+went before after = length before - length after
+
+-- the exporters (always 0), objects, interfaces and sets that went
+abbrev pub clockValues : Entries → Entries → List ℕ
+clockValues e after =
+    went (e .exporters) (after .exporters)
+    ∷ went (e .objects) (after .objects)
+    ∷ went (e .interfaces) (after .interfaces)
+    ∷ went (e .sets) (after .sets)
+    ∷ []
+
+-- bytes written at the front of a buffer; the rest is kept
+abbrev pub fronted : List ℕ → List ℕ → List ℕ
+fronted front buffer = front ++ drop (length front) buffer
+
+unfoldable pub results : Call → Entries → Results
+results (reset t) e = only []
+results (enterExporter x u b) e = only []
+results (removeExporter x) e = only []
+results (enterObject o x i iid n np) e = only []
+results (enterInterface o i iid n) e = only []
+results (add i p q) e = only []
+results (release i p q) e = only (releaseValues i p q e (next (release i p q) e))
+results (simplePing s) e = only []
+-- the set's number, and the backoff factor
+results (complexPing s n adds dels) e = only (setMeant s (e .next) ∷ 0 ∷ [])
+results (clock t) e = only (clockValues e (next (clock t) e))
+-- the list's length and the remote-unknown IPID; the list at the front of the buffer
+results (resolve x buffer) e =
+    let p : Exporter = exporterOf e x in
+    record { values = length (p .bindings) ∷ p .unknown .low ∷ p .unknown .high ∷ []; part = []; front = p .bindings; buffer = buffer }
+results census e = only (liveNumbers e)
+results (members s) e = only (length (setOf e s .members) ∷ [])
+-- a part of the store where the OXID is live, else a part of the reference
+results (nextStop r) e =
+    record {
+      values = [];
+      part = cond (isLiveExporter e (oxidOf r)) (exporterOf e (oxidOf r) .bindings) (tailOf r);
+      front = [];
+      buffer = [];
+    }
+
+-- document 01, "Answer numbers": a refusal returns its number, zero in every other result, an empty part, and keeps the buffer
+unfoldable pub refused : ℕ → Call → Entries → Reply
+refused n c e = record { number = n; values = map (λ (v : ℕ). 0) (results c e .values); part = []; buffer = results c e .buffer }
+
+unfoldable pub done : Call → Entries → Reply
+done c e =
+    let r : Results = results c e in
+    record { number = 0; values = r .values; part = r .part; buffer = fronted (r .front) (r .buffer) }
+
+unfoldable pub reply : Call → Entries → Reply
+reply c e = cond (eqb (number c e) 0) (done c e) (refused (number c e) c e)

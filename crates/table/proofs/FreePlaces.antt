@@ -1,0 +1,109 @@
+-- Free places decide nothing: the live entries are made of words 0 and 1, the numbers of live rows, the words of the live rows and
+-- the bytes of the live lists.
+use Prim.Native.Nat.{ℕ, _<_}
+use mathlib.Core.Path.{_≡_, refl, ap}
+use mathlib.Core.List.{List, map}
+use native.Mathlib.Omega.{arith}
+use lib.ListN.{length, getD, take, length-take, length-drop}
+use lib.Seq.{ext-getD, getD-take}
+use Rattle.fields.specs.Fields.{field}
+use Rattle.bindings.specs.Bindings.{listLength}
+use Rattle.columns.specs.Rows.{cell, rows}
+use Rattle.columns.specs.declared.rows.Kind.{Kind}
+use Rattle.columns.proofs.Lists.{tabulate-ext}
+use Rattle.columns.proofs.RowLaws.{row-same, rows-free}
+use Rattle.rules.specs.Entries.{Object}
+use Rattle.rules.specs.Contract as contract
+use Rattle.table.specs.View.{exporterKind, objectKind, interfaceKind, setKind, exporterCount, objectCount, interfaceCount, setCount, slot, asObject, asInterface, asSet, exportersOf, objectsOf, interfacesOf, setsOf, memory, view, soundMemory}
+
+-- the words of the first n rows of a kind are the same
+abbrev pub SameRows : Kind → ℕ → List ℕ → List ℕ → Type 0
+SameRows k n ws ws′ = (j i : ℕ) → j < k .width → i < n → getD ws′ (cell k j i) 0 ≡ getD ws (cell k j i) 0
+
+-- the bytes of the list at the front of s are the same in s′
+abbrev pub SameList : List ℕ → List ℕ → Type 0
+SameList s s′ = (x : ℕ) → x < listLength s → getD s′ x 0 ≡ getD s x 0
+
+-- two tables that agree on every live place
+pub record SameLive (ws store ws′ store′ : List ℕ) : Type 0 where
+  pub clock : getD ws′ 0 0 ≡ getD ws 0 0
+  pub next : getD ws′ 1 0 ≡ getD ws 1 0
+  pub exporterCounts : exporterCount ws′ ≡ exporterCount ws
+  pub objectCounts : objectCount ws′ ≡ objectCount ws
+  pub interfaceCounts : interfaceCount ws′ ≡ interfaceCount ws
+  pub setCounts : setCount ws′ ≡ setCount ws
+  pub exporters : SameRows exporterKind (exporterCount ws) ws ws′
+  pub objects : SameRows objectKind (objectCount ws) ws ws′
+  pub interfaces : SameRows interfaceKind (interfaceCount ws) ws ws′
+  pub sets : SameRows setKind (setCount ws) ws ws′
+  pub storeLengths : length store′ ≡ length store
+  pub lists : (i : ℕ) → i < exporterCount ws → SameList (slot store i) (slot store′ i)
+
+-- the same bytes from the start
+same-start : (n : ℕ) (s s′ : List ℕ) → length s′ ≡ length s → ((x : ℕ) → x < n → getD s′ x 0 ≡ getD s x 0) → take n s′ ≡ take n s
+same-start n s s′ l h =
+    let sizes : length (take n s′) ≡ length (take n s) = simp (length-take, l) in
+    ext-getD 0 (take n s′) (take n s) sizes
+    (λ x b. let c : x < n = omega (arith, length-take n s′) in rw (getD-take n s′ x 0, getD-take n s x 0) (h x c))
+
+-- the length of the list at the front is read from its own first bytes
+same-length : (s s′ : List ℕ) → length s′ ≡ length s → SameList s s′ → listLength s′ ≡ listLength s
+unfolding listLength field
+same-length s s′ l h = rw (l, same-start 2 s s′ l (λ x b. h x (omega arith)))
+
+-- so its bytes are the same
+same-list : (s s′ : List ℕ) → length s′ ≡ length s → SameList s s′ → take (listLength s′) s′ ≡ take (listLength s) s
+same-list s s′ l h = rw (same-length s s′ l h) (same-start (listLength s) s s′ l h)
+
+-- entries that are made of the first rows of a kind
+same-entries : {A : Type 0} (k : Kind) (entry entry′ : List ℕ → A) (ws ws′ : List ℕ) (n n′ : ℕ) → n′ ≡ n → entry′ ≡ entry → SameRows k n ws ws′
+    → map entry′ (rows k ws′ n′) ≡ map entry (rows k ws n)
+same-entries k entry entry′ ws ws′ n n′ e f h = rw (e, f, rows-free k ws ws′ n h)
+
+module _ (ws store ws′ store′ : List ℕ) (same : SameLive ws store ws′ store′) where
+  -- the exporters, with their lists
+  same-exporters : exportersOf ws′ store′ ≡ exportersOf ws store
+  unfolding exportersOf
+  same-exporters =
+      rw (same .exporterCounts)
+      (tabulate-ext (exporterCount ws) _ _
+      (λ i l.
+      let slots : length (slot store′ i) ≡ length (slot store i) = simp (length-take, length-drop, same .storeLengths) in
+      rw (row-same exporterKind ws ws′ i i (λ j b. same .exporters j i b l), same-list (slot store i) (slot store′ i) slots (same .lists i l))))
+
+  -- the objects
+  same-objects : objectsOf ws′ ≡ objectsOf ws
+  unfolding objectsOf
+  same-objects = same-entries objectKind asObject asObject ws ws′ _ _ (same .objectCounts) refl (same .objects)
+
+  -- the interfaces
+  same-interfaces : interfacesOf ws′ ≡ interfacesOf ws
+  unfolding interfacesOf
+  same-interfaces = same-entries interfaceKind asInterface asInterface ws ws′ _ _ (same .interfaceCounts) refl (same .interfaces)
+
+  -- the sets, whose members are named by the objects
+  same-sets : setsOf ws′ ≡ setsOf ws
+  unfolding setsOf
+  same-sets =
+      same-entries setKind (asSet (map (λ (o : Object). o .oid) (objectsOf ws))) (asSet (map (λ (o : Object). o .oid) (objectsOf ws′))) ws ws′ _ _
+      (same .setCounts)
+      (ap (λ (os : List Object). asSet (map (λ (o : Object). o .oid) os)) same-objects)
+      (same .sets)
+
+  -- the live entries are the same, whatever any other word or byte holds
+  pub free-places : view (memory ws′ store′) ≡ view (memory ws store)
+  free-places =
+      λ u.
+      record {
+        clock = same .clock u;
+        next = same .next u;
+        exporters = same-exporters u;
+        objects = same-objects u;
+        interfaces = same-interfaces u;
+        sets = same-sets u;
+      }
+
+  -- and so is the judgement
+  pub free-places-sound : length ws′ ≡ length ws → soundMemory (memory ws′ store′) ≡ soundMemory (memory ws store)
+  unfolding contract.soundMemory
+  free-places-sound l = rw (l, same .storeLengths, free-places)

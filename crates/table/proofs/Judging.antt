@@ -1,0 +1,71 @@
+-- Laws of code that judges clause after clause, each over columns of the array.
+use Prim.Native.Nat.{ℕ}
+use mathlib.Core.Path.{_≡_, refl, sym, ap, _∙_}
+use mathlib.Core.Bool.{Bool, true, false, not, _&&_}
+use mathlib.Core.List.{List, [], _∷_, _++_, map}
+use borrow.Author.Tests.{not-true, not-false}
+use lib.Dec.{eqb}
+use lib.ListN.{take, drop}
+use Rattle.kinds.specs.declared.Guid.{Guid}
+use Rattle.columns.specs.Lists.{every, distinct, apart, among, holding}
+use Rattle.columns.specs.Guids.{nil, sameGuid, guids}
+use Rattle.columns.proofs.Tests.{holding-fails, holding-passes, holding-last}
+use Rattle.columns.proofs.Lists.{every-map, every-ext, every-append, some-map}
+use Rattle.columns.proofs.Distinct.{distinct-append}
+use Rattle.rules.specs.Entries.{Entries, Object, Interface}
+use Rattle.rules.specs.Sound.{properGuids, objectsHaveInterfaces}
+
+-- ---- chains of clauses: t is the outcome of the first clause that is left
+
+module _ {w t b : Bool} (bs : List Bool) (e : w ≡ holding (b ∷ bs)) (q : t ≡ b) where
+  -- it does not hold
+  pub judged-fails : not t ≡ true → false ≡ w
+  judged-fails f = holding-fails b bs e (sym q ∙ not-true t f)
+
+  -- it holds, and the others are left
+  pub judged-passes : not t ≡ false → w ≡ holding bs
+  judged-passes f = holding-passes b bs e (sym q ∙ not-false t f)
+
+-- it is the last
+pub judged-last : {w t b : Bool} → w ≡ holding (b ∷ []) → t ≡ b → t ≡ w
+judged-last {w} {t} {b} e q = q ∙ holding-last b e
+
+-- two tests before clauses
+pub clauses-after : (a b s : Bool) (bs : List Bool) → s ≡ holding bs → ((a && b) && s) ≡ holding (a ∷ b ∷ bs)
+unfolding holding
+clauses-after true b s bs e = ap (λ (x : Bool). b && x) e
+clauses-after false b s bs e = refl
+
+-- ---- columns that code lends
+
+-- a column of n words is a field of the live entries, of which there are n
+pub column-read : (ws : List ℕ) (first : ℕ) {n m : ℕ} {xs ids : List ℕ} → xs ≡ take n (drop first ws) → n ≡ m → ids ≡ take m (drop first ws) → xs ≡ ids
+column-read ws first p q h = p ∙ ap (λ (k : ℕ). take k (drop first ws)) q ∙ sym h
+
+-- two columns are the identifiers of the live entries
+pub guids-read : (ws : List ℕ) (a b : ℕ) {n m : ℕ} {xs ys : List ℕ} {ids : List Guid} → xs ≡ take n (drop a ws) → ys ≡ take n (drop b ws) → n ≡ m
+    → ids ≡ guids (take m (drop a ws)) (take m (drop b ws)) → guids xs ys ≡ ids
+guids-read ws a b p r q h = rw (p, r, q) (sym h)
+
+module _ {A : Type 0} (f : A → ℕ) (xs : List A) {col : List ℕ} (q : col ≡ map f xs) {t : Bool} where
+  -- a test of a column is a test of the field
+  pub column-test : (p : ℕ → Bool) → t ≡ every p col → t ≡ every (λ x. p (f x)) xs
+  column-test p e = e ∙ ap (every p) q ∙ every-map p f xs
+
+  -- the words of a column stand in another
+  pub column-in : {b ids : List ℕ} → b ≡ ids → t ≡ every (among b) col → t ≡ every (λ x. among ids (f x)) xs
+  column-in {b} {ids} r e = column-test (among ids) (e ∙ ap (λ (y : List ℕ). every (among y) col) r)
+
+-- each object has an interface where each OID is the object of one
+pub have-interfaces : (e : Entries) → every (λ (o : Object). among (map (λ (i : Interface). i .object) (e .interfaces)) (o .oid)) (e .objects) ≡ objectsHaveInterfaces e
+have-interfaces e = every-ext _ _ (λ o. some-map (eqb (o .oid)) (λ i. i .object) (e .interfaces)) (e .objects)
+
+-- identifiers of two lists: each list is proper, and no identifier stands in both
+abbrev pub pairClauses : List Guid → List Guid → List Bool
+pairClauses xs ys = every (λ g. not (sameGuid g nil)) xs ∷ every (λ g. not (sameGuid g nil)) ys ∷ distinct sameGuid xs ∷ distinct sameGuid ys ∷ apart sameGuid xs ys ∷ []
+
+-- then they are proper together
+pub pair-proper : (xs ys : List Guid) → properGuids (xs ++ ys) ≡ holding (pairClauses xs ys)
+pair-proper xs ys =
+    rw (every-append (λ g. not (sameGuid g nil)) xs ys, distinct-append sameGuid xs ys)
+    (clauses-after _ _ _ _ (clauses-after _ _ _ _ (holding-last _ refl)))

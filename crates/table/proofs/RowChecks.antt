@@ -1,0 +1,147 @@
+-- Laws of the checks of live rows: what a clause says of all entries of a kind, by the index of the row.
+use Prim.Native.Nat.{ℕ, _+_, _<_, _≤_}
+use mathlib.Core.Path.{_≡_, sym, ap, _∙_}
+use mathlib.Core.Bool.{Bool, true, false, not, _&&_}
+use mathlib.Core.List.{List, _++_, map}
+use mathlib.Core.Logic.{⊎-elim}
+use native.Mathlib.Omega.{arith}
+use borrow.Author.Tests.{not-true, not-false, eqb-true, eq-eqb, lt-ltb, le-ltb, le-leb}
+use lib.Dec.{eqb, ltb, leb}
+use lib.ListN.{length, getD, take, drop, length-take, take-append-drop, length-map, List·getD-eq-default}
+use Rattle.kinds.proofs.Refusing.{same-test}
+use Rattle.bindings.specs.Bindings.{listLength, frontAnswer, listAnswer}
+use Rattle.bindings.proofs.Laws.{front-list, list-front}
+use Rattle.columns.specs.Lists.{every, among, tabulate}
+use Rattle.columns.specs.Rows.{rowAt, rows}
+use Rattle.columns.specs.Members.{memberRows}
+use Rattle.columns.specs.declared.rows.Kind.{Kind}
+use Rattle.columns.proofs.Tests.{below-or-not, and-intro, and-left}
+use Rattle.columns.proofs.Lists.{every-map, every-ext, map-tabulate, tabulate-ext, none-some}
+use Rattle.columns.proofs.Distinct.{eqb-decides, same-comm, some-same}
+use Rattle.columns.proofs.Loops.{table-step, table-end, every-passes, every-fails, every-end}
+use Rattle.columns.proofs.RowLaws.{rowAt-getD, length-rows}
+use Rattle.rules.specs.Entries.{Object, oids}
+use Rattle.rules.specs.Sound.{heardRecently, interfacesHeld, membersLive, listsKept}
+use Rattle.table.specs.Clauses.{recent, heldWords}
+use Rattle.table.specs.View.{exporterKind, objectKind, interfaceKind, setKind, exporterCount, objectCount, interfaceCount, setCount, slot, listAt, asExporter, asObject, asInterface, asSet, exportersOf, objectsOf, interfacesOf, setsOf, memory, view}
+
+-- every index below n passes
+abbrev pub everyRow : ℕ → (ℕ → Bool) → Bool
+everyRow n q = every q (tabulate n (λ i. i))
+
+-- every index from i on and below n passes
+abbrev pub everyFrom : ℕ → ℕ → (ℕ → Bool) → Bool
+everyFrom i n q = every q (drop i (tabulate n (λ j. j)))
+
+-- a loop that checks the rows from i on
+module _ {w : Bool} (n : ℕ) (q : ℕ → Bool) (i : ℕ) (h : w ≡ everyFrom i n q) where
+  -- row i passes by the outcome t
+  pub row-passes : {t : Bool} → i < n → t ≡ q i → not t ≡ false → w ≡ everyFrom (i + 1) n q
+  row-passes {t} b e f = every-passes (table-step n (λ j. j) i b) q h (sym e ∙ not-false t f)
+
+  -- row i fails by the outcome t
+  pub row-fails : {t : Bool} → i < n → t ≡ q i → not t ≡ true → false ≡ w
+  row-fails {t} b e f = every-fails (table-step n (λ j. j) i b) q h (sym e ∙ not-true t f)
+
+  -- no row is left
+  pub rows-done : n ≤ i → true ≡ w
+  rows-done b = every-end (table-end n (λ j. j) i b) q h
+
+module _ {A : Type 0} (p : A → Bool) (q : ℕ → Bool) where
+  -- a check of each index of a table is a check of its elements
+  pub table-checked : (f : ℕ → A) (n m : ℕ) → n ≡ m → ((i : ℕ) → i < m → q i ≡ p (f i)) → everyRow n q ≡ every p (tabulate m f)
+  table-checked f n m e same =
+      rw e
+      (sym (every-map (λ (b : Bool). b) q (tabulate m (λ i. i)))
+      ∙ ap (every (λ (b : Bool). b)) (map-tabulate q m (λ i. i) ∙ tabulate-ext m _ _ same ∙ sym (map-tabulate p m f))
+      ∙ every-map (λ (b : Bool). b) p (tabulate m f))
+
+  -- a check of each row is a check of the entries that are made of the rows
+  pub rows-checked : (k : Kind) (ws : List ℕ) (entry : List ℕ → A) (n m : ℕ) → n ≡ m → ((i : ℕ) → q i ≡ p (entry (rowAt k ws i))) → everyRow n q ≡ every p (map entry (rows k ws m))
+  unfolding rows
+  rows-checked k ws entry n m e same =
+      table-checked (λ i. entry (rowAt k ws i)) n m e (λ i l. same i) ∙ ap (every p) (sym (map-tabulate entry m (rowAt k ws)))
+
+-- ---- objects
+
+-- the object of row i is not overdue
+abbrev pub recentRow : List ℕ → ℕ → Bool
+recentRow ws i = recent (getD ws 0 0) (getD ws (512 + i) 0) (getD ws (640 + i) 0)
+
+-- every object is recent where every row is
+pub recent-rows : (ws s : List ℕ) (n : ℕ) → n ≡ objectCount ws → everyRow n (recentRow ws) ≡ heardRecently (view (memory ws s))
+unfolding objectsOf
+recent-rows ws s n e =
+    rows-checked _ (recentRow ws) objectKind ws asObject n (objectCount ws) e
+    (λ i. rw (rowAt-getD objectKind ws i 2 (omega arith), rowAt-getD objectKind ws i 3 (omega arith)))
+
+-- ---- interfaces
+
+-- the interface of row i has a nonzero count
+abbrev pub heldRow : List ℕ → ℕ → Bool
+heldRow ws i = heldWords (getD ws (2048 + i) 0) (getD ws (2304 + i) 0)
+
+-- every interface is held where every row is
+pub held-rows : (ws s : List ℕ) (n : ℕ) → n ≡ interfaceCount ws → everyRow n (heldRow ws) ≡ interfacesHeld (view (memory ws s))
+unfolding interfacesOf
+held-rows ws s n e =
+    rows-checked _ (heldRow ws) interfaceKind ws asInterface n (interfaceCount ws) e
+    (λ i. rw (rowAt-getD interfaceKind ws i 5 (omega arith), rowAt-getD interfaceKind ws i 6 (omega arith)))
+
+-- ---- sets
+
+-- what stands at j is among the elements where j is an index, if no element is 0
+among-index : (xs : List ℕ) → every (λ x. not (eqb x 0)) xs ≡ true → (j : ℕ) → ltb j (length xs) ≡ among xs (getD xs j 0)
+among-index xs nonzero j =
+    ⊎-elim
+    (λ h. lt-ltb j (length xs) h ∙ sym (some-same eqb eqb-decides xs 0 j h))
+    (λ h.
+    let none : every (λ x. not (eqb 0 x)) xs ≡ true = every-ext _ _ (λ x. ap not (same-comm eqb eqb-decides 0 x)) xs ∙ nonzero in
+    le-ltb j (length xs) h ∙ sym (rw (List·getD-eq-default xs 0 h) (none-some (eqb 0) xs none)))
+    (below-or-not j (length xs))
+
+-- a live object for each live row
+live-oids : (ws : List ℕ) → length (map (λ (o : Object). o .oid) (objectsOf ws)) ≡ objectCount ws
+unfolding objectsOf
+live-oids ws =
+    length-map (objectsOf ws) (λ o. o .oid) ∙ length-map (rows objectKind ws (objectCount ws)) asObject ∙ length-rows objectKind ws (objectCount ws)
+
+-- the members of the set of row i are below a number of rows
+abbrev pub belowRow : ℕ → List ℕ → ℕ → Bool
+belowRow objects ws i = every (λ j. ltb j objects) (memberRows (record { low = getD ws (160 + i) 0; high = getD ws (192 + i) 0 }))
+
+-- every member is live where every set's rows are below the number of objects, if no OID is 0
+pub members-rows : (ws s : List ℕ) (n objects : ℕ) → n ≡ setCount ws → objects ≡ objectCount ws → every (λ x. not (eqb x 0)) (oids (view (memory ws s))) ≡ true
+    → everyRow n (belowRow objects ws) ≡ membersLive (view (memory ws s))
+unfolding setsOf
+members-rows ws s n objects e o nonzero =
+    let ids = oids (view (memory ws s)) in
+    rows-checked _ (belowRow objects ws) setKind ws (asSet ids) n (setCount ws) e
+    (λ i.
+    let size : objects ≡ length ids = o ∙ sym (live-oids ws) in
+    rw (rowAt-getD setKind ws i 3 (omega arith), rowAt-getD setKind ws i 4 (omega arith), size)
+    (every-ext _ _ (among-index ids nonzero) _ ∙ sym (every-map (among ids) (λ j. getD ids j 0) _)))
+
+-- ---- exporters
+
+-- the list at the front of at most 512 bytes is accepted there where it is accepted as a whole list of at most 512 bytes
+front-whole : (s : List ℕ) → length s ≤ 512
+    → eqb (frontAnswer s) 0 ≡ (eqb (listAnswer (take (listLength s) s)) 0 && leb (length (take (listLength s) s)) 512)
+front-whole s short =
+    let l = take (listLength s) s in
+    let whole : l ++ drop (listLength s) s ≡ s = take-append-drop (listLength s) s in
+    let fits : length l ≤ 512 = simp length-take (omega arith) in
+    same-test _ _
+    (λ t. and-intro _ _ (eq-eqb _ 0 (front-list s (eqb-true _ 0 t))) (le-leb (length l) 512 fits))
+    (λ t. eq-eqb _ 0 (ap frontAnswer (sym whole) ∙ list-front l _ (eqb-true _ 0 (and-left _ _ t))))
+
+-- the list of exporter i is accepted
+abbrev pub keptRow : List ℕ → ℕ → Bool
+keptRow store i = eqb (frontAnswer (slot store i)) 0
+
+-- every list is kept where every slot's list is accepted
+pub kept-rows : (ws store : List ℕ) (n : ℕ) → n ≡ exporterCount ws → everyRow n (keptRow store) ≡ listsKept (view (memory ws store))
+unfolding exportersOf
+kept-rows ws store n e =
+    table-checked _ (keptRow store) (λ i. asExporter (rowAt exporterKind ws i) (listAt store i)) n (exporterCount ws) e
+    (λ i l. front-whole (slot store i) (simp length-take (omega arith)))

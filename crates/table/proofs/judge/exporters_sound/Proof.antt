@@ -1,0 +1,45 @@
+-- `judge::exporters_sound`: the clauses of the exporters in turn.
+use mathlib.Core.Path.{_≡_, refl, ap, _∙_}
+use Rattle.rules.specs.Entries.{oxids}
+use Rattle.rules.specs.Sound.{proper}
+use Rattle.table.specs.View.{memory, view}
+use Rattle.table.proofs.ViewLaws.{oxids-column}
+use Rattle.table.proofs.Judging.{judged-fails, judged-passes, judged-last, column-read}
+use borrow.Author.Needs.{needs}
+use Rattle.table.proofs.judge.exporters_sound.Statement.{statement}
+use Rattle.table.proofs.judge.exporters_sound.Tie as tie
+
+exporter-count-requires : tie.Need-exporter-count-requires
+exporter-count-requires c κs = search needs
+
+column-requires : tie.Need-column-requires
+column-requires c κs = search needs
+
+are-proper-requires : tie.Need-are-proper-requires
+are-proper-requires c κs = search needs
+
+-- the first outcome is a clause
+proper-judged : (c : tie.After-are-proper) → c .are-proper .result ≡ proper (oxids (view (memory (c .before .before .before .before .before .args .words .now) (c .before .before .before .before .before .args .store .now))))
+proper-judged c =
+    let ws = c .before .before .before .before .before .args .words .now in
+    c .are-proper .ensures ∙ ap proper (column-read ws 16 (c .before .column .ensures) (c .before .before .exporter-count .ensures .0) (oxids-column ws (c .before .before .before .before .before .pre .0) _))
+
+returns : tie.Need-returns
+returns c = judged-fails _ refl (proper-judged (c .before)) (c .if1 .taken)
+
+lists-kept-requires : tie.Need-lists-kept-requires
+lists-kept-requires c κs = search needs
+
+returns-2 : tie.Need-returns-2
+returns-2 c = judged-last (judged-passes _ refl (proper-judged (c .before .before)) (c .before .if1 .left)) (c .lists-kept .ensures)
+
+pub exporters-sound-spec : {M : Type 1} → statement M
+exporters-sound-spec =
+    tie.close
+    (tie.spec
+    exporter-count-requires
+    column-requires
+    are-proper-requires
+    returns
+    lists-kept-requires
+    returns-2)

@@ -1,0 +1,126 @@
+-- Which word and byte holds what, and the live entries that table and store hold. Every array of words and bytes decodes to some
+-- entries, so that nothing but document 01's own rules makes a table unsound.
+use Prim.Native.Nat.{ℕ, _*_, _^_, _%_, min}
+use mathlib.Core.Bool.{Bool, not}
+use mathlib.Core.List.{List, map}
+use lib.ListN.{getD, take, drop}
+use lib.Dec.{eqb}
+use Rattle.bindings.specs.Bindings.{listLength}
+use Rattle.columns.specs.Lists.{tabulate}
+use Rattle.columns.specs.Rows.{rowAt, rows}
+use Rattle.columns.specs.Members.{memberRows}
+use Rattle.columns.specs.declared.rows.Kind.{Kind}
+use Rattle.rules.specs.Entries.{Exporter, Object, Interface, PingSet, Entries}
+use Rattle.rules.specs.Calls.{Call, Reply}
+use Rattle.rules.specs.Contract as contract
+use Rattle.rules.specs.Contract.{Memory}
+
+-- ---- the array: word 0 is the clock, word 1 the next set number, words 2 to 5 the numbers of live exporters, objects, interfaces
+-- and sets, read as no more than their places; then the rows of each kind, the live ones first
+
+-- OXID, remote-unknown IPID (low, high)
+abbrev pub exporterKind : Kind
+exporterKind = record { base = 16; places = 16; width = 3 }
+
+-- number, sequence number, ping time, members (low, high)
+abbrev pub setKind : Kind
+setKind = record { base = 64; places = 32; width = 5 }
+
+-- OID, OXID, no-ping mark, time last heard
+abbrev pub objectKind : Kind
+objectKind = record { base = 256; places = 128; width = 4 }
+
+-- IPID (low, high), IID (low, high), OID, public and private count
+abbrev pub interfaceKind : Kind
+interfaceKind = record { base = 768; places = 256; width = 7 }
+
+-- the number of live rows of a kind, whose count is the word at
+abbrev pub liveRows : ℕ → Kind → List ℕ → ℕ
+liveRows at k ws = min (getD ws at 0) (k .places)
+
+abbrev pub exporterCount : List ℕ → ℕ
+exporterCount ws = liveRows 2 exporterKind ws
+
+abbrev pub objectCount : List ℕ → ℕ
+objectCount ws = liveRows 3 objectKind ws
+
+abbrev pub interfaceCount : List ℕ → ℕ
+interfaceCount ws = liveRows 4 interfaceKind ws
+
+abbrev pub setCount : List ℕ → ℕ
+setCount ws = liveRows 5 setKind ws
+
+-- ---- the store: 512 bytes for each exporter
+
+-- the bytes of exporter i
+abbrev pub slot : List ℕ → ℕ → List ℕ
+slot store i = take 512 (drop (512 * i) store)
+
+-- the list at their front, as long as its own N says
+abbrev pub listAt : List ℕ → ℕ → List ℕ
+listAt store i = take (listLength (slot store i)) (slot store i)
+
+-- ---- what a row stands for; a number narrower than a word is read modulo its width, a mark is a word other than 0
+
+abbrev pub asExporter : List ℕ → List ℕ → Exporter
+asExporter r list = record { oxid = getD r 0 0; unknown = record { low = getD r 1 0; high = getD r 2 0 }; bindings = list }
+
+abbrev pub asObject : List ℕ → Object
+asObject r = record { oid = getD r 0 0; exporter = getD r 1 0; noping = not (eqb (getD r 2 0) 0); heard = getD r 3 0 }
+
+abbrev pub asInterface : List ℕ → Interface
+asInterface r =
+    record {
+      ipid = record { low = getD r 0 0; high = getD r 1 0 };
+      iid = record { low = getD r 2 0; high = getD r 3 0 };
+      object = getD r 4 0;
+      public = getD r 5 0 % 2 ^ 32;
+      private = getD r 6 0 % 2 ^ 32;
+    }
+
+-- a member is a bit at an object's row; the bit of a row that is not live stands for OID 0, which no live object has
+abbrev pub asSet : List ℕ → List ℕ → PingSet
+asSet ids r =
+    record {
+      number = getD r 0 0;
+      sequence = getD r 1 0 % 65536;
+      pinged = getD r 2 0;
+      members = map (λ j. getD ids j 0) (memberRows (record { low = getD r 3 0; high = getD r 4 0 }));
+    }
+
+-- ---- the live entries
+
+unfoldable pub exportersOf : List ℕ → List ℕ → List Exporter
+exportersOf ws store = tabulate (exporterCount ws) (λ i. asExporter (rowAt exporterKind ws i) (listAt store i))
+
+unfoldable pub objectsOf : List ℕ → List Object
+objectsOf ws = map asObject (rows objectKind ws (objectCount ws))
+
+unfoldable pub interfacesOf : List ℕ → List Interface
+interfacesOf ws = map asInterface (rows interfaceKind ws (interfaceCount ws))
+
+unfoldable pub setsOf : List ℕ → List PingSet
+setsOf ws = map (asSet (map (λ (o : Object). o .oid) (objectsOf ws))) (rows setKind ws (setCount ws))
+
+abbrev pub view : Memory → Entries
+view m =
+    record {
+      clock = getD (m .words) 0 0;
+      next = getD (m .words) 1 0;
+      exporters = exportersOf (m .words) (m .store);
+      objects = objectsOf (m .words);
+      interfaces = interfacesOf (m .words);
+      sets = setsOf (m .words);
+    }
+
+-- ---- the contract of every call, over this view
+
+abbrev pub memory : List ℕ → List ℕ → Memory
+memory ws store = record { words = ws; store = store }
+
+-- document 01's sound, of what is lent
+abbrev pub soundMemory : Memory → Bool
+soundMemory m = contract.soundMemory view m
+
+abbrev pub Performed : Call → Memory → Reply → Memory → Type 0
+Performed c m r m′ = contract.Performed view c m r m′

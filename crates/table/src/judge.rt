@@ -1,0 +1,253 @@
+// Whether a lent table is sound: the clauses of document 01's "sound", each over the columns that it speaks of.
+use crate::layout;
+use columns::members::Members;
+ghost use mathlib.Core.Path.{_≡_};
+ghost use mathlib.Core.Bool.{true};
+ghost use mathlib.Core.List.{List};
+ghost use Prim.Native.Nat.{ℕ};
+ghost use lib.ListN.{length};
+ghost use Rattle.columns.specs.Lists.{holding};
+ghost use Rattle.rules.specs.Entries.{oids, ipids};
+ghost use Rattle.rules.specs.Sound.{proper, properGuids, interfacesHeld, membersLive, heardRecently, listsKept};
+ghost use Rattle.table.specs.View.{memory, view, soundMemory};
+ghost use Rattle.table.specs.Clauses.{exporterClauses, objectClauses, interfaceClauses, setClauses, recent, heldWords};
+
+// Nonzero and distinct.
+fn are_proper(col: &[u64]) -> bool
+    ensures { λ r. ⌜ r ≡ proper (now (col .entry)) ⌝ }
+{
+    if !columns::all_nonzero(col) {
+        return false;
+    }
+    columns::all_distinct(col)
+}
+
+// Each exporter's list keeps the list rules; it ends within the exporter's slot.
+fn lists_kept<'a>(words: &'a [u64], store: &'a [u8]) -> bool
+    requires { ⌜ (length (now words) ≡ 8192) × (length (now store) ≡ 8192) ⌝ }
+    ensures { λ r. ⌜ r ≡ listsKept (view (memory (now (words .entry)) (now (store .entry)))) ⌝ }
+{
+    let n = layout::exporter_count(words);
+    let mut i = 0;
+    while i < n {
+        let from = layout::SLOT * i;
+        let to = from + layout::SLOT;
+        if bindings::front_answer(&store[from..to]) != 0 {
+            return false;
+        }
+        i += 1;
+    }
+    true
+}
+
+fn exporters_sound<'a>(words: &'a [u64], store: &'a [u8]) -> bool
+    requires { ⌜ (length (now words) ≡ 8192) × (length (now store) ≡ 8192) ⌝ }
+    ensures { λ r. ⌜ r ≡ holding (exporterClauses (view (memory (now (words .entry)) (now (store .entry))))) ⌝ }
+{
+    let n = layout::exporter_count(words);
+    if !are_proper(layout::column(words, layout::OXIDS, n)) {
+        return false;
+    }
+    lists_kept(words, store)
+}
+
+// An object with this no-ping mark, heard at this time, does not go at the clock.
+fn is_recent(clock: u64, mark: u64, heard: u64) -> bool
+    ensures { λ r. ⌜ r ≡ recent clock mark heard ⌝ }
+{
+    if mark != 0 {
+        return true;
+    }
+    columns::is_within(heard, clock, layout::TIMEOUT)
+}
+
+// Pinged objects were heard under 360 seconds before the clock.
+fn heard_recently(words: &[u64]) -> bool
+    requires { ⌜ length (now words) ≡ 8192 ⌝ }
+    ensures { λ r. ⌜ ((s : List ℕ) → r ≡ heardRecently (view (memory (now (words .entry)) s))) ⌝ }
+{
+    let n = layout::object_count(words);
+    let clock = words[layout::CLOCK];
+    let mut i = 0;
+    while i < n {
+        if !is_recent(
+            clock,
+            words[layout::NO_PING_MARKS + i],
+            words[layout::HEARD_TIMES + i],
+        ) {
+            return false;
+        }
+        i += 1;
+    }
+    true
+}
+
+fn objects_sound(words: &[u64]) -> bool
+    requires { ⌜ length (now words) ≡ 8192 ⌝ }
+    ensures { λ r. ⌜ ((s : List ℕ) → r ≡ holding (objectClauses (view (memory (now (words .entry)) s)))) ⌝ }
+{
+    let exporters = layout::exporter_count(words);
+    let objects = layout::object_count(words);
+    let interfaces = layout::interface_count(words);
+    let oxids = layout::column(words, layout::OXIDS, exporters);
+    let oids = layout::column(words, layout::OIDS, objects);
+    let owners = layout::column(words, layout::OBJECT_EXPORTERS, objects);
+    let times = layout::column(words, layout::HEARD_TIMES, objects);
+    let named = layout::column(words, layout::INTERFACE_OBJECTS, interfaces);
+    let clock = words[layout::CLOCK];
+    if !are_proper(oids) {
+        return false;
+    }
+    if !columns::all_in(owners, oxids) {
+        return false;
+    }
+    if !columns::all_in(oids, named) {
+        return false;
+    }
+    if !columns::all_at_most(times, clock) {
+        return false;
+    }
+    heard_recently(words)
+}
+
+// A count of 32 bits, public or private, is not zero.
+fn is_held(public: u64, private: u64) -> bool
+    ensures { λ r. ⌜ r ≡ heldWords public private ⌝ }
+{
+    if public % 4294967296 != 0 {
+        return true;
+    }
+    private % 4294967296 != 0
+}
+
+// Each interface has a nonzero count.
+fn interfaces_held(words: &[u64]) -> bool
+    requires { ⌜ length (now words) ≡ 8192 ⌝ }
+    ensures { λ r. ⌜ ((s : List ℕ) → r ≡ interfacesHeld (view (memory (now (words .entry)) s))) ⌝ }
+{
+    let n = layout::interface_count(words);
+    let mut i = 0;
+    while i < n {
+        if !is_held(
+            words[layout::PUBLIC_COUNTS + i],
+            words[layout::PRIVATE_COUNTS + i],
+        ) {
+            return false;
+        }
+        i += 1;
+    }
+    true
+}
+
+// Remote-unknown and interface IPIDs are one kind: none is nil, and no two are the same.
+fn ipids_proper(words: &[u64]) -> bool
+    requires { ⌜ length (now words) ≡ 8192 ⌝ }
+    ensures { λ r. ⌜ ((s : List ℕ) → r ≡ properGuids (ipids (view (memory (now (words .entry)) s)))) ⌝ }
+{
+    let n = layout::exporter_count(words);
+    let m = layout::interface_count(words);
+    let unknown_lows = layout::column(words, layout::UNKNOWN_LOWS, n);
+    let unknown_highs = layout::column(words, layout::UNKNOWN_HIGHS, n);
+    let lows = layout::column(words, layout::IPID_LOWS, m);
+    let highs = layout::column(words, layout::IPID_HIGHS, m);
+    if !columns::guids_not_nil(unknown_lows, unknown_highs) {
+        return false;
+    }
+    if !columns::guids_not_nil(lows, highs) {
+        return false;
+    }
+    if !columns::guids_distinct(unknown_lows, unknown_highs) {
+        return false;
+    }
+    if !columns::guids_distinct(lows, highs) {
+        return false;
+    }
+    columns::guids_apart(unknown_lows, unknown_highs, lows, highs)
+}
+
+fn interfaces_sound(words: &[u64]) -> bool
+    requires { ⌜ length (now words) ≡ 8192 ⌝ }
+    ensures { λ r. ⌜ ((s : List ℕ) → r ≡ holding (interfaceClauses (view (memory (now (words .entry)) s)))) ⌝ }
+{
+    let objects = layout::object_count(words);
+    let interfaces = layout::interface_count(words);
+    let oids = layout::column(words, layout::OIDS, objects);
+    let owners = layout::column(words, layout::INTERFACE_OBJECTS, interfaces);
+    if !ipids_proper(words) {
+        return false;
+    }
+    if !columns::all_in(owners, oids) {
+        return false;
+    }
+    interfaces_held(words)
+}
+
+// The members of each set are live objects, where no live object has OID 0.
+fn members_live(words: &[u64]) -> bool
+    requires { ⌜ (length (now words) ≡ 8192) × (proper (oids (view (memory (now words) (now words)))) ≡ true) ⌝ }
+    ensures { λ r. ⌜ ((s : List ℕ) → r ≡ membersLive (view (memory (now (words .entry)) s))) ⌝ }
+{
+    let n = layout::set_count(words);
+    let objects = layout::object_count(words);
+    let mut i = 0;
+    while i < n {
+        let members = Members {
+            low: words[layout::MEMBER_LOWS + i],
+            high: words[layout::MEMBER_HIGHS + i],
+        };
+        if !members.below(objects) {
+            return false;
+        }
+        i += 1;
+    }
+    true
+}
+
+fn sets_sound(words: &[u64]) -> bool
+    requires { ⌜ (length (now words) ≡ 8192) × (proper (oids (view (memory (now words) (now words)))) ≡ true) ⌝ }
+    ensures { λ r. ⌜ ((s : List ℕ) → r ≡ holding (setClauses (view (memory (now (words .entry)) s)))) ⌝ }
+{
+    let n = layout::set_count(words);
+    let clock = words[layout::CLOCK];
+    let next = words[layout::NEXT_SET];
+    let numbers = layout::column(words, layout::SET_NUMBERS, n);
+    let times = layout::column(words, layout::PING_TIMES, n);
+    if !are_proper(numbers) {
+        return false;
+    }
+    if !columns::all_at_most(times, clock) {
+        return false;
+    }
+    if !columns::all_within(times, clock, layout::TIMEOUT) {
+        return false;
+    }
+    if !columns::all_below(numbers, next) {
+        return false;
+    }
+    if next == 0 {
+        return false;
+    }
+    members_live(words)
+}
+
+// Whether a lent table is sound: both lengths are 8,192, and every clause holds of the live entries.
+pub fn sound<'a>(words: &'a [u64], store: &'a [u8]) -> bool
+    ensures { λ r. ⌜ r ≡ soundMemory (memory (now (words .entry)) (now (store .entry))) ⌝ }
+{
+    if words.len() != layout::WORDS {
+        return false;
+    }
+    if store.len() != layout::BYTES {
+        return false;
+    }
+    if !exporters_sound(words, store) {
+        return false;
+    }
+    if !objects_sound(words) {
+        return false;
+    }
+    if !interfaces_sound(words) {
+        return false;
+    }
+    sets_sound(words)
+}

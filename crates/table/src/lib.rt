@@ -1,0 +1,121 @@
+// The table of live entries: an array of 8,192 words and a store of 8,192 bytes, both lent by the caller.
+use columns::members::Members;
+use kinds::SetId;
+use kinds::answer;
+ghost use mathlib.Core.Path.{_≡_};
+ghost use mathlib.Core.List.{List};
+ghost use Prim.Native.Nat.{ℕ};
+ghost use lib.ListN.{length};
+ghost use Rattle.rules.specs.Calls.{Call, numbered};
+ghost use Rattle.table.specs.View.{memory, view, Performed};
+ghost use Rattle.table.specs.Replies.{censusReply, membersReply, countsOf, memberCountOf};
+
+pub mod judge;
+pub mod layout;
+
+// The live numbers of the four kinds.
+pub struct LiveCounts {
+    pub answer: u32,
+    pub exporters: usize,
+    pub objects: usize,
+    pub interfaces: usize,
+    pub sets: usize,
+}
+
+// The number of a set's members.
+pub struct MemberCount {
+    pub answer: u32,
+    pub count: usize,
+}
+
+// Empties the table and sets its clock: 0, or 1 where a length is wrong. It looks at nothing but the lengths.
+pub fn reset<'a>(words: &'a mut [u64], store: &'a [u8], time: u64) -> u32
+    ensures { λ r. ⌜
+        Performed (Call.reset time) (memory (now (words .entry)) (now (store .entry))) (numbered r)
+        (memory (now (words .exit)) (now (store .entry))) ⌝ }
+{
+    if words.len() != layout::WORDS {
+        return answer::UNSOUND;
+    }
+    if store.len() != layout::BYTES {
+        return answer::UNSOUND;
+    }
+    words[layout::CLOCK] = time;
+    words[layout::NEXT_SET] = 1;
+    words[layout::EXPORTERS] = 0;
+    words[layout::OBJECTS] = 0;
+    words[layout::INTERFACES] = 0;
+    words[layout::SETS] = 0;
+    answer::DONE
+}
+
+// The live number of each kind: 0, or 1.
+pub fn census<'a>(words: &'a [u64], store: &'a [u8]) -> LiveCounts
+    ensures { λ r. ⌜
+        Performed Call.census (memory (now (words .entry)) (now (store .entry))) (censusReply r)
+        (memory (now (words .entry)) (now (store .entry))) ⌝ }
+{
+    if !judge::sound(words, store) {
+        return LiveCounts {
+            answer: answer::UNSOUND,
+            exporters: 0,
+            objects: 0,
+            interfaces: 0,
+            sets: 0,
+        };
+    }
+    counted(words)
+}
+
+// The live numbers of an array of the right length.
+fn counted(words: &[u64]) -> LiveCounts
+    requires { ⌜ length (now words) ≡ 8192 ⌝ }
+    ensures { λ r. ⌜ ((s : List ℕ) → r ≡ countsOf (view (memory (now (words .entry)) s))) ⌝ }
+{
+    LiveCounts {
+        answer: answer::DONE,
+        exporters: layout::exporter_count(words),
+        objects: layout::object_count(words),
+        interfaces: layout::interface_count(words),
+        sets: layout::set_count(words),
+    }
+}
+
+// The number of members of a set: 0, or 1; 11.
+pub fn members<'a>(words: &'a [u64], store: &'a [u8], set: SetId) -> MemberCount
+    ensures { λ r. ⌜
+        Performed (Call.members (set .0)) (memory (now (words .entry)) (now (store .entry))) (membersReply r)
+        (memory (now (words .entry)) (now (store .entry))) ⌝ }
+{
+    if !judge::sound(words, store) {
+        return MemberCount {
+            answer: answer::UNSOUND,
+            count: 0,
+        };
+    }
+    member_count(words, set.0)
+}
+
+// The same for a table that is sound.
+fn member_count(words: &[u64], set: u64) -> MemberCount
+    requires { ⌜ length (now words) ≡ 8192 ⌝ }
+    ensures { λ r. ⌜ ((s : List ℕ) → r ≡ memberCountOf (view (memory (now (words .entry)) s)) set) ⌝ }
+{
+    let n = layout::set_count(words);
+    let end = layout::SET_NUMBERS + n;
+    let i = columns::index_of(&words[layout::SET_NUMBERS..end], set);
+    if n <= i {
+        return MemberCount {
+            answer: answer::NO_SET,
+            count: 0,
+        };
+    }
+    let members = Members {
+        low: words[layout::MEMBER_LOWS + i],
+        high: words[layout::MEMBER_HIGHS + i],
+    };
+    MemberCount {
+        answer: answer::DONE,
+        count: members.size(),
+    }
+}
