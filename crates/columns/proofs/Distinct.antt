@@ -1,18 +1,18 @@
 -- Laws of distinct elements, and of tests that decide equality.
 use Prim.Native.Nat.{ℕ, zero, suc, _<_}
 use mathlib.Core.Path.{_≡_, refl, sym, ap, _∙_}
-use mathlib.Core.Bool.{Bool, true, false, not, _&&_, _||_, and-false, and-true, true≢false}
+use mathlib.Core.Bool.{Bool, true, false, cond, not, _&&_, _||_, and-false, and-true, true≢false}
 use mathlib.Core.List.{List, [], _∷_, _++_, map}
 use mathlib.Core.Logic.{⊎-elim}
 use native.Mathlib.Omega.{arith}
 use borrow.Author.Tests.{eq-eqb, ne-eqb, eqb-true, not-true}
-use lib.ListN.{getD, length}
+use lib.ListN.{getD, length, set, length-map}
 use lib.Dec.{eqb}
-use Rattle.kinds.proofs.Refusing.{same-test}
+use Rattle.kinds.proofs.Refusing.{same-test, or-false}
 use Rattle.columns.specs.Lists.{apart, keep, some, every, firstIndex, distinct, deleteAt, skip}
 use Rattle.columns.proofs.Tests.{true-or-false, same-or-not, and-intro, and-left, and-right}
-use Rattle.columns.proofs.First.{first-only}
-use Rattle.columns.proofs.Lists.{every-ext, some-at, some-map, some-append, some-one, some-none, none-some, some-kept-none, some-delete, some-delete-none, length-delete, getD-delete, skip-not, skip-lt, every-from-at}
+use Rattle.columns.proofs.First.{first-at, first-only}
+use Rattle.columns.proofs.Lists.{every-append, every-map, every-mono, every-kept, every-ext, some-cons, some-snoc, some-at, some-map, some-append, some-one, some-none, none-some, some-kept-none, some-delete, some-kept, keep-map, keep-passes, getD-map, map-only, delete-keep, some-delete-none, length-delete, getD-delete, skip-not, skip-lt, every-from-at}
 
 -- ---- tests that decide equality
 
@@ -167,3 +167,104 @@ pub first-same : {A : Type 0} (same : A → A → Bool) → Decides same → (xs
 first-same same dec xs d j u h =
     first-only (same (getD xs j d)) d xs j h (dec .self (getD xs j d))
     (λ k b t. sym (distinct-at same dec xs d u j k h b (dec .sound (getD xs j d) (getD xs k d) t)))
+
+-- ---- insertion and parts
+
+-- an element put between two lists whose elements are distinct and not the same as it
+pub distinct-mid : {A : Type 0} (same : A → A → Bool) → Decides same → (x : A) (xs ys : List A) → distinct same (xs ++ ys) ≡ true → some (same x) (xs ++ ys) ≡ false → distinct same ((xs ++ (x ∷ [])) ++ ys) ≡ true
+distinct-mid same dec x [] ys u n = distinct-cons same x ys n u
+distinct-mid same dec x (y ∷ xs) ys u n =
+    let h = or-false (some (same y) xs) (some (same y) ys) (sym (some-append (same y) xs ys) ∙ distinct-head same y (xs ++ ys) u) in
+    let g = or-false (same x y) (some (same x) (xs ++ ys)) (sym (some-cons (same x) y (xs ++ ys)) ∙ n) in
+    distinct-cons same y ((xs ++ (x ∷ [])) ++ ys)
+    (some-append (same y) (xs ++ (x ∷ [])) ys
+    ∙ rw (some-snoc (same y) xs x, h .0, h .1, same-comm same dec y x, g .0))
+    (distinct-mid same dec x xs ys (distinct-tail same y (xs ++ ys) u) (g .1))
+
+-- ys is a part of xs: it passes the tests of every element that xs passes, and its elements are distinct where those of xs are
+pub record Part {A : Type 0} (ys xs : List A) : Type 0 where
+  pub passes : (p : A → Bool) → every p xs ≡ true → every p ys ≡ true
+  pub differs : (same : A → A → Bool) → distinct same xs ≡ true → distinct same ys ≡ true
+
+-- a list is a part of itself
+pub part-whole : {A : Type 0} (xs : List A) → Part xs xs
+part-whole xs = record { passes = λ p e. e; differs = λ same e. e }
+
+-- the images of the kept elements
+pub part-keep : {A B : Type 0} (f : A → B) (q : A → Bool) (xs : List A) → Part (map f (keep q xs)) (map f xs)
+part-keep f q xs =
+    record {
+      passes = λ p e. every-map p f (keep q xs) ∙ every-kept (λ x. p (f x)) q xs (sym (every-map p f xs) ∙ e);
+      differs = λ same e. distinct-map-keep same f q xs e;
+    }
+
+-- parts of two lists one after the other
+pub part-append : {A : Type 0} {zs xs ws ys : List A} → Part zs xs → Part ws ys → Part (zs ++ ws) (xs ++ ys)
+part-append {A} {zs} {xs} {ws} {ys} s t =
+    record {
+      passes = λ p e.
+          let h = sym (every-append p xs ys) ∙ e in
+          every-append p zs ws
+          ∙ and-intro (every p zs) (every p ws)
+          (s .passes p (and-left (every p xs) (every p ys) h))
+          (t .passes p (and-right (every p xs) (every p ys) h));
+      differs = λ same e.
+          let h = sym (distinct-append same xs ys) ∙ e in
+          let g = and-left (distinct same xs && distinct same ys) (apart same xs ys) h in
+          let clear : A → Bool = λ x. not (some (same x) ys) in
+          distinct-append same zs ws
+          ∙ rw (
+            s .differs same (and-left (distinct same xs) (distinct same ys) g),
+            t .differs same (and-right (distinct same xs) (distinct same ys) g),
+          )
+          (every-mono clear (λ x. not (some (same x) ws))
+          (λ x n. ap not (none-some (same x) ws (t .passes (λ y. not (same x y)) (some-none (same x) ys (not-true (some (same x) ys) n)))))
+          zs
+          (s .passes clear (and-right (distinct same xs && distinct same ys) (apart same xs ys) h)));
+    }
+
+-- an element is among the kept ones where it passes and is among all
+pub some-same-keep : {A : Type 0} (same : A → A → Bool) → Decides same → (p : A → Bool) (x : A) (xs : List A) → some (same x) (keep p xs) ≡ (p x && some (same x) xs)
+some-same-keep same dec p x xs =
+    ⊎-elim
+    (λ t. some-kept (same x) p (λ y v. ap p (sym (dec .sound x y v)) ∙ t) xs ∙ sym (rw t))
+    (λ f.
+    none-some (same x) (keep p xs)
+    (every-mono p (λ y. not (same x y)) (λ y v. ap not (same-ne same dec x y (λ e. true≢false (sym v ∙ ap p (sym e) ∙ f)))) (keep p xs) (keep-passes p xs))
+    ∙ sym (rw f))
+    (true-or-false (p x))
+
+-- the same of images, where the test is one of the images
+pub some-same-keep-map : {A B : Type 0} (same : B → B → Bool) → Decides same → (p : B → Bool) (f : A → B) (y : B) (xs : List A)
+    → some (same y) (map f (keep (λ x. p (f x)) xs)) ≡ (p y && some (same y) (map f xs))
+some-same-keep-map same dec p f y xs = ap (some (same y)) (sym (keep-map p f xs)) ∙ some-same-keep same dec p y (map f xs)
+
+-- ---- the entry of an identifier, among entries whose identifiers, by f, are distinct
+
+module _ {A B : Type 0} (same : B → B → Bool) (dec : Decides same) (f : A → B) (d : A) (x : B) (xs : List A) (h : firstIndex (same x) (map f xs) < length xs) where
+  -- it has the identifier
+  pub entry-here : same x (f (getD xs (firstIndex (same x) (map f xs)) d)) ≡ true
+  entry-here =
+      ap (same x) (sym (getD-map f xs d (f d) (firstIndex (same x) (map f xs)) h))
+      ∙ first-at (same x) (f d) (map f xs) (rw (length-map xs f) h)
+
+  module _ (u : distinct same (map f xs) ≡ true) where
+    -- no other has
+    pub entry-other : (j : ℕ) → j < length xs → (j ≡ firstIndex (same x) (map f xs) → ⊥) → same x (f (getD xs j d)) ≡ false
+    entry-other j b n =
+        same-ne same dec x (f (getD xs j d))
+        (λ e. n
+        (distinct-at same dec (map f xs) (f d) u j (firstIndex (same x) (map f xs)) (rw (length-map xs f) b) (rw (length-map xs f) h)
+        (getD-map f xs d (f d) j b ∙ sym e ∙ dec .sound x (f (getD xs (firstIndex (same x) (map f xs)) d)) entry-here
+        ∙ sym (getD-map f xs d (f d) (firstIndex (same x) (map f xs)) h))))
+
+    -- a change of it alone
+    pub entry-change : (g : A → A) → map (λ y. cond (same x (f y)) (g y) y) xs ≡ set xs (firstIndex (same x) (map f xs)) (g (getD xs (firstIndex (same x) (map f xs)) d))
+    entry-change g =
+        map-only (λ y. cond (same x (f y)) (g y) y) d (firstIndex (same x) (map f xs)) xs (λ j b n. rw (entry-other j b n))
+        ∙ rw entry-here
+
+    -- all but it
+    pub entry-remove : keep (λ y. not (same x (f y))) xs ≡ deleteAt (firstIndex (same x) (map f xs)) xs
+    entry-remove =
+        sym (delete-keep (λ y. not (same x (f y))) d (firstIndex (same x) (map f xs)) xs h (ap not entry-here) (λ j b n. ap not (entry-other j b n)))

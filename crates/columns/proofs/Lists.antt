@@ -8,6 +8,7 @@ use native.Mathlib.Omega.{arith}
 use borrow.Author.Tests.{lt-ltb, le-ltb, not-true, not-false}
 use lib.ListN.{getD, length, take, drop, set, length-drop, length-map}
 use lib.Seq.{take-nil, ext-getD, length-take-le, getD-take, getD-drop}
+use Rattle.kinds.proofs.Refusing.{by-test}
 use Rattle.columns.specs.Lists.{keep, some, every, tabulate, deleteAt, skip}
 use Rattle.columns.proofs.Tests.{true-or-false, below-or-not, and-intro, and-left, and-right, or-cases, or-left, or-right}
 
@@ -24,6 +25,11 @@ module _ {A : Type 0} (p : A → Bool) where
   pub every-one : (x : A) → every p (x ∷ []) ≡ p x
   unfolding every
   every-one x = and-true (p x)
+
+  -- of no elements
+  pub every-nil : every p [] ≡ true
+  unfolding every
+  every-nil = refl
 
   -- of a list with a last element
   pub every-snoc : (xs : List A) (x : A) → every p (xs ++ (x ∷ [])) ≡ (every p xs && p x)
@@ -164,6 +170,11 @@ module _ {A : Type 0} (p : A → Bool) where
   pub some-one : (x : A) → some p (x ∷ []) ≡ p x
   unfolding some
   some-one x = or-false (p x)
+
+  -- of a first element and others
+  pub some-cons : (x : A) (xs : List A) → some p (x ∷ xs) ≡ (p x || some p xs)
+  unfolding some
+  some-cons x xs = refl
 
   -- of a list with a last element
   pub some-snoc : (xs : List A) (x : A) → some p (xs ++ (x ∷ [])) ≡ (some p xs || p x)
@@ -333,6 +344,22 @@ pub getD-map : {A B : Type 0} (f : A → B) (xs : List A) (d : A) (z : B) (j : �
 getD-map f [] d z j h = absurd (omega arith)
 getD-map f (x ∷ xs) d z zero h = refl
 getD-map f (x ∷ xs) d z (suc j) h = getD-map f xs d z j (omega arith)
+
+-- a change that f does not read
+pub map-unread : {A B : Type 0} (f : A → B) (g : A → A) → ((x : A) → f (g x) ≡ f x) → (xs : List A) → map f (map g xs) ≡ map f xs
+map-unread f g h xs = map-map f g xs ∙ map-ext (λ x. f (g x)) f h xs
+
+-- a change of the elements that pass t
+module _ {A : Type 0} (t : A → Bool) (g : A → A) where
+  -- f does not read it
+  pub map-unread-at : {B : Type 0} (f : A → B) → ((x : A) → f (g x) ≡ f x) → (xs : List A) → map f (map (λ x. cond (t x) (g x) x) xs) ≡ map f xs
+  map-unread-at f h xs = map-unread f (λ x. cond (t x) (g x) x) (λ x. by-test (λ (y : A). f y ≡ f x) (t x) (g x) x (λ u. h x) (λ u. refl)) xs
+
+  -- it keeps what passes p
+  pub every-changed-at : (p : A → Bool) → ((x : A) → p x ≡ true → p (g x) ≡ true) → (xs : List A) → every p xs ≡ true → every p (map (λ x. cond (t x) (g x) x) xs) ≡ true
+  every-changed-at p h xs e =
+      every-map p (λ x. cond (t x) (g x) x) xs
+      ∙ every-mono p (λ x. p (cond (t x) (g x) x)) (λ x v. by-test (λ (y : A). p y ≡ true) (t x) (g x) x (λ u. h x v) (λ u. v)) xs e
 
 -- a change that leaves each element that r passes
 pub map-id-on : {A : Type 0} (r : A → Bool) (g : A → A) → ((x : A) → r x ≡ true → g x ≡ x) → (xs : List A) → every r xs ≡ true → map g xs ≡ xs
@@ -559,3 +586,12 @@ module _ {A : Type 0} where
   delete-keep p d (suc k) (x ∷ xs) h f t =
       ap (λ (l : List A). x ∷ l) (delete-keep p d k xs (omega arith) f (λ j b n. t (suc j) (omega arith) (λ q. n (omega arith))))
       ∙ sym (keep-yes p x xs (t zero (omega arith) (omega arith)))
+
+  -- where every element passes but the one put at k
+  pub keep-set : (p : A → Bool) (k : ℕ) (xs : List A) (y : A) → k < length xs → p y ≡ false → every p xs ≡ true → keep p (set xs k y) ≡ deleteAt k xs
+  unfolding every deleteAt
+  keep-set p k [] y h f e = absurd (omega arith)
+  keep-set p zero (x ∷ xs) y h f e = keep-no p y xs f ∙ keep-all p xs (and-right (p x) (every p xs) e)
+  keep-set p (suc k) (x ∷ xs) y h f e =
+      keep-yes p x (set xs k y) (and-left (p x) (every p xs) e)
+      ∙ ap (λ (l : List A). x ∷ l) (keep-set p k xs y (omega arith) f (and-right (p x) (every p xs) e))

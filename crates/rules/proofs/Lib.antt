@@ -1,2 +1,9 @@
 pub mod Performing
 pub mod SoundLaws
+pub mod Groups
+pub mod Entering
+pub mod Leaving
+pub mod Pinging
+pub mod Keeps
+pub mod ByRow
+pub mod PingRows

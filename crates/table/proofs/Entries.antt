@@ -32,7 +32,7 @@ sets-length ws = made-length _ _ ws (setCount ws)
 
 -- ---- the entry that stands at a row
 
-made-at : {A : Type 0} (entry : List ℕ → A) (k : Kind) (ws : List ℕ) (n i : ℕ) (d : A) → i < n → getD (map entry (rows k ws n)) i d ≡ entry (rowAt k ws i)
+pub made-at : {A : Type 0} (entry : List ℕ → A) (k : Kind) (ws : List ℕ) (n i : ℕ) (d : A) → i < n → getD (map entry (rows k ws n)) i d ≡ entry (rowAt k ws i)
 made-at entry k ws n i d h = getD-map entry (rows k ws n) [] d i (rw (length-rows k ws n) h) ∙ ap entry (rows-getD k ws n i h)
 
 pub exporter-at : (ws store : List ℕ) (i : ℕ) (d : Exporter) → i < exporterCount ws → getD (exportersOf ws store) i d ≡ asExporter (rowAt exporterKind ws i) (listAt store i)

@@ -6,10 +6,10 @@ use mathlib.Core.List.{List, [], _∷_}
 use native.Mathlib.Omega.{arith}
 use borrow.Author.Tests.{eq-eqb}
 use lib.ListN.{length, set, drop, length-set}
-use Rattle.columns.specs.Lists.{tabulate, every, distinct, holding}
+use Rattle.columns.specs.Lists.{tabulate}
 use Rattle.columns.specs.Rows.{rows}
 use Rattle.rules.specs.Entries.{fresh}
-use Rattle.rules.specs.Sound.{sound}
+use Rattle.rules.proofs.Keeps.{fresh-sound}
 use Rattle.rules.specs.Contract as contract
 use Rattle.table.specs.View.{exportersOf, objectsOf, interfacesOf, setsOf, memory, view, soundMemory}
 
@@ -29,10 +29,6 @@ cleared-front (a ∷ b ∷ c ∷ d ∷ e ∷ f ∷ ws) t h = refl
 no-entries : (t : ℕ) (rest store : List ℕ) → view (memory (t ∷ 1 ∷ 0 ∷ 0 ∷ 0 ∷ 0 ∷ rest) store) ≡ fresh t
 unfolding exportersOf objectsOf interfacesOf setsOf rows tabulate
 no-entries t rest store = refl
-
-pub fresh-sound : (t : ℕ) → sound (fresh t) ≡ true
-unfolding sound holding every distinct
-fresh-sound t = refl
 
 module _ (ws store : List ℕ) (t : ℕ) (size : length ws ≡ 8192) where
   pub cleared-view : view (memory (cleared ws t) store) ≡ fresh t

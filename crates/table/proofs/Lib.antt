@@ -5,3 +5,10 @@ pub mod RowChecks
 pub mod SoundLaws
 pub mod FreePlaces
 pub mod Fresh
+pub mod EditRows
+pub mod EditViews
+pub mod EditChanges
+pub mod EditMembers
+pub mod EditLists
+pub mod EditCuts
+pub mod EditBelow

@@ -16,11 +16,13 @@ use Rattle.columns.specs.Rows.{rowAt, rows}
 use Rattle.columns.specs.Members.{memberRows}
 use Rattle.columns.specs.declared.rows.Kind.{Kind}
 use Rattle.columns.proofs.Tests.{below-or-not, and-intro, and-left}
-use Rattle.columns.proofs.Lists.{every-map, every-ext, map-tabulate, tabulate-ext, none-some}
+use Rattle.columns.proofs.Lists.{every-at, every-map, every-ext, map-tabulate, tabulate-ext, none-some}
 use Rattle.columns.proofs.Distinct.{eqb-decides, same-comm, some-same}
 use Rattle.columns.proofs.Loops.{table-step, table-end, every-passes, every-fails, every-end}
 use Rattle.columns.proofs.RowLaws.{rowAt-getD, length-rows}
-use Rattle.rules.specs.Entries.{Object, oids}
+use Rattle.rules.specs.Entries.{Exporter, Object, oids}
+use Rattle.rules.specs.Rules.{noExporter}
+use Rattle.table.proofs.Entries.{exporters-length, exporter-at}
 use Rattle.rules.specs.Sound.{heardRecently, interfacesHeld, membersLive, listsKept}
 use Rattle.table.specs.Clauses.{recent, heldWords}
 use Rattle.table.specs.View.{exporterKind, objectKind, interfaceKind, setKind, exporterCount, objectCount, interfaceCount, setCount, slot, listAt, asExporter, asObject, asInterface, asSet, exportersOf, objectsOf, interfacesOf, setsOf, memory, view}
@@ -145,3 +147,9 @@ unfolding exportersOf
 kept-rows ws store n e =
     table-checked _ (keptRow store) (λ i. asExporter (rowAt exporterKind ws i) (listAt store i)) n (exporterCount ws) e
     (λ i l. front-whole (slot store i) (simp length-take (omega arith)))
+
+-- the list of a live exporter is accepted at the front of its slot
+pub front-kept : (ws store : List ℕ) (i : ℕ) → i < exporterCount ws → listsKept (view (memory ws store)) ≡ true → frontAnswer (slot store i) ≡ 0
+front-kept ws store i h kept =
+    let here = every-at (λ (x : Exporter). eqb (listAnswer (x .bindings)) 0 && leb (length (x .bindings)) 512) (exportersOf ws store) noExporter i (rw (exporters-length ws store) h) kept in
+    eqb-true _ 0 (front-whole (slot store i) (simp length-take (omega arith)) ∙ (rw (exporter-at ws store i noExporter h) at here))

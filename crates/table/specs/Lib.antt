@@ -1,3 +1,5 @@
 pub mod View
 pub mod Clauses
 pub mod Replies
+pub mod Edits
+pub mod Found

@@ -10,6 +10,8 @@ ghost use Rattle.rules.specs.Calls.{Call, numbered};
 ghost use Rattle.table.specs.View.{memory, view, Performed};
 ghost use Rattle.table.specs.Replies.{censusReply, membersReply, countsOf, memberCountOf};
 
+pub mod edit;
+pub mod find;
 pub mod judge;
 pub mod layout;
 

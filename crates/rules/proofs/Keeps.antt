@@ -1,0 +1,76 @@
+-- Every accepted call leaves sound entries.
+use Prim.Native.Nat.{ℕ}
+use mathlib.Core.Path.{_≡_, refl}
+use mathlib.Core.Bool.{Bool, true}
+use mathlib.Core.List.{List}
+use native.Mathlib.Omega.{arith}
+use borrow.Author.Tests.{not-false, ltb-false}
+use lib.ListN.{length}
+use lib.Dec.{eqb}
+use Rattle.kinds.specs.declared.Guid.{Guid}
+use Rattle.kinds.proofs.Refusing.{or-false, passed, passed-on}
+use Rattle.bindings.specs.Bindings.{listAnswer}
+use Rattle.columns.specs.Lists.{every, distinct, holding, among}
+use Rattle.rules.specs.Entries.{Entries, fresh, oxids, oids}
+use Rattle.rules.specs.Calls.{Call, reset, enterExporter, removeExporter, enterObject, enterInterface, add, release, simplePing, complexPing, clock, resolve, census, members, nextStop}
+use Rattle.rules.specs.Sound.{longestList, sound}
+use Rattle.rules.specs.Rules.{refusals, number, next}
+use Rattle.rules.proofs.Groups.{Grouped, grouped, sound-grouped}
+use Rattle.rules.proofs.Entering.{exporter-entered, object-entered, interface-entered, counts-added}
+use Rattle.rules.proofs.Leaving.{exporter-removed, clock-set, counts-taken}
+use Rattle.rules.proofs.Pinging.{set-pinged, members-pinged}
+
+-- no entries are sound
+pub fresh-sound : (t : ℕ) → sound (fresh t) ≡ true
+unfolding sound holding every distinct
+fresh-sound t = refl
+
+-- the calls whose refusals say what they need
+module _ (e : Entries) (g : Grouped e) where
+  exporter-case : (x : ℕ) (u : Guid) (b : List ℕ) → number (enterExporter x u b) e ≡ 0 → Grouped (next (enterExporter x u b) e)
+  unfolding number refusals next
+  exporter-case x u b h =
+      let r = passed _ 3 _ (omega arith) h in
+      let s = passed-on (listAnswer b) _ (r .1) in
+      let l = passed _ 19 _ (omega arith) (s .1) in
+      let n = or-false _ _ (r .0) in
+      exporter-entered e _ g (n .0) (n .1) (s .0) (ltb-false longestList (length b) (l .0))
+
+  object-case : (o x : ℕ) (i iid : Guid) (n : ℕ) (np : Bool) → number (enterObject o x i iid n np) e ≡ 0 → Grouped (next (enterObject o x i iid n np) e)
+  unfolding number refusals next
+  object-case o x i iid n np h =
+      let r = passed _ 3 _ (omega arith) h in
+      let s = passed _ 4 _ (omega arith) (r .1) in
+      let c = passed _ 7 _ (omega arith) (s .1) in
+      let f = or-false _ _ (r .0) in
+      object-entered e _ _ g (f .0) (f .1) (not-false (among (oxids e) x) (s .0)) refl refl (c .0)
+
+  interface-case : (o : ℕ) (i iid : Guid) (n : ℕ) → number (enterInterface o i iid n) e ≡ 0 → Grouped (next (enterInterface o i iid n) e)
+  unfolding number refusals next
+  interface-case o i iid n h =
+      let r = passed _ 3 _ (omega arith) h in
+      let s = passed _ 5 _ (omega arith) (r .1) in
+      let c = passed _ 7 _ (omega arith) (s .1) in
+      interface-entered e _ g (r .0) (not-false (among (oids e) o) (s .0)) (c .0)
+
+  clock-case : (t : ℕ) → number (clock t) e ≡ 0 → Grouped (next (clock t) e)
+  unfolding number refusals
+  clock-case t h = clock-set e t g (ltb-false t (e .clock) (passed _ 2 _ (omega arith) h .0))
+
+-- each accepted call leaves sound entries
+pub keeps : (c : Call) (e : Entries) → sound e ≡ true → number c e ≡ 0 → sound (next c e) ≡ true
+unfolding next
+keeps (reset t) e s h = fresh-sound t
+keeps (enterExporter x u b) e s h = sound-grouped _ (exporter-case e (grouped e s) x u b h)
+keeps (removeExporter x) e s h = sound-grouped _ (exporter-removed e x (grouped e s))
+keeps (enterObject o x i iid n np) e s h = sound-grouped _ (object-case e (grouped e s) o x i iid n np h)
+keeps (enterInterface o i iid n) e s h = sound-grouped _ (interface-case e (grouped e s) o i iid n h)
+keeps (add i p q) e s h = sound-grouped _ (counts-added e i p q (grouped e s))
+keeps (release i p q) e s h = sound-grouped _ (counts-taken e i _ (λ r. refl) (grouped e s))
+keeps (simplePing k) e s h = sound-grouped _ (set-pinged e k (grouped e s))
+keeps (complexPing k n adds dels) e s h = sound-grouped _ (members-pinged e (eqb k 0) _ n adds dels (grouped e s))
+keeps (clock t) e s h = sound-grouped _ (clock-case e (grouped e s) t h)
+keeps (resolve x buffer) e s h = s
+keeps census e s h = s
+keeps (members k) e s h = s
+keeps (nextStop r) e s h = s

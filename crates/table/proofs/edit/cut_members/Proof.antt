@@ -1,0 +1,107 @@
+-- `table::edit::cut_members`: bit i is taken out of the members at the rows below r, and the others are as they were.
+use Prim.Native.Nat.{_≤_, _-_}
+use borrow.Author.Needs.{needs}
+use native.Mathlib.Omega.{arith}
+use lib.ListN.{length-set}
+use Rattle.table.proofs.EditCuts.{CutTo, cut-none, cut-one, cut-all}
+use Rattle.table.proofs.edit.cut_members.Statement.{statement}
+use Rattle.table.proofs.edit.cut_members.Tie as tie
+
+abbrev Inv-loop : tie.InvT-loop
+Inv-loop words₀ i n r₀ words r = (r ≤ n) × CutTo i words₀ words r
+
+abbrev μ-loop : tie.MeasureT-loop
+μ-loop words₀ i n r₀ words r = n - r
+
+set-count-requires : tie.Need-set-count-requires Inv-loop μ-loop
+set-count-requires c κs = search needs
+
+loop-holds : tie.Need-loop-holds Inv-loop μ-loop
+loop-holds c = (omega arith, cut-none _ _)
+
+add-t10 : tie.Need-add-t10 Inv-loop μ-loop
+add-t10 c = omega arith
+
+mul-t11 : tie.Need-mul-t11 Inv-loop μ-loop
+mul-t11 c = omega arith
+
+slice-read-t13 : tie.Need-slice-read-t13 Inv-loop μ-loop
+slice-read-t13 c = let s = c .before .before .loop .inv .1 .size in omega arith
+
+add-t14 : tie.Need-add-t14 Inv-loop μ-loop
+add-t14 c = omega arith
+
+mul-t15 : tie.Need-mul-t15 Inv-loop μ-loop
+mul-t15 c = omega arith
+
+slice-read-t17 : tie.Need-slice-read-t17 Inv-loop μ-loop
+slice-read-t17 c = let s = c .before .before .before .loop .inv .1 .size in omega arith
+
+cut-requires : tie.Need-cut-requires Inv-loop μ-loop
+cut-requires c κs = search needs
+
+add-words : tie.Need-add-words Inv-loop μ-loop
+add-words c = omega arith
+
+mul-words : tie.Need-mul-words Inv-loop μ-loop
+mul-words c = omega arith
+
+slice-write-words : tie.Need-slice-write-words Inv-loop μ-loop
+slice-write-words c = let s = c .before .before .before .before .loop .inv .1 .size in omega arith
+
+add-words-2 : tie.Need-add-words-2 Inv-loop μ-loop
+add-words-2 c = omega arith
+
+mul-words-2 : tie.Need-mul-words-2 Inv-loop μ-loop
+mul-words-2 c = omega arith
+
+slice-write-words-2 : tie.Need-slice-write-words-2 Inv-loop μ-loop
+slice-write-words-2 c = let s = c .before .before .before .before .loop .inv .1 .size in rw length-set (omega arith)
+
+add-r : tie.Need-add-r Inv-loop μ-loop
+add-r c = omega arith
+
+loop-less : tie.Need-loop-less Inv-loop μ-loop
+loop-less c = omega arith
+
+loop-again : tie.Need-loop-again Inv-loop μ-loop
+loop-again c =
+    let l = c .before .before .before .before .loop in
+    let s = l .inv .1 .size in
+    let start = c .before .before .before .before .before .before .before .before in
+    (omega arith, cut-one (l .words) (l .r) (c .cut .result) (omega arith) (omega arith) (start .args .i) _ (l .inv .1) (c .cut .ensures))
+
+same-length : tie.Need-same-length Inv-loop μ-loop
+same-length c = c .before .loop .inv .1 .size
+
+returns : tie.Need-returns Inv-loop μ-loop
+returns c =
+    let l = c .before .loop in
+    cut-all _ _ _ (l .r) (omega arith) (l .inv .1)
+
+pub cut-members-spec : {M : Type 1} → statement M
+cut-members-spec =
+    tie.close
+    (tie.spec
+    Inv-loop
+    μ-loop
+    set-count-requires
+    loop-holds
+    add-t10
+    mul-t11
+    slice-read-t13
+    add-t14
+    mul-t15
+    slice-read-t17
+    cut-requires
+    add-words
+    mul-words
+    slice-write-words
+    add-words-2
+    mul-words-2
+    slice-write-words-2
+    add-r
+    loop-less
+    loop-again
+    same-length
+    returns)

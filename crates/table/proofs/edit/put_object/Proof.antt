@@ -1,0 +1,43 @@
+-- `table::edit::put_object`: a row of the objects is entered.
+use native.Mathlib.Omega.{arith}
+use Rattle.table.proofs.EditMembers.{object-pushed}
+use borrow.Author.Needs.{needs}
+use Rattle.table.proofs.edit.put_object.Statement.{statement}
+use Rattle.table.proofs.edit.put_object.Tie as tie
+
+object-count-requires : tie.Need-object-count-requires
+object-count-requires c κs = search needs
+
+slice-read-t10 : tie.Need-slice-read-t10
+slice-read-t10 c = search needs
+
+object-kind-requires : tie.Need-object-kind-requires
+object-kind-requires c κs = search needs
+
+slice-aggregate-push-row : tie.Need-slice-aggregate-push-row
+slice-aggregate-push-row c = search needs
+
+push-row-requires : tie.Need-push-row-requires
+push-row-requires c κs = rw (c .before .object-kind .ensures) (search needs)
+
+same-length : tie.Need-same-length
+same-length c = search needs
+
+returns : tie.Need-returns
+returns c =
+    let b = c .before .before .before in
+    let f = b .before .before .before .before in
+    let e = f .object-count .ensures .0 in
+    object-pushed _ _ _ _ e (omega arith) (f .before .before .before .pre .2) (rw (b .before .object-kind .ensures) at (c .before .before .push-row .ensures))
+
+pub put-object-spec : {M : Type 1} → statement M
+put-object-spec =
+    tie.close
+    (tie.spec
+    object-count-requires
+    slice-read-t10
+    object-kind-requires
+    slice-aggregate-push-row
+    push-row-requires
+    same-length
+    returns)

@@ -1,0 +1,44 @@
+-- `table::edit::set_counts`: a store of words 5 and 6 of an interface's row.
+use native.Mathlib.Omega.{arith}
+use lib.ListN.{length-set}
+use Rattle.table.proofs.EditChanges.{counts-stored}
+use borrow.Author.Needs.{needs}
+use Rattle.table.proofs.edit.set_counts.Statement.{statement}
+use Rattle.table.proofs.edit.set_counts.Tie as tie
+
+add-words : tie.Need-add-words
+add-words c = search needs
+
+mul-words : tie.Need-mul-words
+mul-words c = search needs
+
+slice-write-words : tie.Need-slice-write-words
+slice-write-words c = search needs
+
+add-words-2 : tie.Need-add-words-2
+add-words-2 c = search needs
+
+mul-words-2 : tie.Need-mul-words-2
+mul-words-2 c = search needs
+
+slice-write-words-2 : tie.Need-slice-write-words-2
+slice-write-words-2 c = rw length-set (omega arith)
+
+same-length : tie.Need-same-length
+same-length c = search needs
+
+returns : tie.Need-returns
+returns c = counts-stored _ _ (c .pre .0) _ _ (omega arith) (omega arith) (c .pre .1)
+
+pub set-counts-spec : {M : Type 1} → statement M
+set-counts-spec =
+    tie.close
+    (tie.spec
+    add-words
+    mul-words
+    slice-write-words
+    add-words-2
+    mul-words-2
+    slice-write-words-2
+    same-length
+    returns)

@@ -1,0 +1,38 @@
+-- `find::interface_row`: the IPIDs of the interfaces are two columns.
+use mathlib.Core.Path.{ap, _∙_}
+use Rattle.columns.specs.Lists.{firstIndex}
+use Rattle.columns.specs.Guids.{sameGuid}
+use Rattle.table.proofs.Judging.{guids-read}
+use Rattle.table.proofs.ViewLaws.{ipids-columns}
+use borrow.Author.Needs.{needs}
+use Rattle.table.proofs.find.interface_row.Statement.{statement}
+use Rattle.table.proofs.find.interface_row.Tie as tie
+
+interface-count-requires : tie.Need-interface-count-requires
+interface-count-requires c κs = search needs
+
+column-requires : tie.Need-column-requires
+column-requires c κs = search needs
+
+column-requires-2 : tie.Need-column-requires-2
+column-requires-2 c κs = search needs
+
+guid-index-of-requires : tie.Need-guid-index-of-requires
+guid-index-of-requires c κs = search needs
+
+returns : tie.Need-returns
+returns c s =
+    let start = c .before .before .before .before .before in
+    let ws = start .args .words .now in
+    c .guid-index-of .ensures
+    ∙ ap (firstIndex (sameGuid (start .args .ipid))) (guids-read ws 768 1024 (c .before .before .column .ensures) (c .before .column2 .ensures) (c .before .before .before .interface-count .ensures .0) (ipids-columns ws (start .pre)))
+
+pub interface-row-spec : {M : Type 1} → statement M
+interface-row-spec =
+    tie.close
+    (tie.spec
+    interface-count-requires
+    column-requires
+    column-requires-2
+    guid-index-of-requires
+    returns)

@@ -1,0 +1,83 @@
+-- `find::ipid_taken`: nil, or in one of the two pairs of columns.
+use mathlib.Core.Path.{_≡_, sym, ap, _∙_}
+use mathlib.Core.Bool.{true, false}
+use mathlib.Core.List.{map}
+use Rattle.columns.specs.Lists.{some}
+use Rattle.columns.specs.Guids.{sameGuid}
+use Rattle.columns.proofs.Lists.{some-append}
+use Rattle.rules.specs.Entries.{Exporter}
+use Rattle.table.specs.View.{exportersOf}
+use Rattle.table.proofs.Judging.{guids-read}
+use Rattle.table.proofs.ViewLaws.{unknowns-columns, ipids-columns}
+use borrow.Author.Needs.{needs}
+use Rattle.table.proofs.find.ipid_taken.Statement.{statement}
+use Rattle.table.proofs.find.ipid_taken.Tie as tie
+
+exporter-count-requires : tie.Need-exporter-count-requires
+exporter-count-requires c κs = search needs
+
+interface-count-requires : tie.Need-interface-count-requires
+interface-count-requires c κs = search needs
+
+is-nil-requires : tie.Need-is-nil-requires
+is-nil-requires c κs = search needs
+
+returns : tie.Need-returns
+returns c s = rw (sym (c .before .is-nil .ensures) ∙ c .if1 .taken)
+
+column-requires : tie.Need-column-requires
+column-requires c κs = search needs
+
+column-requires-2 : tie.Need-column-requires-2
+column-requires-2 c κs = search needs
+
+has-guid-requires : tie.Need-has-guid-requires
+has-guid-requires c κs = search needs
+
+returns-2 : tie.Need-returns-2
+returns-2 c s =
+    let k = c .before .before .before in
+    let start = k .before .before .before .before .before .before in
+    let ws = start .args .words .now in
+    let g = start .args .ipid in
+    let unknowns = guids-read ws 32 48 (k .column .ensures) (c .before .before .column2 .ensures) (k .before .before .before .before .exporter-count .ensures .0) (unknowns-columns ws (start .pre) s) in
+    let here : some (sameGuid g) (map (λ (x : Exporter). x .unknown) (exportersOf ws s)) ≡ true = sym (ap (some (sameGuid g)) unknowns) ∙ sym (c .before .has-guid .ensures) ∙ c .if2 .taken in
+    rw (sym (k .before .before .is-nil .ensures) ∙ k .before .if1 .left, some-append, here)
+
+column-requires-3 : tie.Need-column-requires-3
+column-requires-3 c κs = search needs
+
+column-requires-4 : tie.Need-column-requires-4
+column-requires-4 c κs = search needs
+
+has-guid-requires-2 : tie.Need-has-guid-requires-2
+has-guid-requires-2 c κs = search needs
+
+returns-3 : tie.Need-returns-3
+returns-3 c s =
+    let second = c .before .before .before in
+    let k = second .before .before .before in
+    let start = k .before .before .before .before .before .before in
+    let ws = start .args .words .now in
+    let g = start .args .ipid in
+    let unknowns = guids-read ws 32 48 (k .column .ensures) (second .before .before .column2 .ensures) (k .before .before .before .before .exporter-count .ensures .0) (unknowns-columns ws (start .pre) s) in
+    let none : some (sameGuid g) (map (λ (x : Exporter). x .unknown) (exportersOf ws s)) ≡ false = sym (ap (some (sameGuid g)) unknowns) ∙ sym (second .before .has-guid .ensures) ∙ second .if2 .left in
+    let interfaces = guids-read ws 768 1024 (c .before .before .column3 .ensures) (c .before .column4 .ensures) (k .before .before .before .interface-count .ensures .0) (ipids-columns ws (start .pre)) in
+    rw (sym (k .before .before .is-nil .ensures) ∙ k .before .if1 .left, some-append, none) (c .has-guid2 .ensures ∙ ap (some (sameGuid g)) interfaces)
+
+pub ipid-taken-spec : {M : Type 1} → statement M
+ipid-taken-spec =
+    tie.close
+    (tie.spec
+    exporter-count-requires
+    interface-count-requires
+    is-nil-requires
+    returns
+    column-requires
+    column-requires-2
+    has-guid-requires
+    returns-2
+    column-requires-3
+    column-requires-4
+    has-guid-requires-2
+    returns-3)

@@ -1,0 +1,219 @@
+// Edits of array and store, by what they do to the live entries. Each leaves every other entry as it was.
+use crate::layout;
+use columns::members::Members;
+use columns::rows;
+use columns::rows::Kind;
+use kinds::Guid;
+ghost use mathlib.Core.Path.{_≡_};
+ghost use mathlib.Core.Bool.{true, not};
+ghost use mathlib.Core.List.{List, map};
+ghost use Prim.Native.Nat.{_-_, _^_, _<_, _≤_};
+ghost use lib.ListN.{length, getD};
+ghost use lib.Dec.{eqb};
+ghost use Rattle.columns.specs.Lists.{distinct};
+ghost use Rattle.columns.specs.Rows.{after};
+ghost use Rattle.columns.specs.Members.{memberRows};
+ghost use Rattle.bindings.specs.Bindings.{listAnswer};
+ghost use Rattle.rules.specs.Entries.{oids, heardAt, withCounts, pingedAt, withSequence, withMembers, withClock};
+ghost use Rattle.rules.specs.Rules.{makeSet};
+ghost use Rattle.table.specs.View.{exporterCount, objectCount, interfaceCount, setCount, memory, view};
+ghost use Rattle.table.specs.Edits.{Pushed, Pulled, membersBelow, Became, addExporter, addObject, addInterface, addSet, dropExporter, dropObject, dropInterface, dropSet, changeObject, changeInterface, changeSet, MembersCut};
+
+// Enters a row after the n live ones of a kind, whose count is the word at.
+fn push_row(words: &mut [u64], k: Kind, at: usize, n: usize, row: &[u64])
+    requires { ⌜ (at < k .base) × (n < k .places) × (k .places ≤ 256) × (length (now row) ≡ k .width) × (after k ≤ length (now words)) ⌝ }
+    ensures { λ _. ⌜ Pushed k at n (now (row .entry)) (now (words .entry)) (now (words .exit)) ⌝ }
+{
+    rows::put_row(words, k, n, row);
+    words[at] = (n + 1) as u64;
+}
+
+// Takes row i of the n live ones out.
+fn pull_row(words: &mut [u64], k: Kind, at: usize, n: usize, i: usize)
+    requires { ⌜ (at < k .base) × (i < n) × (n ≤ k .places) × (k .places ≤ 256) × (after k ≤ length (now words)) ⌝ }
+    ensures { λ _. ⌜ Pulled k at n i (now (words .entry)) (now (words .exit)) ⌝ }
+{
+    rows::remove_row(words, k, i);
+    words[at] = (n - 1) as u64;
+}
+
+// An object, heard now.
+pub fn put_object(words: &mut [u64], oid: u64, oxid: u64, mark: u64)
+    requires { ⌜ (length (now words) ≡ 8192) × (objectCount (now words) < 128) × (membersBelow (now words) ≡ true) ⌝ }
+    ensures { λ _. ⌜
+        Became
+        (addObject (record { oid = oid; exporter = oxid; noping = not (eqb mark 0); heard = getD (now (words .entry)) 0 0 }))
+        (now (words .entry)) (now (words .exit)) ⌝ }
+{
+    let n = layout::object_count(words);
+    let row = [oid, oxid, mark, words[layout::CLOCK]];
+    push_row(words, layout::object_kind(), layout::OBJECTS, n, &row);
+}
+
+pub fn put_interface(words: &mut [u64], ipid: Guid, iid: Guid, oid: u64, public: u32)
+    requires { ⌜ (length (now words) ≡ 8192) × (interfaceCount (now words) < 256) ⌝ }
+    ensures { λ _. ⌜
+        Became
+        (addInterface (record { ipid = ipid; iid = iid; object = oid; public = public; private = 0 }))
+        (now (words .entry)) (now (words .exit)) ⌝ }
+{
+    let n = layout::interface_count(words);
+    let row = [
+        ipid.low,
+        ipid.high,
+        iid.low,
+        iid.high,
+        oid,
+        public as u64,
+        0,
+    ];
+    push_row(words, layout::interface_kind(), layout::INTERFACES, n, &row);
+}
+
+// A set with the next number, which grows by one: pinged now, with sequence number 0 and no member.
+pub fn put_set(words: &mut [u64])
+    requires { ⌜ (length (now words) ≡ 8192) × (setCount (now words) < 32) × (getD (now words) 1 0 < 2 ^ 64 - 1) ⌝ }
+    ensures { λ _. ⌜ Became makeSet (now (words .entry)) (now (words .exit)) ⌝ }
+{
+    let n = layout::set_count(words);
+    let next = words[layout::NEXT_SET];
+    let row = [next, 0, words[layout::CLOCK], 0, 0];
+    push_row(words, layout::set_kind(), layout::SETS, n, &row);
+    words[layout::NEXT_SET] = next + 1;
+}
+
+// An exporter, with its list at the front of its slot.
+pub fn put_exporter<'a>(
+    words: &'a mut [u64],
+    store: &'a mut [u8],
+    oxid: u64,
+    unknown: Guid,
+    list: &'a [u8],
+)
+    requires { ⌜
+        (length (now words) ≡ 8192) × (length (now store) ≡ 8192) × (exporterCount (now words) < 16)
+        × (listAnswer (now list) ≡ 0) × (length (now list) ≤ 512) ⌝ }
+    ensures { λ _. ⌜
+        view (memory (now (words .exit)) (now (store .exit)))
+        ≡ addExporter (record { oxid = oxid; unknown = unknown; bindings = now (list .entry) }) (view (memory (now (words .entry)) (now (store .entry)))) ⌝ }
+{
+    let n = layout::exporter_count(words);
+    let from = n * layout::SLOT;
+    fields::copy(&mut store[from..], 0, list);
+    let row = [oxid, unknown.low, unknown.high];
+    push_row(words, layout::exporter_kind(), layout::EXPORTERS, n, &row);
+}
+
+// Takes exporter i out; the later lists move down by one slot.
+pub fn remove_exporter<'a>(words: &'a mut [u64], store: &'a mut [u8], i: usize)
+    requires { ⌜ (length (now words) ≡ 8192) × (length (now store) ≡ 8192) × (i < exporterCount (now words)) ⌝ }
+    ensures { λ _. ⌜
+        view (memory (now (words .exit)) (now (store .exit))) ≡ dropExporter i (view (memory (now (words .entry)) (now (store .entry)))) ⌝ }
+{
+    let n = layout::exporter_count(words);
+    let to = i * layout::SLOT;
+    let from = to + layout::SLOT;
+    let left = n * layout::SLOT - from;
+    columns::copy_down(store, from, to, left);
+    pull_row(words, layout::exporter_kind(), layout::EXPORTERS, n, i);
+}
+
+pub fn remove_interface(words: &mut [u64], i: usize)
+    requires { ⌜ (length (now words) ≡ 8192) × (i < interfaceCount (now words)) ⌝ }
+    ensures { λ _. ⌜ Became (dropInterface i) (now (words .entry)) (now (words .exit)) ⌝ }
+{
+    let n = layout::interface_count(words);
+    pull_row(words, layout::interface_kind(), layout::INTERFACES, n, i);
+}
+
+pub fn remove_set(words: &mut [u64], i: usize)
+    requires { ⌜ (length (now words) ≡ 8192) × (i < setCount (now words)) ⌝ }
+    ensures { λ _. ⌜ Became (dropSet i) (now (words .entry)) (now (words .exit)) ⌝ }
+{
+    let n = layout::set_count(words);
+    pull_row(words, layout::set_kind(), layout::SETS, n, i);
+}
+
+// Takes bit i out of the members of every live set; the higher bits move down by one.
+fn cut_members(words: &mut [u64], i: usize)
+    requires { ⌜ length (now words) ≡ 8192 ⌝ }
+    ensures { λ _. ⌜ MembersCut i (now (words .entry)) (now (words .exit)) ⌝ }
+{
+    let n = layout::set_count(words);
+    let mut r = 0;
+    while r < n {
+        let members = Members {
+            low: words[layout::MEMBER_LOWS + r],
+            high: words[layout::MEMBER_HIGHS + r],
+        };
+        let left = members.cut(i);
+        words[layout::MEMBER_LOWS + r] = left.low;
+        words[layout::MEMBER_HIGHS + r] = left.high;
+        r += 1;
+    }
+}
+
+// Takes object i out, and out of its sets.
+pub fn remove_object(words: &mut [u64], i: usize)
+    requires { ⌜
+        (length (now words) ≡ 8192) × (i < objectCount (now words)) × (membersBelow (now words) ≡ true)
+        × (distinct eqb (oids (view (memory (now words) (now words)))) ≡ true) ⌝ }
+    ensures { λ _. ⌜
+        Became (dropObject i) (now (words .entry)) (now (words .exit)) × (membersBelow (now (words .exit)) ≡ true) ⌝ }
+{
+    let n = layout::object_count(words);
+    pull_row(words, layout::object_kind(), layout::OBJECTS, n, i);
+    cut_members(words, i);
+}
+
+// The counts of interface i.
+pub fn set_counts(words: &mut [u64], i: usize, public: u32, private: u32)
+    requires { ⌜ (length (now words) ≡ 8192) × (i < interfaceCount (now words)) ⌝ }
+    ensures { λ _. ⌜ Became (changeInterface i (withCounts public private)) (now (words .entry)) (now (words .exit)) ⌝ }
+{
+    words[layout::PUBLIC_COUNTS + i] = public as u64;
+    words[layout::PRIVATE_COUNTS + i] = private as u64;
+}
+
+// The time at which object i was last heard.
+pub fn set_heard(words: &mut [u64], i: usize, time: u64)
+    requires { ⌜ (length (now words) ≡ 8192) × (i < objectCount (now words)) ⌝ }
+    ensures { λ _. ⌜ Became (changeObject i (heardAt time)) (now (words .entry)) (now (words .exit)) ⌝ }
+{
+    words[layout::HEARD_TIMES + i] = time;
+}
+
+// The time of set i's last ping.
+pub fn set_pinged(words: &mut [u64], i: usize, time: u64)
+    requires { ⌜ (length (now words) ≡ 8192) × (i < setCount (now words)) ⌝ }
+    ensures { λ _. ⌜ Became (changeSet i (pingedAt time)) (now (words .entry)) (now (words .exit)) ⌝ }
+{
+    words[layout::PING_TIMES + i] = time;
+}
+
+// The sequence number of set i.
+pub fn set_sequence(words: &mut [u64], i: usize, sequence: u16)
+    requires { ⌜ (length (now words) ≡ 8192) × (i < setCount (now words)) ⌝ }
+    ensures { λ _. ⌜ Became (changeSet i (withSequence sequence)) (now (words .entry)) (now (words .exit)) ⌝ }
+{
+    words[layout::SEQUENCES + i] = sequence as u64;
+}
+
+// The members of set i, by the objects' rows.
+pub fn set_members(words: &mut [u64], i: usize, members: Members)
+    requires { ⌜ (length (now words) ≡ 8192) × (i < setCount (now words)) ⌝ }
+    ensures { λ _. ⌜
+        Became
+        (changeSet i (withMembers (map (λ j. getD (oids (view (memory (now (words .entry)) (now (words .entry))))) j 0) (memberRows members))))
+        (now (words .entry)) (now (words .exit)) ⌝ }
+{
+    words[layout::MEMBER_LOWS + i] = members.low;
+    words[layout::MEMBER_HIGHS + i] = members.high;
+}
+
+pub fn set_clock(words: &mut [u64], time: u64)
+    requires { ⌜ length (now words) ≡ 8192 ⌝ }
+    ensures { λ _. ⌜ Became (withClock time) (now (words .entry)) (now (words .exit)) ⌝ }
+{
+    words[layout::CLOCK] = time;
+}
