@@ -10,3 +10,4 @@ pub mod RowLoops
 pub mod WordBits
 pub mod Bits
 pub mod Making
+pub mod Elements

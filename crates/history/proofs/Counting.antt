@@ -1,0 +1,260 @@
+-- Add and release: a count is what was granted less what was taken, and what is at zero goes.
+use Prim.Native.Nat.{ℕ, _+_, _-_, _≤_, min}
+use mathlib.Core.Path.{_≡_, refl, sym, ap, _∙_}
+use mathlib.Core.Bool.{Bool, true, false, cond, not, _&&_, _||_, and-true, and-false, or-false}
+use mathlib.Core.List.{List, map, Memᴰ·map}
+use mathlib.Core.Logic.{⊎-elim}
+use native.Mathlib.Omega.{arith}
+use borrow.Author.Tests.{eq-eqb, ne-eqb, eqb-true, eqb-false, le-leb, lt-leb}
+use lib.Dec.{eqb, leb}
+use Rattle.kinds.specs.declared.Guid.{Guid}
+use Rattle.kinds.proofs.Refusing.{by-test}
+use Rattle.columns.specs.Lists.{keep, some, every}
+use Rattle.columns.specs.Guids.{sameGuid}
+use Rattle.columns.proofs.Tests.{true-or-false, below-or-not, and-right}
+use Rattle.columns.proofs.Lists.{every-map, every-mono, some-map, some-keep, some-not, keep-map, keep-all, keep-keep, map-unread}
+use Rattle.columns.proofs.Distinct.{eqb-decides}
+use Rattle.rules.specs.Entries.{Interface, Entries, withInterfaces, withCounts}
+use Rattle.rules.specs.Calls.{add, release}
+use Rattle.rules.specs.Sound.{sound, held, hasInterface}
+use Rattle.rules.specs.Rules.{number, next, atInterface, withoutObjects, dropEmpty}
+use Rattle.rules.proofs.SoundLaws.{sound-fields}
+use Rattle.rules.proofs.Keeps.{keeps}
+use Rattle.rules.proofs.ByRow.{nothing-goes}
+use Rattle.history.specs.History.{ObjectLife, InterfaceLife, History, atZero, interfacesAtZero, exporterRemoved, unheard, objectGone, liveExporters, liveObjects, liveInterface, exporterEntry, objectEntry, interfaceEntry, live, granting, taking, atLiveInterface, lived}
+use Rattle.columns.proofs.Elements.{In, map-in, in-some, some-in, keep-in, in-keep, keep-ext-in, kept-changed, one-in}
+use Rattle.history.proofs.Lives.{Kept, kept-from, Bounded, still}
+use Rattle.history.proofs.Identities.{owner-oid, one-oid}
+use Rattle.history.proofs.Steps.{interfacesOver, chosen, Step, stepped}
+use Rattle.history.proofs.Leaving.{entriesOver, goes-along}
+
+-- an interface of which something is left is held
+held-zero : (h : History) (l : InterfaceLife) → held (interfaceEntry h l) ≡ not (atZero l)
+held-zero h l = (λ u. not (less (l .granted) (l .taken) u) || not (less (l .grantedPrivate) (l .takenPrivate) u)) ∙ nand (leb (l .granted) (l .taken)) (leb (l .grantedPrivate) (l .takenPrivate))
+  where
+    less : (g t : ℕ) → eqb (g - t) 0 ≡ leb g t
+    less g t =
+        ⊎-elim
+        (λ b. ne-eqb (g - t) 0 (omega arith) ∙ sym (lt-leb g t b))
+        (λ b. eq-eqb (g - t) 0 (omega arith) ∙ sym (le-leb g t b))
+        (below-or-not t g)
+
+    nand : (a b : Bool) → (not a || not b) ≡ not (a && b)
+    nand true b = refl
+    nand false b = refl
+
+-- ---- the live interface i changed by f, as its entry is by g
+
+pub record Change (h : History) (f : InterfaceLife → InterfaceLife) (g : Interface → Interface) : Type 0 where
+  pub ipid : (l : InterfaceLife) → f l .ipid ≡ l .ipid
+  pub object : (l : InterfaceLife) → f l .object ≡ l .object
+  pub bounded : (l : InterfaceLife) → Bounded l → Bounded (f l)
+  pub entry : (l : InterfaceLife) → Bounded l → interfaceEntry h (f l) ≡ g (interfaceEntry h l)
+
+module _ (h : History) (k : Kept h) (i : Guid) (f : InterfaceLife → InterfaceLife) (g : Interface → Interface) (c : Change h f g) where
+  abbrev change : InterfaceLife → InterfaceLife
+  change l = cond (sameGuid i (l .ipid) && liveInterface h l) (f l) l
+
+  abbrev changeEntry : Interface → Interface
+  changeEntry r = cond (sameGuid i (r .ipid)) (g r) r
+
+  -- its object stays
+  change-object : (l : InterfaceLife) → change l .object ≡ l .object
+  change-object l = by-test (λ (j : InterfaceLife). j .object ≡ l .object) (sameGuid i (l .ipid) && liveInterface h l) (f l) l (λ t. c .object l) (λ t. refl)
+
+  -- no more is taken than granted
+  change-bounded : (l : InterfaceLife) → In l (map change (h .interfaces)) → Bounded l
+  change-bounded l m =
+      let r = map-in change (h .interfaces) m in
+      let b = k .bounded (r .0) (r .1) in
+      rw (r .2) (by-test Bounded (sameGuid i (r .0 .ipid) && liveInterface h (r .0)) (f (r .0)) (r .0) (λ t. c .bounded (r .0) b) (λ t. b))
+
+  -- one that is not live stays
+  change-dead : (l : InterfaceLife) → liveInterface h l ≡ false → change l ≡ l
+  change-dead l t = ap (λ (b : Bool). cond (sameGuid i (l .ipid) && b) (f l) l) t ∙ ap (λ (b : Bool). cond b (f l) l) (and-false (sameGuid i (l .ipid)))
+
+  -- the entry of a live one changes along
+  change-entry : (l : InterfaceLife) → In l (h .interfaces) → liveInterface h l ≡ true → interfaceEntry h (change l) ≡ changeEntry (interfaceEntry h l)
+  change-entry l m t = chosen (interfaceEntry h) (sameGuid i (l .ipid)) (liveInterface h l) (f l) l (g (interfaceEntry h l)) t (c .entry l (k .bounded l m))
+
+  -- an object whose interfaces are at zero after the change
+  change-zero : (o : ObjectLife) → interfacesAtZero (atLiveInterface i f h) o ≡ every (λ (l : InterfaceLife). not (eqb (l .object) (o .serial)) || atZero (change l)) (h .interfaces)
+  change-zero o =
+      every-map (λ (l : InterfaceLife). not (eqb (l .object) (o .serial)) || atZero l) change (h .interfaces)
+      ∙ (λ u. every (λ (l : InterfaceLife). not (eqb (change-object l u) (o .serial)) || atZero (change l)) (h .interfaces))
+
+  -- the history after the change
+  change-kept : (p : ObjectLife → Bool) → liveObjects (atLiveInterface i f h) ≡ keep p (liveObjects h) → sound (live (atLiveInterface i f h)) ≡ true → Kept (atLiveInterface i f h)
+  change-kept p e s =
+      kept-from h (atLiveInterface i f h) k refl refl (map-unread (λ (l : InterfaceLife). l .object) change change-object (h .interfaces)) change-bounded (k .members)
+      (λ o m. Memᴰ·map still (keep-in p (liveObjects h) (rw e at m) .0)) s
+
+  -- the interfaces of live objects that are not at zero are those held
+  change-interfaces : interfacesOver (liveObjects h) (h .objects) (map change (h .interfaces)) ≡ keep held (map changeEntry (live h .interfaces))
+  unfolding live
+  change-interfaces =
+      kept-changed change (liveInterface h) (liveInterface h) (interfaceEntry h) (interfaceEntry h) (λ r. held (changeEntry r)) changeEntry (h .interfaces)
+      (λ l m.
+      ⊎-elim
+      (λ t.
+      ap (λ (n : ℕ). not (atZero (change l)) && some (λ (o : ObjectLife). eqb (o .serial) n) (liveObjects h)) (change-object l)
+      ∙ ap (λ (b : Bool). not (atZero (change l)) && b) (and-right (not (atZero l)) _ t)
+      ∙ and-true (not (atZero (change l)))
+      ∙ sym (held-zero h (change l))
+      ∙ ap held (change-entry l m t)
+      ∙ sym (ap (λ (b : Bool). b && held (changeEntry (interfaceEntry h l))) t))
+      (λ t. ap (liveInterface h) (change-dead l t) ∙ t ∙ sym (ap (λ (b : Bool). b && held (changeEntry (interfaceEntry h l))) t))
+      (true-or-false (liveInterface h l)))
+      (λ l m t u. change-entry l m t)
+      ∙ sym (keep-map held changeEntry (map (interfaceEntry h) (keep (liveInterface h) (h .interfaces))))
+
+  -- the live entries with the interfaces that are held then
+  abbrev leftEntries : Entries
+  leftEntries = withInterfaces (keep held (map changeEntry (live h .interfaces))) (live h)
+
+  -- an interface is of a live object by its serial exactly if it is by its OID
+  same-owner : (o : ObjectLife) → In o (liveObjects h) → (l : InterfaceLife) → (liveInterface h l && eqb (o .oid) (interfaceEntry h l .object)) ≡ (eqb (l .object) (o .serial) && not (atZero l))
+  same-owner o m l =
+      ⊎-elim
+      (λ t.
+      let e : o .serial ≡ l .object = sym (eqb-true (l .object) (o .serial) t) in
+      (λ u. not (atZero l) && in-some (λ (p : ObjectLife). eqb (p .serial) (l .object)) m (eq-eqb (o .serial) (l .object) e) u && eq-eqb (o .oid) (interfaceEntry h l .object) (sym (owner-oid h k l o m e)) u)
+      ∙ and-true (not (atZero l) && true)
+      ∙ and-true (not (atZero l))
+      ∙ sym (ap (λ (b : Bool). b && not (atZero l)) t))
+      (λ t.
+      ⊎-elim
+      (λ s.
+      let r = some-in (λ (p : ObjectLife). eqb (p .serial) (l .object)) (liveObjects h) s in
+      let e = eqb-true (r .0 .serial) (l .object) (r .2) in
+      ap (λ (b : Bool). liveInterface h l && b)
+      (ne-eqb (o .oid) (interfaceEntry h l .object)
+      (λ q.
+      let w : o ≡ r .0 = one-in eqb eqb-decides (λ (p : ObjectLife). p .oid) (liveObjects h) (one-oid h k) m (r .1) (q ∙ owner-oid h k l (r .0) (r .1) e) in
+      eqb-false (l .object) (o .serial) t (sym e ∙ ap (λ (p : ObjectLife). p .serial) (sym w))))
+      ∙ and-false (liveInterface h l)
+      ∙ sym (ap (λ (b : Bool). b && not (atZero l)) t))
+      (λ s.
+      ap (λ (b : Bool). not (atZero l) && b && eqb (o .oid) (interfaceEntry h l .object)) s
+      ∙ ap (λ (b : Bool). b && eqb (o .oid) (interfaceEntry h l .object)) (and-false (not (atZero l)))
+      ∙ sym (ap (λ (b : Bool). b && not (atZero l)) t))
+      (true-or-false (some (λ (p : ObjectLife). eqb (p .serial) (l .object)) (liveObjects h))))
+      (true-or-false (eqb (l .object) (o .serial)))
+
+  -- a live object has an interface left exactly if not all are at zero
+  change-served : (o : ObjectLife) → In o (liveObjects h) → not (interfacesAtZero (atLiveInterface i f h) o) ≡ hasInterface leftEntries (objectEntry h o)
+  change-served o m =
+      (λ u. not (every (λ (l : InterfaceLife). demorgan (eqb (l .object) (o .serial)) (atZero l) u) (map change (h .interfaces))))
+      ∙ sym (some-not (λ (l : InterfaceLife). eqb (l .object) (o .serial) && not (atZero l)) (map change (h .interfaces)))
+      ∙ (λ u. some (λ (l : InterfaceLife). sym (same-owner o m l) u) (map change (h .interfaces)))
+      ∙ sym (some-keep (λ (l : InterfaceLife). eqb (o .oid) (interfaceEntry h l .object)) (liveInterface h) (map change (h .interfaces)))
+      ∙ sym (some-map (λ (r : Interface). eqb (o .oid) (r .object)) (interfaceEntry h) (keep (liveInterface h) (map change (h .interfaces))))
+      ∙ ap (some (λ (r : Interface). eqb (o .oid) (r .object))) change-interfaces
+    where
+      demorgan : (a b : Bool) → (not a || b) ≡ not (a && not b)
+      demorgan true true = refl
+      demorgan true false = refl
+      demorgan false b = refl
+
+  -- the objects that have an interface left
+  change-objects : liveObjects (atLiveInterface i f h) ≡ keep (λ o. hasInterface leftEntries (objectEntry h o)) (liveObjects h)
+  change-objects =
+      keep-ext-in (λ o. not (objectGone (atLiveInterface i f h) o)) (λ o. not (objectGone h o) && hasInterface leftEntries (objectEntry h o)) (h .objects)
+      (λ o m.
+      dropped (interfacesAtZero h o) (interfacesAtZero (atLiveInterface i f h) o) (exporterRemoved h o) (unheard h o) (hasInterface leftEntries (objectEntry h o))
+      (λ t. change-zero o ∙ every-mono (λ (l : InterfaceLife). not (eqb (l .object) (o .serial)) || atZero l) (λ l. not (eqb (l .object) (o .serial)) || atZero (change l)) (λ l. zero-stays o l) (h .interfaces) t)
+      (λ t. change-served o (in-keep (λ p. not (objectGone h p)) m (ap not t))))
+      ∙ sym (keep-keep (λ o. hasInterface leftEntries (objectEntry h o)) (λ o. not (objectGone h o)) (h .objects))
+    where
+      dropped : (z z′ r u s : Bool) → (z ≡ true → z′ ≡ true) → ((z || r || u) ≡ false → not z′ ≡ s) → not (z′ || r || u) ≡ (not (z || r || u) && s)
+      dropped true z′ r u s a b = ap (λ (c : Bool). not (c || r || u)) (a refl)
+      dropped false true true u s a b = refl
+      dropped false true false true s a b = refl
+      dropped false true false false s a b = b refl
+      dropped false false true u s a b = refl
+      dropped false false false true s a b = refl
+      dropped false false false false s a b = b refl
+
+      zero-stays : (o : ObjectLife) (l : InterfaceLife) → (not (eqb (l .object) (o .serial)) || atZero l) ≡ true → (not (eqb (l .object) (o .serial)) || atZero (change l)) ≡ true
+      zero-stays o l t =
+          ⊎-elim
+          (λ z. ap (λ (j : InterfaceLife). not (eqb (l .object) (o .serial)) || atZero j)
+          (change-dead l (ap (λ (b : Bool). not b && some (λ (p : ObjectLife). eqb (p .serial) (l .object)) (liveObjects h)) z)) ∙ t)
+          (λ z. ap (λ (b : Bool). b || atZero (change l)) (sym (or-false (not (eqb (l .object) (o .serial)))) ∙ ap (λ (b : Bool). not (eqb (l .object) (o .serial)) || b) (sym z) ∙ t))
+          (true-or-false (atZero l))
+
+  -- what is at zero goes from the live entries as it is gone in the history
+  pub change-entries : live (atLiveInterface i f h) ≡ dropEmpty (atInterface i g (live h))
+  unfolding live
+  change-entries =
+      ap (λ (os : List ObjectLife). entriesOver h (h .clock) (map exporterEntry (liveExporters h)) os (map change (h .interfaces)) (h .sets)) change-objects
+      ∙ sym (goes-along h k (hasInterface leftEntries) (h .clock) (map exporterEntry (liveExporters h)) (map change (h .interfaces)) (h .sets))
+      ∙ ap (λ (is : List Interface). withoutObjects (hasInterface leftEntries) (withInterfaces is (live h))) change-interfaces
+
+  -- the history after the change
+  pub count-kept : sound (live (atLiveInterface i f h)) ≡ true → Kept (atLiveInterface i f h)
+  count-kept = change-kept (λ o. hasInterface leftEntries (objectEntry h o)) change-objects
+
+-- ---- release
+
+-- what a release takes
+pub taking-change : (h : History) (p q : ℕ) → Change h (taking p q) (λ r. withCounts (r .public - p) (r .private - q) r)
+taking-change h p q =
+    record {
+      ipid = λ l. refl;
+      object = λ l. refl;
+      bounded = λ l b. record { public = least p (l .granted) (l .taken) (b .public) .0; private = least q (l .grantedPrivate) (l .takenPrivate) (b .private) .0 };
+      entry = λ l b u.
+          record {
+            ipid = l .ipid;
+            iid = l .iid;
+            object = interfaceEntry h l .object;
+            public = least p (l .granted) (l .taken) (b .public) .1 u;
+            private = least q (l .grantedPrivate) (l .takenPrivate) (b .private) .1 u;
+          };
+    }
+  where
+    least : (n g t : ℕ) → t ≤ g → (t + min n (g - t) ≤ g) × (g - (t + min n (g - t)) ≡ g - t - n)
+    least n g t h = (omega arith, omega arith)
+
+-- release
+pub release-step : (h : History) → Kept h → (i : Guid) (p q : ℕ) → number (release i p q) (live h) ≡ 0 → Step (release i p q) h
+unfolding lived next
+release-step h k i p q a = stepped (release i p q) h k a (change-entries h k i _ _ (taking-change h p q)) (count-kept h k i _ _ (taking-change h p q))
+
+-- ---- add
+
+-- what an add grants
+pub granting-change : (h : History) (p q : ℕ) → Change h (granting p q) (λ r. withCounts (r .public + p) (r .private + q) r)
+granting-change h p q =
+    record {
+      ipid = λ l. refl;
+      object = λ l. refl;
+      bounded = λ l b. record { public = (let t = b .public in omega arith); private = (let t = b .private in omega arith) };
+      entry = λ l b u.
+          record {
+            ipid = l .ipid;
+            iid = l .iid;
+            object = interfaceEntry h l .object;
+            public = more p (l .granted) (l .taken) (b .public) u;
+            private = more q (l .grantedPrivate) (l .takenPrivate) (b .private) u;
+          };
+    }
+  where
+    more : (n g t : ℕ) → t ≤ g → g + n - t ≡ g - t + n
+    more n g t h = omega arith
+
+-- from sound entries nothing is dropped
+full-kept : (e : Entries) → sound e ≡ true → dropEmpty e ≡ e
+full-kept e s =
+    let g = sound-fields e s in
+    ap (λ (is : List Interface). withoutObjects (hasInterface (withInterfaces is e)) (withInterfaces is e)) (keep-all held (e .interfaces) (g .counted))
+    ∙ nothing-goes (hasInterface e) e (g .haveInterfaces) (g .objectsNamed) (g .membersNamed)
+
+-- add
+pub add-step : (h : History) → Kept h → (i : Guid) (p q : ℕ) → number (add i p q) (live h) ≡ 0 → Step (add i p q) h
+unfolding lived next
+add-step h k i p q a =
+    stepped (add i p q) h k a
+    (change-entries h k i _ _ (granting-change h p q) ∙ full-kept (next (add i p q) (live h)) (keeps (add i p q) (live h) (k .sound) a))
+    (count-kept h k i _ _ (granting-change h p q))

@@ -1,0 +1,50 @@
+-- A history that is fed a call: its live entries become what the rules say, and what holds of every history holds of it.
+use mathlib.Core.Path.{_≡_, refl}
+use mathlib.Core.Bool.{Bool, true, false, cond}
+use lib.Dec.{eqb}
+use borrow.Author.Tests.{eqb-true}
+use Rattle.kinds.proofs.Refusing.{by-test}
+use Rattle.rules.specs.Calls.{Call, reset, enterExporter, removeExporter, enterObject, enterInterface, add, release, simplePing, complexPing, clock, resolve, census, members, nextStop}
+use Rattle.rules.specs.Rules.{number, next}
+use Rattle.history.specs.History.{History, live, lived, feed}
+use Rattle.history.proofs.Lives.{Kept, live-begin, kept-begin}
+use Rattle.history.proofs.Steps.{Step}
+use Rattle.history.proofs.Entering.{exporter-step, object-step, interface-step}
+use Rattle.history.proofs.Leaving.{removal-step, clock-step}
+use Rattle.history.proofs.Counting.{add-step, release-step}
+use Rattle.history.proofs.Pinging.{simple-step, complex-step}
+
+-- each accepted call
+pub step : (c : Call) (h : History) → Kept h → number c (live h) ≡ 0 → Step c h
+unfolding lived next
+step (reset t) h k a = record { entries = live-begin t; kept = kept-begin t }
+step (enterExporter x u b) h k a = exporter-step h k x u b a
+step (removeExporter x) h k a = removal-step h k x a
+step (enterObject o x i iid n np) h k a = object-step h k o x i iid n np a
+step (enterInterface o i iid n) h k a = interface-step h k o i iid n a
+step (add i p q) h k a = add-step h k i p q a
+step (release i p q) h k a = release-step h k i p q a
+step (simplePing s) h k a = simple-step h k s a
+step (complexPing s n adds dels) h k a = complex-step h k s n adds dels a
+step (clock t) h k a = clock-step h k t a
+step (resolve x buffer) h k a = record { entries = refl; kept = k }
+step census h k a = record { entries = refl; kept = k }
+step (members s) h k a = record { entries = refl; kept = k }
+step (nextStop r) h k a = record { entries = refl; kept = k }
+
+pub record Fed (c : Call) (h : History) : Type 0 where
+  pub entries : live (feed h c) ≡ cond (eqb (number c (live h)) 0) (next c (live h)) (live h)
+  pub kept : Kept (feed h c)
+
+-- each call, accepted or not
+pub fed : (c : Call) (h : History) → Kept h → Fed c h
+unfolding feed
+fed c h k =
+    record {
+      entries = chosen (eqb (number c (live h)) 0) refl;
+      kept = by-test Kept (eqb (number c (live h)) 0) (lived c h) h (λ t. step c h k (eqb-true (number c (live h)) 0 t) .kept) (λ t. k);
+    }
+  where
+    chosen : (b : Bool) → eqb (number c (live h)) 0 ≡ b → live (cond b (lived c h) h) ≡ cond b (next c (live h)) (live h)
+    chosen true t = step c h k (eqb-true (number c (live h)) 0 t) .entries
+    chosen false t = refl

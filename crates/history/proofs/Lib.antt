@@ -1,0 +1,11 @@
+pub mod Lives
+pub mod Identities
+pub mod Steps
+pub mod Entering
+pub mod Leaving
+pub mod Counting
+pub mod Pinging
+pub mod Feeding
+pub mod Room
+pub mod Demands
+pub mod Runs

@@ -1,0 +1,148 @@
+-- Room is refused exactly when a kind that the call needs has as many live entries as places.
+use Prim.Native.Nat.{ℕ, _≤_}
+use mathlib.Core.Path.{_≡_, refl, sym, ap, _∙_}
+use mathlib.Core.Bool.{Bool, true, false, cond, not, _&&_, and-false}
+use mathlib.Core.List.{List, [], _∷_}
+use mathlib.Core.Logic.{⊎-elim}
+use native.Mathlib.Omega.{arith}
+use borrow.Author.Tests.{eq-eqb, ne-eqb, eqb-false, le-leb, lt-leb, not-true}
+use lib.ListN.{length}
+use lib.Dec.{eqb, leb}
+use Rattle.kinds.specs.Refusals.{Row, _gives_, passes, differ, order}
+use Rattle.kinds.proofs.Refusing.{by-test}
+use Rattle.bindings.specs.Bindings.{frontAnswer, listAnswer}
+use Rattle.fields.specs.Fields.{field}
+use Rattle.references.specs.References.{isCustom, tailAnswer, referenceAnswer}
+use Rattle.columns.proofs.Tests.{below-or-not}
+use Rattle.rules.specs.Entries.{Entries}
+use Rattle.rules.specs.Calls.{Call, reset, enterExporter, removeExporter, enterObject, enterInterface, add, release, simplePing, complexPing, clock, resolve, census, members, nextStop}
+use Rattle.rules.specs.Rules.{refusals, number}
+use Rattle.rules.specs.Contract.{Memory}
+use Rattle.table.specs.View.{view}
+use Rattle.table.proofs.Entries.{exporters-length, objects-length, interfaces-length, sets-length}
+use Rattle.history.specs.Runs.{agree, above, needsFullKind, roomExactly}
+
+-- ---- rows of refusals
+
+-- of these rows 9 is given, where no earlier row refuses, exactly if full holds
+record Rows (rs : List Row) (full : Bool) : Type 0 where
+  nine : eqb (order rs) 9 ≡ (eqb (order (above 9 rs)) 0 && full)
+
+-- no row
+none : Rows [] false
+unfolding order above
+none = record { nine = refl }
+
+-- a row of another number
+past : {rs : List Row} {full : Bool} (b : Bool) (n : ℕ) → (n ≡ 9 → ⊥) → (b ≡ true → n ≡ 0 → ⊥) → Rows rs full → Rows (b gives n ∷ rs) full
+unfolding order above
+past {rs} {full} true n d z r = record { nine = rw (ne-eqb n 9 d) (rw (ne-eqb n 0 (z refl)) refl) }
+past {rs} {full} false n d z r = record { nine = rw (ne-eqb n 9 d) (r .nine) }
+
+-- a row of 9, before rows that do not give it
+here : {rs : List Row} (b : Bool) → Rows rs false → Rows (b gives 9 ∷ rs) b
+unfolding order above
+here {rs} true r = record { nine = refl }
+here {rs} false r = record { nine = r .nine ∙ and-false (eqb (order (above 9 rs)) 0) }
+
+-- rows without 9 do not give it
+not-nine : {rs : List Row} → Rows rs false → order rs ≡ 9 → ⊥
+not-nine {rs} r = eqb-false (order rs) 9 (r .nine ∙ and-false (eqb (order (above 9 rs)) 0))
+
+-- an answer that is passed on
+passing : {rs : List Row} {full : Bool} (n : ℕ) → (n ≡ 9 → ⊥) → Rows rs full → Rows (passes n ∷ rs) full
+passing n d r = past (differ n 0) n d (λ t. eqb-false n 0 (not-true (eqb n 0) t)) r
+
+-- a row of a number that is neither 9 nor 0
+other : {b : Bool} {n : ℕ} {rs : List Row} {full : Bool} → eqb n 9 ≡ false → eqb n 0 ≡ false → Rows rs full → Rows (b gives n ∷ rs) full
+other {b} {n} d z r = past b n (eqb-false n 9 d) (λ t. eqb-false n 0 z) r
+
+-- rows by a test, of which one gives 9
+either : {rs ss : List Row} {full : Bool} (b : Bool) → Rows rs full → Rows ss false → Rows (cond b rs ss) (b && full)
+either true r q = r
+either false r q = q
+
+-- ---- the answers of the formats
+
+-- of a list at the front
+front-answer : (s : List ℕ) → frontAnswer s ≡ 9 → ⊥
+unfolding frontAnswer
+front-answer s = not-nine (other refl refl (other refl refl (other refl refl none)))
+
+-- of a list
+list-answer : (s : List ℕ) → listAnswer s ≡ 9 → ⊥
+unfolding listAnswer
+list-answer s = not-nine (passing (frontAnswer s) (front-answer s) (other refl refl none))
+
+-- of what follows the fixed fields
+tail-answer : (f : ℕ) (s : List ℕ) → tailAnswer f s ≡ 9 → ⊥
+unfolding tailAnswer
+tail-answer f s = by-test (λ (n : ℕ). n ≡ 9 → ⊥) (isCustom f) 0 (listAnswer s) (λ t. omega arith) (λ t. list-answer s)
+
+-- of a reference
+reference-answer : (s : List ℕ) → referenceAnswer s ≡ 9 → ⊥
+unfolding referenceAnswer
+reference-answer s = not-nine (other refl refl (other refl refl (other refl refl (other refl refl (passing _ (tail-answer (field s 4 4) _) none)))))
+
+-- ---- the calls
+
+-- no kind has more entries than places
+pub record Placed (e : Entries) : Type 0 where
+  pub exporters : length (e .exporters) ≤ 16
+  pub objects : length (e .objects) ≤ 128
+  pub interfaces : length (e .interfaces) ≤ 256
+  pub sets : length (e .sets) ≤ 32
+
+-- then as many or more are as many
+full-places : (places n : ℕ) → n ≤ places → leb places n ≡ eqb n places
+full-places places n h =
+    ⊎-elim
+    (λ b. lt-leb places n b ∙ sym (ne-eqb n places (omega arith)))
+    (λ b. le-leb places n b ∙ sym (eq-eqb n places (omega arith)))
+    (below-or-not n places)
+
+-- of every call
+rows : (c : Call) (e : Entries) → Placed e → Rows (refusals c e) (needsFullKind c e)
+unfolding refusals needsFullKind
+rows (reset t) e p = none
+rows (enterExporter x u b) e p =
+    other refl refl (passing (listAnswer b) (list-answer b) (other refl refl (rw (sym (full-places 16 (length (e .exporters)) (p .exporters))) (here _ none))))
+rows (removeExporter x) e p = other refl refl none
+rows (enterObject o x i iid n np) e p =
+    other refl refl (other refl refl (other refl refl
+    (rw (sym (full-places 128 (length (e .objects)) (p .objects)), sym (full-places 256 (length (e .interfaces)) (p .interfaces))) (here _ none))))
+rows (enterInterface o i iid n) e p =
+    other refl refl (other refl refl (other refl refl (rw (sym (full-places 256 (length (e .interfaces)) (p .interfaces))) (here _ none))))
+rows (add i m n) e p = other refl refl (other refl refl none)
+rows (release i m n) e p = other refl refl none
+rows (simplePing s) e p = other refl refl none
+rows (complexPing s n adds dels) e p =
+    other refl refl
+    (either (eqb s 0)
+    (other refl refl (rw (sym (full-places 32 (length (e .sets)) (p .sets))) (here _ (other refl refl none))))
+    (other refl refl (other refl refl (other refl refl none))))
+rows (clock t) e p = other refl refl none
+rows (resolve x buffer) e p = other refl refl (other refl refl none)
+rows census e p = none
+rows (members s) e p = other refl refl none
+rows (nextStop r) e p = passing (referenceAnswer r) (reference-answer r) (other refl refl none)
+
+-- two equal tests agree
+pub agreed : (a b : Bool) → a ≡ b → agree a b ≡ true
+agreed true b e = sym e
+agreed false b e = sym (ap not e)
+
+-- room is refused exactly when a kind is full
+pub room-exactly : (c : Call) (e : Entries) → Placed e → roomExactly c e ≡ true
+unfolding roomExactly number
+room-exactly c e p = agreed _ _ (rows c e p .nine)
+
+-- the entries of a memory have places
+pub view-placed : (m : Memory) → Placed (view m)
+view-placed m =
+    record {
+      exporters = rw (exporters-length (m .words) (m .store)) (omega arith);
+      objects = rw (objects-length (m .words)) (omega arith);
+      interfaces = rw (interfaces-length (m .words)) (omega arith);
+      sets = rw (sets-length (m .words)) (omega arith);
+    }

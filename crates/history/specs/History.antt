@@ -1,0 +1,269 @@
+-- Document 01's history ("Its history is fed with the calls' arguments alone"): lives that are started and never taken away, with what
+-- was granted, taken and heard. What has gone follows from these facts and the clock; nothing is stored as gone.
+use Prim.Native.Nat.{ℕ, _+_, _-_, min}
+use mathlib.Core.Bool.{Bool, true, false, cond, not, _&&_, _||_}
+use mathlib.Core.List.{List, [], _∷_, _++_, map}
+use lib.ListN.{length}
+use lib.Dec.{eqb, leb}
+use Rattle.kinds.specs.declared.Guid.{Guid}
+use Rattle.columns.specs.Lists.{keep, some, every, firstOr, among}
+use Rattle.columns.specs.Guids.{nil, sameGuid}
+use Rattle.rules.specs.Entries.{Exporter, Object, Interface, PingSet, Entries}
+use Rattle.rules.specs.Calls.{Call, reset, enterExporter, removeExporter, enterObject, enterInterface, add, release, simplePing, complexPing, clock, resolve, census, members, nextStop, Reply}
+use Rattle.rules.specs.Rules.{number, reply}
+
+-- An identifier that went may be entered again, as a new life; so lives name each other by serial numbers, which are never given twice.
+pub record ExporterLife : Type 0 where
+  pub serial : ℕ
+  pub oxid : ℕ
+  pub unknown : Guid
+  pub bindings : List ℕ
+  pub removed : Bool
+
+-- exporter is a serial
+pub record ObjectLife : Type 0 where
+  pub serial : ℕ
+  pub oid : ℕ
+  pub exporter : ℕ
+  pub noping : Bool
+  pub heard : ℕ
+
+-- object is a serial
+pub record InterfaceLife : Type 0 where
+  pub ipid : Guid
+  pub iid : Guid
+  pub object : ℕ
+  pub granted : ℕ
+  pub taken : ℕ
+  pub grantedPrivate : ℕ
+  pub takenPrivate : ℕ
+
+-- members are serials; set numbers are given once in a history
+pub record SetLife : Type 0 where
+  pub number : ℕ
+  pub sequence : ℕ
+  pub pinged : ℕ
+  pub members : List ℕ
+
+-- since the last accepted reset
+pub record History : Type 0 where
+  pub clock : ℕ
+  pub next : ℕ
+  pub exporters : List ExporterLife
+  pub objects : List ObjectLife
+  pub interfaces : List InterfaceLife
+  pub sets : List SetLife
+
+abbrev pub begin : ℕ → History
+begin t = record { clock = t; next = 1; exporters = []; objects = []; interfaces = []; sets = [] }
+
+-- ---- what has gone
+
+-- zero: nothing left of either count
+abbrev pub atZero : InterfaceLife → Bool
+atZero l = leb (l .granted) (l .taken) && leb (l .grantedPrivate) (l .takenPrivate)
+
+abbrev pub interfacesAtZero : History → ObjectLife → Bool
+interfacesAtZero h o = every (λ (l : InterfaceLife). not (eqb (l .object) (o .serial)) || atZero l) (h .interfaces)
+
+abbrev pub exporterRemoved : History → ObjectLife → Bool
+exporterRemoved h o = some (λ (x : ExporterLife). eqb (x .serial) (o .exporter) && x .removed) (h .exporters)
+
+-- unheard: the clock stands 360 or more past the last hearing
+abbrev pub unheardSince : History → ℕ → Bool
+unheardSince h t = leb 360 (h .clock - t)
+
+-- Of an object that is pinged. What goes leaves its sets and is heard no more, so it stays unheard at every later clock.
+abbrev pub unheard : History → ObjectLife → Bool
+unheard h o = not (o .noping) && unheardSince h (o .heard)
+
+-- demand 3: its interfaces reached zero, its exporter was removed, or, being pinged, it stayed unheard
+abbrev pub objectGone : History → ObjectLife → Bool
+objectGone h o = interfacesAtZero h o || exporterRemoved h o || unheard h o
+
+-- ---- live: what started and has not gone
+
+abbrev pub liveExporters : History → List ExporterLife
+liveExporters h = keep (λ (x : ExporterLife). not (x .removed)) (h .exporters)
+
+abbrev pub liveObjects : History → List ObjectLife
+liveObjects h = keep (λ (o : ObjectLife). not (objectGone h o)) (h .objects)
+
+-- an interface goes at zero or with its object
+abbrev pub liveInterface : History → InterfaceLife → Bool
+liveInterface h l = not (atZero l) && some (λ (o : ObjectLife). eqb (o .serial) (l .object)) (liveObjects h)
+
+-- a set goes 360 after its last ping
+abbrev pub liveSet : History → SetLife → Bool
+liveSet h s = not (unheardSince h (s .pinged))
+
+abbrev pub noExporterLife : ExporterLife
+noExporterLife = record { serial = 0; oxid = 0; unknown = nil; bindings = []; removed = true }
+
+abbrev pub noObjectLife : ObjectLife
+noObjectLife = record { serial = 0; oid = 0; exporter = 0; noping = false; heard = 0 }
+
+-- ---- the live entries
+
+abbrev pub exporterEntry : ExporterLife → Exporter
+exporterEntry x = record { oxid = x .oxid; unknown = x .unknown; bindings = x .bindings }
+
+abbrev pub objectEntry : History → ObjectLife → Object
+objectEntry h o =
+    let x : ExporterLife = firstOr noExporterLife (λ (p : ExporterLife). eqb (p .serial) (o .exporter)) (h .exporters) in
+    record { oid = o .oid; exporter = x .oxid; noping = o .noping; heard = o .heard }
+
+-- a count is what was granted less what releases took
+abbrev pub interfaceEntry : History → InterfaceLife → Interface
+interfaceEntry h l =
+    let o : ObjectLife = firstOr noObjectLife (λ (p : ObjectLife). eqb (p .serial) (l .object)) (h .objects) in
+    record { ipid = l .ipid; iid = l .iid; object = o .oid; public = l .granted - l .taken; private = l .grantedPrivate - l .takenPrivate }
+
+-- what goes leaves its sets
+abbrev pub setEntry : History → SetLife → PingSet
+setEntry h s =
+    record {
+      number = s .number;
+      sequence = s .sequence;
+      pinged = s .pinged;
+      members = map (λ (o : ObjectLife). o .oid) (keep (λ (o : ObjectLife). among (s .members) (o .serial)) (liveObjects h));
+    }
+
+unfoldable pub live : History → Entries
+live h =
+    record {
+      clock = h .clock;
+      next = h .next;
+      exporters = map exporterEntry (liveExporters h);
+      objects = map (objectEntry h) (liveObjects h);
+      interfaces = map (interfaceEntry h) (keep (liveInterface h) (h .interfaces));
+      sets = map (setEntry h) (keep (liveSet h) (h .sets));
+    }
+
+-- ---- histories and lives with one part replaced
+
+abbrev pub atClock : ℕ → History → History
+atClock t h = record { clock = t; next = h .next; exporters = h .exporters; objects = h .objects; interfaces = h .interfaces; sets = h .sets }
+
+abbrev pub withExporterLives : List ExporterLife → History → History
+withExporterLives xs h = record { clock = h .clock; next = h .next; exporters = xs; objects = h .objects; interfaces = h .interfaces; sets = h .sets }
+
+abbrev pub withObjectLives : List ObjectLife → History → History
+withObjectLives os h = record { clock = h .clock; next = h .next; exporters = h .exporters; objects = os; interfaces = h .interfaces; sets = h .sets }
+
+abbrev pub withInterfaceLives : List InterfaceLife → History → History
+withInterfaceLives is h = record { clock = h .clock; next = h .next; exporters = h .exporters; objects = h .objects; interfaces = is; sets = h .sets }
+
+abbrev pub withSetLives : ℕ → List SetLife → History → History
+withSetLives n ss h = record { clock = h .clock; next = n; exporters = h .exporters; objects = h .objects; interfaces = h .interfaces; sets = ss }
+
+abbrev pub removedLife : ExporterLife → ExporterLife
+removedLife x = record { serial = x .serial; oxid = x .oxid; unknown = x .unknown; bindings = x .bindings; removed = true }
+
+abbrev pub heardLife : ℕ → ObjectLife → ObjectLife
+heardLife t o = record { serial = o .serial; oid = o .oid; exporter = o .exporter; noping = o .noping; heard = t }
+
+abbrev pub enteredInterface : Guid → Guid → ℕ → ℕ → InterfaceLife
+enteredInterface i iid o n = record { ipid = i; iid = iid; object = o; granted = n; taken = 0; grantedPrivate = 0; takenPrivate = 0 }
+
+abbrev pub granting : ℕ → ℕ → InterfaceLife → InterfaceLife
+granting p q l =
+    record {
+      ipid = l .ipid;
+      iid = l .iid;
+      object = l .object;
+      granted = l .granted + p;
+      taken = l .taken;
+      grantedPrivate = l .grantedPrivate + q;
+      takenPrivate = l .takenPrivate;
+    }
+
+-- the smaller of what is asked and granted less taken
+abbrev pub taking : ℕ → ℕ → InterfaceLife → InterfaceLife
+taking p q l =
+    record {
+      ipid = l .ipid;
+      iid = l .iid;
+      object = l .object;
+      granted = l .granted;
+      taken = l .taken + min p (l .granted - l .taken);
+      grantedPrivate = l .grantedPrivate;
+      takenPrivate = l .takenPrivate + min q (l .grantedPrivate - l .takenPrivate);
+    }
+
+abbrev pub pingedLife : ℕ → SetLife → SetLife
+pingedLife t s = record { number = s .number; sequence = s .sequence; pinged = t; members = s .members }
+
+-- puts in the adds, then takes out the deletes, and keeps the sequence number
+abbrev pub changed : ℕ → List ℕ → List ℕ → SetLife → SetLife
+changed n adds dels s =
+    record { number = s .number; sequence = n; pinged = s .pinged; members = keep (λ (o : ℕ). not (among dels o)) (s .members ++ adds) }
+
+-- ---- what an accepted call adds to the history
+
+-- the live interface i alone changed
+abbrev pub atLiveInterface : Guid → (InterfaceLife → InterfaceLife) → History → History
+atLiveInterface i f h = withInterfaceLives (map (λ (l : InterfaceLife). cond (sameGuid i (l .ipid) && liveInterface h l) (f l) l) (h .interfaces)) h
+
+-- the live set s alone changed
+abbrev pub atLiveSet : ℕ → (SetLife → SetLife) → History → History
+atLiveSet s f h = withSetLives (h .next) (map (λ (p : SetLife). cond (eqb s (p .number) && liveSet h p) (f p) p) (h .sets)) h
+
+-- the serials of the live exporter with this OXID, of the live object with this OID, and of the live objects with one of these OIDs
+abbrev pub exporterSerial : History → ℕ → ℕ
+exporterSerial h x = firstOr noExporterLife (λ (p : ExporterLife). eqb x (p .oxid)) (liveExporters h) .serial
+
+abbrev pub objectSerial : History → ℕ → ℕ
+objectSerial h o = firstOr noObjectLife (λ (p : ObjectLife). eqb o (p .oid)) (liveObjects h) .serial
+
+abbrev pub objectSerials : History → List ℕ → List ℕ
+objectSerials h ids = map (λ (o : ObjectLife). o .serial) (keep (λ (o : ObjectLife). among ids (o .oid)) (liveObjects h))
+
+abbrev pub isMember : History → ℕ → ObjectLife → Bool
+isMember h s o = some (λ (p : SetLife). eqb s (p .number) && liveSet h p && among (p .members) (o .serial)) (h .sets)
+
+-- an accepted ping of the set s: its members are heard at the clock
+abbrev pub pingLives : ℕ → History → History
+pingLives s h =
+    atLiveSet s (pingedLife (h .clock))
+    (withObjectLives (map (λ (o : ObjectLife). cond (isMember h s o && not (objectGone h o)) (heardLife (h .clock) o) o) (h .objects)) h)
+
+-- a set with the next number, which grows by one
+abbrev pub startSet : History → History
+startSet h = withSetLives (h .next + 1) (h .sets ++ (record { number = h .next; sequence = 0; pinged = h .clock; members = [] } ∷ [])) h
+
+unfoldable pub lived : Call → History → History
+lived (reset t) h = begin t
+lived (enterExporter x u b) h =
+    withExporterLives (h .exporters ++ (record { serial = length (h .exporters); oxid = x; unknown = u; bindings = b; removed = false } ∷ [])) h
+lived (removeExporter x) h =
+    withExporterLives (map (λ (p : ExporterLife). cond (eqb x (p .oxid)) (removedLife p) p) (h .exporters)) h
+lived (enterObject o x i iid n np) h =
+    let k : ℕ = length (h .objects) in
+    withObjectLives (h .objects ++ (record { serial = k; oid = o; exporter = exporterSerial h x; noping = np; heard = h .clock } ∷ []))
+    (withInterfaceLives (h .interfaces ++ (enteredInterface i iid k n ∷ [])) h)
+lived (enterInterface o i iid n) h = withInterfaceLives (h .interfaces ++ (enteredInterface i iid (objectSerial h o) n ∷ [])) h
+lived (add i p q) h = atLiveInterface i (granting p q) h
+lived (release i p q) h = atLiveInterface i (taking p q) h
+lived (simplePing s) h = pingLives s h
+lived (complexPing s n adds dels) h =
+    let k : ℕ = cond (eqb s 0) (h .next) s in
+    pingLives k (atLiveSet k (changed n (objectSerials h adds) (objectSerials h dels)) (cond (eqb s 0) (startSet h) h))
+lived (clock t) h = atClock t h
+lived (resolve x buffer) h = h
+lived census h = h
+lived (members s) h = h
+lived (nextStop r) h = h
+
+-- a call is accepted exactly where its rules, read on the history's own live entries, refuse nothing
+unfoldable pub feed : History → Call → History
+feed h c = cond (eqb (number c (live h)) 0) (lived c h) h
+
+unfoldable pub feedAll : History → List Call → History
+feedAll h [] = h
+feedAll h (c ∷ cs) = feedAll (feed h c) cs
+
+-- the replies by the rules on the history's own live entries
+unfoldable pub replies : History → List Call → List Reply
+replies h [] = []
+replies h (c ∷ cs) = reply c (live h) ∷ replies (feed h c) cs

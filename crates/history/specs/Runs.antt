@@ -1,0 +1,124 @@
+-- Demand 3: the state after a whole run of calls from an accepted reset. Statements only.
+use Prim.Native.Nat.{ℕ, _+_}
+use mathlib.Core.Path.{_≡_}
+use mathlib.Core.Bool.{Bool, true, false, cond, not, _&&_, _||_}
+use mathlib.Core.List.{List, [], _∷_}
+use lib.ListN.{length}
+use lib.Dec.{eqb, ltb, leb}
+use Rattle.kinds.specs.Refusals.{Row, order}
+use Rattle.columns.specs.Lists.{keep, every, distinct}
+use Rattle.columns.specs.Guids.{sameGuid}
+use Rattle.rules.specs.Entries.{Object, Interface, PingSet, Entries, oxids, oids, setNumbers, ipids}
+use Rattle.rules.specs.Calls.{Call, reset, enterExporter, removeExporter, enterObject, enterInterface, add, release, simplePing, complexPing, clock, resolve, census, members, nextStop, Reply}
+use Rattle.rules.specs.Rules.{isLiveExporter, isLiveObject, interfaceOf, refusals, number}
+use Rattle.rules.specs.Contract.{Memory}
+use Rattle.table.specs.View.{view, Performed}
+use Rattle.history.specs.History.{ObjectLife, InterfaceLife, History, begin, interfacesAtZero, exporterRemoved, unheard, liveInterface, live, feedAll, replies}
+
+-- ---- the sentences of demand 3, as tests
+
+-- two tests agree
+abbrev pub agree : Bool → Bool → Bool
+agree a b = cond a b (not b)
+
+-- the rows above the first that gives n
+unfoldable pub above : ℕ → List Row → List Row
+above n [] = []
+above n (r ∷ rs) = cond (eqb (r .number) n) [] (r ∷ above n rs)
+
+-- live identifiers are distinct within their kind
+unfoldable pub distinctIdentifiers : Entries → Bool
+distinctIdentifiers e = distinct eqb (oxids e) && distinct eqb (oids e) && distinct sameGuid (ipids e) && distinct eqb (setNumbers e)
+
+-- each interface has one live object and at least one reference
+unfoldable pub oneObject : Entries → Bool
+oneObject e = every (λ (i : Interface). eqb (length (keep (λ (o : Object). eqb (i .object) (o .oid)) (e .objects))) 1) (e .interfaces)
+
+unfoldable pub someReference : Entries → Bool
+someReference e = every (λ (i : Interface). ltb 0 (i .public + i .private)) (e .interfaces)
+
+-- each object has a live exporter
+unfoldable pub objectsExported : Entries → Bool
+objectsExported e = every (λ (o : Object). isLiveExporter e (o .exporter)) (e .objects)
+
+-- each set member is live
+unfoldable pub membersLive : Entries → Bool
+membersLive e = every (λ (s : PingSet). every (isLiveObject e) (s .members)) (e .sets)
+
+-- each count, with what releases took, is what was granted since the interface was entered
+unfoldable pub countsGranted : History → Entries → Bool
+countsGranted h e =
+    every
+    (λ (l : InterfaceLife).
+    not (liveInterface h l)
+    || (eqb (interfaceOf e (l .ipid) .public + l .taken) (l .granted) && eqb (interfaceOf e (l .ipid) .private + l .takenPrivate) (l .grantedPrivate)))
+    (h .interfaces)
+
+-- no later life has the OID
+abbrev pub isLatest : History → ObjectLife → Bool
+isLatest h o = every (λ (p : ObjectLife). not (eqb (o .oid) (p .oid)) || leb (p .serial) (o .serial)) (h .objects)
+
+-- an object entered since the last accepted reset is gone exactly when its interfaces reached zero, its exporter was removed, or, being
+-- pinged, it stayed unheard; a life is there where its OID is live and was not entered again
+unfoldable pub goneExactly : History → Entries → Bool
+goneExactly h e =
+    every
+    (λ (o : ObjectLife). agree (isLiveObject e (o .oid) && isLatest h o) (not (interfacesAtZero h o || exporterRemoved h o || unheard h o)))
+    (h .objects)
+
+-- a kind that the call needs has as many live entries as places
+unfoldable pub needsFullKind : Call → Entries → Bool
+needsFullKind (reset t) e = false
+needsFullKind (enterExporter x u b) e = eqb (length (e .exporters)) 16
+needsFullKind (removeExporter x) e = false
+needsFullKind (enterObject o x i iid n np) e = eqb (length (e .objects)) 128 || eqb (length (e .interfaces)) 256
+needsFullKind (enterInterface o i iid n) e = eqb (length (e .interfaces)) 256
+needsFullKind (add i p q) e = false
+needsFullKind (release i p q) e = false
+needsFullKind (simplePing s) e = false
+needsFullKind (complexPing s n adds dels) e = eqb s 0 && eqb (length (e .sets)) 32
+needsFullKind (clock t) e = false
+needsFullKind (resolve x buffer) e = false
+needsFullKind census e = false
+needsFullKind (members s) e = false
+needsFullKind (nextStop r) e = false
+
+-- room is refused, once nothing earlier in the call's order refuses, exactly when a kind it needs has as many live entries as places
+unfoldable pub roomExactly : Call → Entries → Bool
+roomExactly c e = agree (eqb (number c e) 9) (eqb (order (above 9 (refusals c e))) 0 && needsFullKind c e)
+
+-- a run: the calls, their replies, the memory before and after; each call gets the memory that the last one left
+pub data Run : List Call → List Reply → Memory → Memory → Type 0 where
+  none : {m : Memory} → Run [] [] m m
+  call :
+      {c : Call} {r : Reply} {cs : List Call} {rs : List Reply} {m m′ m″ : Memory}
+      → Performed c m r m′ → Run cs rs m′ m″ → Run (c ∷ cs) (r ∷ rs) m m″
+
+-- the history of these calls after a reset at t
+abbrev pub historyOf : ℕ → List Call → History
+historyOf t cs = feedAll (begin t) cs
+
+-- after a reset at t, the calls cs and their replies rs, with the memory m: a field for each sentence of demand 3
+pub record AfterRun (t : ℕ) (cs : List Call) (rs : List Reply) (m : Memory) : Type 0 where
+  -- each is answered as demand 2 says, on the history's own live entries
+  pub answers : rs ≡ replies (begin t) cs
+  -- the live entries, with every field, list and member, the clock and the next set number are exactly the history's
+  pub entries : view m ≡ live (historyOf t cs)
+  pub identifiers : distinctIdentifiers (view m) ≡ true
+  pub interfaceObject : oneObject (view m) ≡ true
+  pub interfaceReference : someReference (view m) ≡ true
+  pub objectExporter : objectsExported (view m) ≡ true
+  pub memberLive : membersLive (view m) ≡ true
+  pub counts : countsGranted (historyOf t cs) (view m) ≡ true
+  pub gone : goneExactly (historyOf t cs) (view m) ≡ true
+  -- of whatever call comes next
+  pub room : (c : Call) → roomExactly c (view m) ≡ true
+
+-- demand 3: from an accepted reset at any time, on any memory, over every run
+abbrev pub WholeRun : Type 0
+WholeRun =
+    (t : ℕ) (first : Reply) (cs : List Call) (rs : List Reply) (m₀ m₁ m : Memory)
+    → Performed (reset t) m₀ first m₁
+    → first .number ≡ 0
+    → Run cs rs m₁ m
+    → AfterRun t cs rs m
