@@ -1,0 +1,113 @@
+-- What serves every call: the table as it was judged, a refusal, an accepted call; and the rows of refusals, one by one.
+use Prim.Native.Nat.{ℕ, _<_, _≤_}
+use mathlib.Core.Path.{_≡_, refl, sym, ap, _∙_}
+use mathlib.Core.Bool.{Bool, true, false, not, _||_}
+use mathlib.Core.List.{List, [], _∷_}
+use borrow.Author.Tests.{not-true, not-false, lt-ltb, le-ltb}
+use lib.ListN.{length}
+use lib.Dec.{eqb, ltb, leb}
+use Rattle.kinds.specs.Refusals.{Row, order, _gives_}
+use Rattle.kinds.specs.declared.Guid.{Guid}
+use Rattle.columns.specs.Lists.{distinct}
+use Rattle.columns.proofs.Tests.{and-left}
+use Rattle.rules.specs.Entries.{Entries, oids}
+use Rattle.rules.specs.Calls.{Call}
+use Rattle.rules.specs.Sound.{sound}
+use Rattle.rules.specs.Rules.{isLiveExporter, isLiveObject, isLiveInterface, number, next, refused, done}
+use Rattle.rules.specs.Contract.{Memory, lengthsOnly}
+use Rattle.rules.proofs.Performing.{unsound, sound-refused, sound-accepted}
+use Rattle.rules.proofs.SoundLaws.{SoundTable, sound-fields, table-fields, table-made}
+use Rattle.rules.proofs.Keeps.{keeps}
+use Rattle.rules.proofs.ByRow.{exporterRow, objectRow, interfaceRow, exporter-live, object-live, interface-live}
+use Rattle.table.specs.View.{exporterCount, objectCount, interfaceCount, memory, view, soundMemory, Performed}
+use Rattle.table.specs.Edits.{membersBelow}
+use Rattle.table.proofs.EditBelow.{nonzero, live-below}
+use Rattle.table.proofs.Entries.{exporters-length, objects-length, interfaces-length}
+
+-- ---- calls
+
+module _ {r : Bool} {m : Memory} (judged : r ≡ soundMemory m) where
+  -- the table that a call goes on with
+  pub sound-table : not r ≡ false → SoundTable view m
+  sound-table h = table-fields view m (sym judged ∙ not-false r h)
+
+  module _ (c : Call) (looks : lengthsOnly c ≡ false) where
+    -- the table is refused
+    pub unsound-call : not r ≡ true → Performed c m (refused 1 c (view m)) m
+    unsound-call h = unsound view c m looks (sym judged ∙ not-true r h)
+
+    module _ (h : not r ≡ false) (n : ℕ) (e : n ≡ number c (view m)) where
+      -- the rules refuse the call
+      pub refused-call : (n ≡ 0 → ⊥) → Performed c m (refused n c (view m)) m
+      refused-call z = sound-refused view c m looks (sym judged ∙ not-false r h) n (sym e) z
+
+      -- an accepted call: soundness afterwards follows from the rules
+      pub accepted-call : n ≡ 0 → (m′ : Memory) → length (m′ .words) ≡ 8192 → length (m′ .store) ≡ 8192 → view m′ ≡ next c (view m)
+          → Performed c m (done c (view m)) m′
+      accepted-call z m′ ws bs v =
+          sound-accepted view c m looks (sym judged ∙ not-false r h) (sym e ∙ z) m′
+          (table-made view m′ (record { words = ws; store = bs; entries = ap sound v ∙ keeps c (view m) (sound-table h .entries) (sym e ∙ z) })) v
+
+-- in a sound table every member bit stands at a live object's row
+pub sound-below : (ws s : List ℕ) → SoundTable view (memory ws s) → membersBelow ws ≡ true
+sound-below ws s t =
+    let e : Entries = view (memory ws s) in
+    let f = sound-fields e (t .entries) in
+    live-below ws s (and-left (nonzero (oids e)) (distinct eqb (oids e)) (f .objectsProper)) (f .membersNamed)
+
+-- ---- refusals, row by row: w is the number, of which the rows are left
+
+module _ {w : ℕ} (b : Bool) (n : ℕ) (rs : List Row) (e : w ≡ order (b gives n ∷ rs)) where
+  -- the test of the first row holds
+  pub row-gives : b ≡ true → n ≡ w
+  unfolding order
+  row-gives t = sym (e ∙ rw t)
+
+  -- it does not
+  pub row-passes : b ≡ false → w ≡ order rs
+  unfolding order
+  row-passes f = e ∙ rw f
+
+-- a row that asks for a live entry: it is live where the row that was found is below the count
+module _ {w r n : ℕ} {live : Bool} (found : live ≡ ltb r n) (k : ℕ) (rs : List Row) (e : w ≡ order (not live gives k ∷ rs)) where
+  pub gone-gives : n ≤ r → k ≡ w
+  gone-gives h = row-gives (not live) k rs e (ap not (found ∙ le-ltb r n h))
+
+  pub live-passes : r < n → w ≡ order rs
+  live-passes h = row-passes (not live) k rs e (ap not (found ∙ lt-ltb r n h))
+
+-- no row is left
+pub rows-end : {w : ℕ} → w ≡ order [] → 0 ≡ w
+unfolding order
+rows-end e = sym e
+
+-- a row of two tests is two rows
+pub two-rows : (a b : Bool) (n : ℕ) (rs : List Row) → order ((a || b) gives n ∷ rs) ≡ order (a gives n ∷ b gives n ∷ rs)
+unfolding order
+two-rows true b n rs = refl
+two-rows false b n rs = refl
+
+-- an identifier that is zero or live, or an IPID that can't be entered
+pub identifier-rows : (a b c : Bool) (n : ℕ) (rs : List Row) → order (((a || b) || c) gives n ∷ rs) ≡ order (a gives n ∷ b gives n ∷ c gives n ∷ rs)
+identifier-rows a b c n rs = two-rows (a || b) c n rs ∙ two-rows a b n (c gives n ∷ rs)
+
+-- ---- tests, by row and count
+
+-- a comparison of equal numbers
+same-ltb : {b : Bool} {row r n n′ : ℕ} (len : ℕ) → b ≡ ltb row len → r ≡ row → len ≡ n′ → n ≡ n′ → b ≡ ltb r n
+same-ltb len e p q t = e ∙ rw (p, q, t)
+
+module _ (ws s : List ℕ) {r n : ℕ} where
+  -- live: the row that was found is below the count
+  pub exporter-tested : (x : ℕ) → r ≡ exporterRow (view (memory ws s)) x → n ≡ exporterCount ws → isLiveExporter (view (memory ws s)) x ≡ ltb r n
+  exporter-tested x p t = same-ltb _ (exporter-live (view (memory ws s)) x) p (exporters-length ws s) t
+
+  pub object-tested : (o : ℕ) → r ≡ objectRow (view (memory ws s)) o → n ≡ objectCount ws → isLiveObject (view (memory ws s)) o ≡ ltb r n
+  object-tested o p t = same-ltb _ (object-live (view (memory ws s)) o) p (objects-length ws) t
+
+  pub interface-tested : (i : Guid) → r ≡ interfaceRow (view (memory ws s)) i → n ≡ interfaceCount ws → isLiveInterface (view (memory ws s)) i ≡ ltb r n
+  interface-tested i p t = same-ltb _ (interface-live (view (memory ws s)) i) p (interfaces-length ws) t
+
+-- full: the places are at most the count
+pub full-tested : {A : Type 0} (xs : List A) {n n′ : ℕ} (places : ℕ) → length xs ≡ n′ → n ≡ n′ → leb places (length xs) ≡ leb places n
+full-tested xs places p t = rw (p, t)
