@@ -26,6 +26,13 @@ use Rattle.table.proofs.Entries.{exporters-length, objects-length, interfaces-l
 
 -- ---- calls
 
+-- both lengths are right and the entries are those of the rules, so the table is sound afterwards
+pub performed : (c : Call) (m m′ : Memory) → lengthsOnly c ≡ false → soundMemory m ≡ true → number c (view m) ≡ 0
+    → length (m′ .words) ≡ 8192 → length (m′ .store) ≡ 8192 → view m′ ≡ next c (view m) → Performed c m (done c (view m)) m′
+performed c m m′ l s n w b v =
+    sound-accepted view c m l s n m′
+    (table-made view m′ (record { words = w; store = b; entries = ap sound v ∙ keeps c (view m) (table-fields view m s .entries) n })) v
+
 module _ {r : Bool} {m : Memory} (judged : r ≡ soundMemory m) where
   -- the table that a call goes on with
   pub sound-table : not r ≡ false → SoundTable view m
@@ -45,8 +52,7 @@ module _ {r : Bool} {m : Memory} (judged : r ≡ soundMemory m) where
       pub accepted-call : n ≡ 0 → (m′ : Memory) → length (m′ .words) ≡ 8192 → length (m′ .store) ≡ 8192 → view m′ ≡ next c (view m)
           → Performed c m (done c (view m)) m′
       accepted-call z m′ ws bs v =
-          sound-accepted view c m looks (sym judged ∙ not-false r h) (sym e ∙ z) m′
-          (table-made view m′ (record { words = ws; store = bs; entries = ap sound v ∙ keeps c (view m) (sound-table h .entries) (sym e ∙ z) })) v
+          performed c m m′ looks (sym judged ∙ not-false r h) (sym e ∙ z) ws bs v
 
 -- in a sound table every member bit stands at a live object's row
 pub sound-below : (ws s : List ℕ) → SoundTable view (memory ws s) → membersBelow ws ≡ true
@@ -93,20 +99,19 @@ identifier-rows a b c n rs = two-rows (a || b) c n rs ∙ two-rows a b n (c give
 
 -- ---- tests, by row and count
 
--- a comparison of equal numbers
-same-ltb : {b : Bool} {row r n n′ : ℕ} (len : ℕ) → b ≡ ltb row len → r ≡ row → len ≡ n′ → n ≡ n′ → b ≡ ltb r n
-same-ltb len e p q t = e ∙ rw (p, q, t)
+-- live: the row is below the count
+pub live-row : {live : Bool} {row entries : ℕ} (r n : ℕ) → live ≡ ltb row entries → r ≡ row → n ≡ entries → live ≡ ltb r n
+live-row r n l row count = l ∙ (λ u. ltb (sym row u) (sym count u))
 
 module _ (ws s : List ℕ) {r n : ℕ} where
-  -- live: the row that was found is below the count
   pub exporter-tested : (x : ℕ) → r ≡ exporterRow (view (memory ws s)) x → n ≡ exporterCount ws → isLiveExporter (view (memory ws s)) x ≡ ltb r n
-  exporter-tested x p t = same-ltb _ (exporter-live (view (memory ws s)) x) p (exporters-length ws s) t
+  exporter-tested x p t = live-row r n (exporter-live (view (memory ws s)) x) p (t ∙ sym (exporters-length ws s))
 
   pub object-tested : (o : ℕ) → r ≡ objectRow (view (memory ws s)) o → n ≡ objectCount ws → isLiveObject (view (memory ws s)) o ≡ ltb r n
-  object-tested o p t = same-ltb _ (object-live (view (memory ws s)) o) p (objects-length ws) t
+  object-tested o p t = live-row r n (object-live (view (memory ws s)) o) p (t ∙ sym (objects-length ws))
 
   pub interface-tested : (i : Guid) → r ≡ interfaceRow (view (memory ws s)) i → n ≡ interfaceCount ws → isLiveInterface (view (memory ws s)) i ≡ ltb r n
-  interface-tested i p t = same-ltb _ (interface-live (view (memory ws s)) i) p (interfaces-length ws) t
+  interface-tested i p t = live-row r n (interface-live (view (memory ws s)) i) p (t ∙ sym (interfaces-length ws))
 
 -- full: the places are at most the count
 pub full-tested : {A : Type 0} (xs : List A) {n n′ : ℕ} (places : ℕ) → length xs ≡ n′ → n ≡ n′ → leb places (length xs) ≡ leb places n

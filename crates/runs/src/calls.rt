@@ -1,86 +1,189 @@
 // The calls on the table, each with its answer printed.
-use crate::memory;
+use kinds::Guid;
+use kinds::Oid;
+use kinds::Oxid;
 use kinds::SetId;
+use resolver::Resolved;
 
-// J: judge the table. N: judge its first words and bytes, by their numbers. T: judge it so many times. R: reset. C: census.
-// M: members of a set.
+// J: judge. R: reset. C: census. M: members of a set. X: enter an exporter. D: remove one. O: enter an object. I: enter an
+// interface. A: add. L: release. K: clock. V: resolve.
 pub fn call(kind: u8, s: &[u8], words: &mut [u64], store: &mut [u8]) {
     if kind == b'J' {
-        judge(words, store);
-    } else if kind == b'N' {
-        judge_parts(s, words, store);
-    } else if kind == b'T' {
-        repeat(input::number(s, 0).value, words, store);
+        verdict(table::judge::sound(words, store));
     } else if kind == b'R' {
-        answer(table::reset(words, store, input::number(s, 0).value));
+        number(table::reset(words, store, input::number(s, 0).value));
     } else if kind == b'C' {
         census(words, store);
     } else if kind == b'M' {
         members(input::number(s, 0).value, words, store);
+    } else if kind == b'X' {
+        enter_exporter(s, words, store);
+    } else if kind == b'D' {
+        number(resolver::remove_exporter(words, store, Oxid(input::number(s, 0).value)));
+    } else if kind == b'O' {
+        enter_object(s, words, store);
+    } else if kind == b'I' {
+        enter_interface(s, words, store);
+    } else if kind == b'A' {
+        add(s, words, store);
+    } else if kind == b'L' {
+        release(s, words, store);
+    } else if kind == b'K' {
+        clock(input::number(s, 0).value, words, store);
+    } else if kind == b'V' {
+        resolve(s, words, store);
     }
 }
 
-fn answer(number: u32) {
-    print::decimal(number as u64);
-    print::end_line();
+fn number(n: u32) {
+    print::decimal(n as u64);
+}
+
+fn labelled(label: &[u8], n: u64) {
+    print::text(label);
+    print::decimal(n);
 }
 
 fn verdict(sound: bool) {
     if sound {
-        print::text(b"sound\n");
+        print::text(b"sound");
     } else {
-        print::text(b"unsound\n");
+        print::text(b"unsound");
     }
 }
 
-fn judge<'a>(words: &'a [u64], store: &'a [u8]) {
-    verdict(table::judge::sound(words, store));
+// A GUID by its two halves, and the place after it.
+struct GuidToken {
+    value: Guid,
+    next: usize,
 }
 
-fn judge_parts<'a>(s: &[u8], words: &'a [u64], store: &'a [u8]) {
-    let first = input::number(s, 0);
-    let n = first.value as usize;
-    let m = input::number(s, first.next).value as usize;
-    if n <= words.len() {
-        if m <= store.len() {
-            judge(&words[..n], &store[..m]);
-        }
+fn guid(s: &[u8], at: usize) -> GuidToken {
+    let low = input::number(s, at);
+    let high = input::number(s, low.next);
+    let g = Guid {
+        low: low.value,
+        high: high.value,
+    };
+    GuidToken {
+        value: g,
+        next: high.next,
     }
 }
 
-// A word that no row uses changes each time.
-fn repeat(times: u64, words: &mut [u64], store: &[u8]) {
-    let mut left = times;
-    let mut sound = 0;
-    while 0 < left {
-        memory::put(words, 8191, left);
-        if table::judge::sound(words, store) {
-            sound = std::num::wrapping_add_u64(sound, 1);
-        }
-        left -= 1;
+fn narrow(n: u64) -> u32 {
+    (n % 4294967296) as u32
+}
+
+fn enter_exporter(s: &[u8], words: &mut [u64], store: &mut [u8]) {
+    let oxid = input::number(s, 0);
+    let unknown = guid(s, oxid.next);
+    let at = unknown.next;
+    if at <= s.len() {
+        let mut list = [0u8; 4096];
+        let n = input::decode(&s[at..], &mut list);
+        let ipid = unknown.value;
+        number(resolver::enter_exporter(words, store, Oxid(oxid.value), ipid, &list[..n]));
     }
-    print::decimal(sound);
-    print::text(b" times sound\n");
+}
+
+fn enter_object(s: &[u8], words: &mut [u64], store: &[u8]) {
+    let oid = input::number(s, 0);
+    let oxid = input::number(s, oid.next);
+    let ipid = guid(s, oxid.next);
+    let iid = guid(s, ipid.next);
+    let public = input::number(s, iid.next);
+    let mark = input::number(s, public.next);
+    let i = ipid.value;
+    let j = iid.value;
+    number(resolver::enter_object(
+        words,
+        store,
+        Oid(oid.value),
+        Oxid(oxid.value),
+        i,
+        j,
+        narrow(public.value),
+        mark.value != 0,
+    ));
+}
+
+fn enter_interface(s: &[u8], words: &mut [u64], store: &[u8]) {
+    let oid = input::number(s, 0);
+    let ipid = guid(s, oid.next);
+    let iid = guid(s, ipid.next);
+    let public = input::number(s, iid.next);
+    let i = ipid.value;
+    let j = iid.value;
+    number(resolver::enter_interface(words, store, Oid(oid.value), i, j, narrow(public.value)));
+}
+
+fn add(s: &[u8], words: &mut [u64], store: &[u8]) {
+    let ipid = guid(s, 0);
+    let public = input::number(s, ipid.next);
+    let private = input::number(s, public.next);
+    let i = ipid.value;
+    number(resolver::add(words, store, i, narrow(public.value), narrow(private.value)));
+}
+
+fn release(s: &[u8], words: &mut [u64], store: &[u8]) {
+    let ipid = guid(s, 0);
+    let public = input::number(s, ipid.next);
+    let private = input::number(s, public.next);
+    let i = ipid.value;
+    let r = resolver::release(words, store, i, narrow(public.value), narrow(private.value));
+    number(r.answer);
+    labelled(b" public ", r.public as u64);
+    labelled(b" private ", r.private as u64);
+    labelled(b" interfaces ", r.interfaces as u64);
+    labelled(b" objects ", r.objects as u64);
+}
+
+fn clock(time: u64, words: &mut [u64], store: &[u8]) {
+    let r = resolver::clock(words, store, time);
+    number(r.answer);
+    labelled(b" exporters ", r.exporters as u64);
+    labelled(b" objects ", r.objects as u64);
+    labelled(b" interfaces ", r.interfaces as u64);
+    labelled(b" sets ", r.sets as u64);
+}
+
+// The exporter's OXID, and the length of the buffer.
+fn resolve<'a>(s: &[u8], words: &'a [u64], store: &'a [u8]) {
+    let oxid = input::number(s, 0);
+    let n = input::number(s, oxid.next).value as usize;
+    let mut buffer = [0xeeu8; 1024];
+    resolve_into(Oxid(oxid.value), n, words, store, &mut buffer);
+}
+
+fn resolve_into<'a>(oxid: Oxid, n: usize, words: &'a [u64], store: &'a [u8], buffer: &'a mut [u8]) {
+    if buffer.len() < n {
+        return;
+    }
+    resolved(resolver::resolve(words, store, oxid, &mut buffer[0..n]));
+    print::bytes(&buffer[0..n]);
+}
+
+fn resolved(r: Resolved) {
+    number(r.answer);
+    labelled(b" length ", r.length as u64);
+    print::text(b" unknown ");
+    let unknown = r.unknown;
+    print::guid(unknown);
+    print::text(b" buffer ");
 }
 
 fn census<'a>(words: &'a [u64], store: &'a [u8]) {
     let r = table::census(words, store);
-    print::decimal(r.answer as u64);
-    print::text(b" exporters ");
-    print::decimal(r.exporters as u64);
-    print::text(b" objects ");
-    print::decimal(r.objects as u64);
-    print::text(b" interfaces ");
-    print::decimal(r.interfaces as u64);
-    print::text(b" sets ");
-    print::decimal(r.sets as u64);
-    print::end_line();
+    number(r.answer);
+    labelled(b" exporters ", r.exporters as u64);
+    labelled(b" objects ", r.objects as u64);
+    labelled(b" interfaces ", r.interfaces as u64);
+    labelled(b" sets ", r.sets as u64);
 }
 
 fn members<'a>(set: u64, words: &'a [u64], store: &'a [u8]) {
     let r = table::members(words, store, SetId(set));
-    print::decimal(r.answer as u64);
-    print::text(b" members ");
-    print::decimal(r.count as u64);
-    print::end_line();
+    number(r.answer);
+    labelled(b" members ", r.count as u64);
 }

@@ -45,3 +45,39 @@ pub fn put_bytes(store: &mut [u8], s: &[u8]) {
         fields::copy(store, at.value as usize, &buffer[..n]);
     }
 }
+
+pub fn copy_words(to: &mut [u64], from: &[u64]) {
+    let mut i = 0;
+    while i < from.len() {
+        put(to, i, from[i]);
+        i += 1;
+    }
+}
+
+// The words of b are the first ones of a.
+pub fn same_words<'a>(a: &'a [u64], b: &'a [u64]) -> bool {
+    let mut i = 0;
+    while i < b.len() {
+        if i < a.len() {
+            if a[i] != b[i] {
+                return false;
+            }
+        }
+        i += 1;
+    }
+    true
+}
+
+// The bytes of b are the first ones of a.
+pub fn same_bytes<'a>(a: &'a [u8], b: &'a [u8]) -> bool {
+    let mut i = 0;
+    while i < b.len() {
+        if i < a.len() {
+            if a[i] != b[i] {
+                return false;
+            }
+        }
+        i += 1;
+    }
+    true
+}

@@ -7,8 +7,7 @@ use Rattle.runs.proofs.run.Statement.{statement}
 use Rattle.runs.proofs.run.Tie as tie
 
 abbrev Inv-loop : tie.InvT-loop
-Inv-loop s words₀ store₀ at₀ words store at =
-    (at ≤ suc (length s)) × (length words ≡ length words₀) × (length store ≡ length store₀)
+Inv-loop s words₀ store₀ at₀ words store at = (at ≤ suc (length s)) × (length words ≡ length words₀) × (length store ≡ length store₀)
 
 abbrev μ-loop : tie.MeasureT-loop
 μ-loop s words₀ store₀ at₀ words store at = suc (length s) - at

@@ -1,4 +1,4 @@
--- `memory::fill_words`: the index stays within the array.
+-- `memory::fill_words`: the index stays within what is filled.
 use Prim.Native.Nat.{_≤_, _-_}
 use mathlib.Core.Path.{_≡_}
 use native.Mathlib.Omega.{arith}
