@@ -13,16 +13,16 @@ use Rattle.columns.proofs.Tests.{and-left}
 use Rattle.rules.specs.Entries.{Entries, oids}
 use Rattle.rules.specs.Calls.{Call}
 use Rattle.rules.specs.Sound.{sound}
-use Rattle.rules.specs.Rules.{isLiveExporter, isLiveObject, isLiveInterface, number, next, refused, done}
+use Rattle.rules.specs.Rules.{isLiveExporter, isLiveObject, isLiveInterface, isLiveSet, number, next, refused, done}
 use Rattle.rules.specs.Contract.{Memory, lengthsOnly}
 use Rattle.rules.proofs.Performing.{unsound, sound-refused, sound-accepted}
 use Rattle.rules.proofs.SoundLaws.{SoundTable, sound-fields, table-fields, table-made}
 use Rattle.rules.proofs.Keeps.{keeps}
-use Rattle.rules.proofs.ByRow.{exporterRow, objectRow, interfaceRow, exporter-live, object-live, interface-live}
-use Rattle.table.specs.View.{exporterCount, objectCount, interfaceCount, memory, view, soundMemory, Performed}
+use Rattle.rules.proofs.ByRow.{exporterRow, objectRow, interfaceRow, setRow, exporter-live, object-live, interface-live, set-live}
+use Rattle.table.specs.View.{exporterCount, objectCount, interfaceCount, setCount, memory, view, soundMemory, Performed}
 use Rattle.table.specs.Edits.{membersBelow}
 use Rattle.table.proofs.EditBelow.{nonzero, live-below}
-use Rattle.table.proofs.Entries.{exporters-length, objects-length, interfaces-length}
+use Rattle.table.proofs.Entries.{exporters-length, objects-length, interfaces-length, sets-length}
 
 -- ---- calls
 
@@ -112,6 +112,9 @@ module _ (ws s : List ℕ) {r n : ℕ} where
 
   pub interface-tested : (i : Guid) → r ≡ interfaceRow (view (memory ws s)) i → n ≡ interfaceCount ws → isLiveInterface (view (memory ws s)) i ≡ ltb r n
   interface-tested i p t = live-row r n (interface-live (view (memory ws s)) i) p (t ∙ sym (interfaces-length ws))
+
+  pub set-tested : (n′ : ℕ) → r ≡ setRow (view (memory ws s)) n′ → n ≡ setCount ws → isLiveSet (view (memory ws s)) n′ ≡ ltb r n
+  set-tested n′ p t = live-row r n (set-live (view (memory ws s)) n′) p (t ∙ sym (sets-length ws))
 
 -- full: the places are at most the count
 pub full-tested : {A : Type 0} (xs : List A) {n n′ : ℕ} (places : ℕ) → length xs ≡ n′ → n ≡ n′ → leb places (length xs) ≡ leb places n

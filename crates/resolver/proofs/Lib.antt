@@ -6,3 +6,6 @@ pub mod Settling
 pub mod Removing
 pub mod Releasing
 pub mod Expiring
+pub mod Memberships
+pub mod Hearing
+pub mod Pings

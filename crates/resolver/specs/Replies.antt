@@ -4,6 +4,7 @@ use mathlib.Core.List.{List, [], _∷_}
 use Rattle.rules.specs.Calls.{Reply}
 use Rattle.resolver.specs.declared.counting.Released.{Released}
 use Rattle.resolver.specs.declared.leaving.Expired.{Expired}
+use Rattle.resolver.specs.declared.pinging.Pinged.{Pinged}
 use Rattle.resolver.specs.declared.resolving.Resolved.{Resolved}
 
 abbrev pub releaseReply : Released → Reply
@@ -11,6 +12,9 @@ releaseReply r = record { number = r .answer; values = r .public ∷ r .private 
 
 abbrev pub clockReply : Expired → Reply
 clockReply r = record { number = r .answer; values = r .exporters ∷ r .objects ∷ r .interfaces ∷ r .sets ∷ []; part = []; buffer = [] }
+
+abbrev pub pingReply : Pinged → Reply
+pingReply r = record { number = r .answer; values = r .set .0 ∷ r .backoff ∷ []; part = []; buffer = [] }
 
 -- the buffer as it is left
 abbrev pub resolveReply : Resolved → List ℕ → Reply

@@ -9,10 +9,14 @@ pub use entering::enter_object;
 pub use leaving::Expired;
 pub use leaving::clock;
 pub use leaving::remove_exporter;
+pub use pinging::Pinged;
+pub use pinging::complex_ping;
+pub use pinging::simple_ping;
 pub use resolving::Resolved;
 pub use resolving::resolve;
 
 mod counting;
 mod entering;
 mod leaving;
+mod pinging;
 mod resolving;

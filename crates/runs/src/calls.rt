@@ -1,12 +1,14 @@
 // The calls on the table, each with its answer printed.
+use crate::memory;
 use kinds::Guid;
 use kinds::Oid;
 use kinds::Oxid;
 use kinds::SetId;
+use resolver::Pinged;
 use resolver::Resolved;
 
 // J: judge. R: reset. C: census. M: members of a set. X: enter an exporter. D: remove one. O: enter an object. I: enter an
-// interface. A: add. L: release. K: clock. V: resolve.
+// interface. A: add. L: release. S: simple ping. Q: complex ping. Z: complex ping with long lists. K: clock. V: resolve.
 pub fn call(kind: u8, s: &[u8], words: &mut [u64], store: &mut [u8]) {
     if kind == b'J' {
         verdict(table::judge::sound(words, store));
@@ -28,6 +30,12 @@ pub fn call(kind: u8, s: &[u8], words: &mut [u64], store: &mut [u8]) {
         add(s, words, store);
     } else if kind == b'L' {
         release(s, words, store);
+    } else if kind == b'S' {
+        number(resolver::simple_ping(words, store, SetId(input::number(s, 0).value)));
+    } else if kind == b'Q' {
+        complex_ping(s, words, store);
+    } else if kind == b'Z' {
+        long_ping(s, words, store);
     } else if kind == b'K' {
         clock(input::number(s, 0).value, words, store);
     } else if kind == b'V' {
@@ -137,6 +145,92 @@ fn release(s: &[u8], words: &mut [u64], store: &[u8]) {
     labelled(b" private ", r.private as u64);
     labelled(b" interfaces ", r.interfaces as u64);
     labelled(b" objects ", r.objects as u64);
+}
+
+// The set, the sequence number, then the number of adds and the adds, and the deletes likewise: at most 64 of each.
+fn complex_ping(s: &[u8], words: &mut [u64], store: &[u8]) {
+    let set = input::number(s, 0);
+    let sequence = input::number(s, set.next);
+    let adds_number = input::number(s, sequence.next);
+    let n = (adds_number.value % 65) as usize;
+    let mut adds = [0u64; 64];
+    let deletes_at = ids(s, adds_number.next, n, &mut adds);
+    let deletes_number = input::number(s, deletes_at);
+    let m = (deletes_number.value % 65) as usize;
+    let mut deletes = [0u64; 64];
+    ids(s, deletes_number.next, m, &mut deletes);
+    ping_with(
+        SetId(set.value),
+        (sequence.value % 65536) as u16,
+        &adds,
+        n,
+        &deletes,
+        m,
+        words,
+        store,
+    );
+}
+
+// Reads n identifiers from a place on; the place after them.
+fn ids(s: &[u8], at: usize, n: usize, out: &mut [u64]) -> usize {
+    let mut next = at;
+    let mut i = 0;
+    while i < n {
+        let id = input::number(s, next);
+        memory::put(out, i, id.value);
+        next = id.next;
+        i += 1;
+    }
+    next
+}
+
+// The set, the sequence number, an identifier, and how often it stands on the list of adds and on that of deletes.
+fn long_ping(s: &[u8], words: &mut [u64], store: &[u8]) {
+    let set = input::number(s, 0);
+    let sequence = input::number(s, set.next);
+    let id = input::number(s, sequence.next);
+    let adds = input::number(s, id.next);
+    let deletes = input::number(s, adds.next);
+    let mut list = [0u64; 65536];
+    memory::fill_words(&mut list, id.value);
+    ping_with(
+        SetId(set.value),
+        (sequence.value % 65536) as u16,
+        &list,
+        adds.value as usize,
+        &list,
+        deletes.value as usize,
+        words,
+        store,
+    );
+}
+
+// A ping with the first n adds and the first m deletes.
+fn ping_with<'a>(
+    set: SetId,
+    sequence: u16,
+    adds: &'a [u64],
+    n: usize,
+    deletes: &'a [u64],
+    m: usize,
+    words: &'a mut [u64],
+    store: &'a [u8],
+) {
+    if adds.len() < n {
+        return;
+    }
+    if deletes.len() < m {
+        return;
+    }
+    let joining = &adds[0..n];
+    let leaving = &deletes[0..m];
+    pinged(resolver::complex_ping(words, store, set, sequence, joining, leaving));
+}
+
+fn pinged(r: Pinged) {
+    number(r.answer);
+    labelled(b" set ", r.set.0);
+    labelled(b" backoff ", r.backoff as u64);
 }
 
 fn clock(time: u64, words: &mut [u64], store: &[u8]) {

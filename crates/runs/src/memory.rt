@@ -6,7 +6,7 @@ pub fn fill(words: &mut [u64], store: &mut [u8], v: u64) {
     fill_bytes(store, (v % 256) as u8);
 }
 
-fn fill_words(words: &mut [u64], v: u64) {
+pub fn fill_words(words: &mut [u64], v: u64) {
     let mut i = 0;
     while i < words.len() {
         words[i] = v;

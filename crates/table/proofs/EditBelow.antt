@@ -57,7 +57,7 @@ module _ (ids : List ℕ) (m : Members) where
 -- ---- the array
 
 -- the members of the set at a row, by its words
-row-members : (ws : List ℕ) (r : ℕ) → r < setCount ws → getD (setsOf ws) r noSet .members ≡ map (λ j. getD (oidsOf ws) j 0) (memberRows (membersAt ws r))
+pub row-members : (ws : List ℕ) (r : ℕ) → r < setCount ws → getD (setsOf ws) r noSet .members ≡ map (λ j. getD (oidsOf ws) j 0) (memberRows (membersAt ws r))
 unfolding rowAt tabulate
 row-members ws r h = ap (λ (p : PingSet). p .members) (set-at ws r noSet h)
 
