@@ -4,7 +4,7 @@ use mathlib.Core.Path.{_≡_, refl, sym, ap, _∙_}
 use mathlib.Core.Bool.{Bool, true, false, not, _||_}
 use mathlib.Core.List.{List, [], _∷_}
 use borrow.Author.Tests.{not-true, not-false, lt-ltb, le-ltb}
-use lib.ListN.{length}
+use lib.ListN.{length, getD}
 use lib.Dec.{eqb, ltb, leb}
 use Rattle.kinds.specs.Refusals.{Row, order, _gives_}
 use Rattle.kinds.specs.declared.Guid.{Guid}
@@ -13,13 +13,13 @@ use Rattle.columns.proofs.Tests.{and-left}
 use Rattle.rules.specs.Entries.{Entries, oids}
 use Rattle.rules.specs.Calls.{Call}
 use Rattle.rules.specs.Sound.{sound}
-use Rattle.rules.specs.Rules.{isLiveExporter, isLiveObject, isLiveInterface, isLiveSet, number, next, refused, done}
+use Rattle.rules.specs.Rules.{isLiveExporter, isLiveObject, isLiveInterface, isLiveSet, noExporter, exporterOf, number, next, refused, done}
 use Rattle.rules.specs.Contract.{Memory, lengthsOnly}
 use Rattle.rules.proofs.Performing.{unsound, sound-refused, sound-accepted}
 use Rattle.rules.proofs.SoundLaws.{SoundTable, sound-fields, table-fields, table-made}
 use Rattle.rules.proofs.Keeps.{keeps}
-use Rattle.rules.proofs.ByRow.{exporterRow, objectRow, interfaceRow, setRow, exporter-live, object-live, interface-live, set-live}
-use Rattle.table.specs.View.{exporterCount, objectCount, interfaceCount, setCount, memory, view, soundMemory, Performed}
+use Rattle.rules.proofs.ByRow.{exporterRow, objectRow, interfaceRow, setRow, exporter-live, object-live, interface-live, set-live, exporter-row}
+use Rattle.table.specs.View.{exporterCount, objectCount, interfaceCount, setCount, exportersOf, memory, view, soundMemory, Performed}
 use Rattle.table.specs.Edits.{membersBelow}
 use Rattle.table.proofs.EditBelow.{nonzero, live-below}
 use Rattle.table.proofs.Entries.{exporters-length, objects-length, interfaces-length, sets-length}
@@ -115,6 +115,10 @@ module _ (ws s : List ℕ) {r n : ℕ} where
 
   pub set-tested : (n′ : ℕ) → r ≡ setRow (view (memory ws s)) n′ → n ≡ setCount ws → isLiveSet (view (memory ws s)) n′ ≡ ltb r n
   set-tested n′ p t = live-row r n (set-live (view (memory ws s)) n′) p (t ∙ sym (sets-length ws))
+
+-- the exporter stands in the row that was found
+pub exporter-in-row : (ws s : List ℕ) (x : ℕ) {r : ℕ} → r ≡ exporterRow (view (memory ws s)) x → getD (exportersOf ws s) r noExporter ≡ exporterOf (view (memory ws s)) x
+exporter-in-row ws s x p = ap (λ (k : ℕ). getD (exportersOf ws s) k noExporter) p ∙ sym (exporter-row (view (memory ws s)) x)
 
 -- full: the places are at most the count
 pub full-tested : {A : Type 0} (xs : List A) {n n′ : ℕ} (places : ℕ) → length xs ≡ n′ → n ≡ n′ → leb places (length xs) ≡ leb places n

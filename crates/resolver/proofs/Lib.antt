@@ -9,3 +9,4 @@ pub mod Expiring
 pub mod Memberships
 pub mod Hearing
 pub mod Pings
+pub mod Stopping

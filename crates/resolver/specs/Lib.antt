@@ -1,3 +1,4 @@
 pub mod Replies
 pub mod Leaving
 pub mod Pinging
+pub mod NextStop

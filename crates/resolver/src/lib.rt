@@ -14,9 +14,14 @@ pub use pinging::complex_ping;
 pub use pinging::simple_ping;
 pub use resolving::Resolved;
 pub use resolving::resolve;
+pub use routing::StopPlace;
+pub use routing::next_stop;
+pub use routing::next_stop_answer;
+pub use routing::next_stop_place;
 
 mod counting;
 mod entering;
 mod leaving;
 mod pinging;
 mod resolving;
+mod routing;

@@ -12,22 +12,18 @@ use Rattle.fields.specs.Fields.{written}
 use Rattle.fields.proofs.Laws.{written-front}
 use Rattle.rules.specs.Entries.{Exporter}
 use Rattle.rules.specs.Calls.{Call}
-use Rattle.rules.specs.Rules.{noExporter, exporterOf, refusals, number, next, results, refused, done}
+use Rattle.rules.specs.Rules.{noExporter, refusals, number, next, results, refused, done}
 use Rattle.rules.proofs.SoundLaws.{sound-fields}
 use Rattle.rules.proofs.ByRow.{exporterRow, exporter-row}
 use Rattle.table.specs.View.{exporterCount, exportersOf, memory, view}
 use Rattle.resolver.specs.Replies.{resolveReply}
-use Rattle.resolver.proofs.Calls.{sound-table, unsound-call, refused-call, accepted-call, row-gives, row-passes, gone-gives, live-passes, rows-end, exporter-tested}
+use Rattle.resolver.proofs.Calls.{sound-table, unsound-call, refused-call, accepted-call, row-gives, row-passes, gone-gives, live-passes, rows-end, exporter-tested, exporter-in-row}
 use borrow.Author.Needs.{needs}
 use Rattle.resolver.proofs.resolving.resolve.Statement.{statement}
 use Rattle.resolver.proofs.resolving.resolve.Tie as tie
 
 -- the row that was found, of as many as were counted
 module _ (ws s buffer : List ℕ) (x : ℕ) {r : ℕ} (found : r ≡ exporterRow (view (memory ws s)) x) where
-  -- the exporter stands in it
-  in-row : getD (exportersOf ws s) r noExporter ≡ exporterOf (view (memory ws s)) x
-  in-row = ap (λ (k : ℕ). getD (exportersOf ws s) k noExporter) found ∙ sym (exporter-row (view (memory ws s)) x)
-
   module _ {n : ℕ} (counted : n ≡ exporterCount ws) where
     -- no exporter
     gone : n ≤ r → 4 ≡ number (Call.resolve x buffer) (view (memory ws s))
@@ -40,14 +36,14 @@ module _ (ws s buffer : List ℕ) (x : ℕ) {r : ℕ} (found : r ≡ exporterRow
     unfolding number refusals
     length-left held live =
         live-passes (exporter-tested ws s x found counted) _ _ refl live
-        ∙ ap (λ (l : List ℕ). order (ltb (length buffer) (length l) gives 15 ∷ [])) (sym (held ∙ ap (λ (p : Exporter). p .bindings) in-row))
+        ∙ ap (λ (l : List ℕ). order (ltb (length buffer) (length l) gives 15 ∷ [])) (sym (held ∙ ap (λ (p : Exporter). p .bindings) (exporter-in-row ws s x found)))
 
   -- the list, the IPID and the buffer are those of the rules
   answered : {list after : List ℕ} {u : Guid} → list ≡ getD (exportersOf ws s) r noExporter .bindings → u ≡ getD (exportersOf ws s) r noExporter .unknown
       → after ≡ written buffer 0 list → length list ≤ length buffer
       → resolveReply (record { answer = 0; length = length list; unknown = u }) after ≡ done (Call.resolve x buffer) (view (memory ws s))
   unfolding done results
-  answered {list} held unknown copied fits = rw (← in-row, ← held, ← unknown, copied, written-front buffer list fits)
+  answered {list} held unknown copied fits = rw (← exporter-in-row ws s x found, ← held, ← unknown, copied, written-front buffer list fits)
 
 sound-requires : tie.Need-sound-requires
 sound-requires c κs = search needs

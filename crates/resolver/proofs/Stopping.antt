@@ -1,0 +1,150 @@
+-- The next stop: the reference as it was read, the bytes of an exporter's list, and the place that each outcome gives.
+use Prim.Native.Nat.{ℕ, _+_, _-_, _*_, _<_, _≤_}
+use mathlib.Core.Path.{_≡_, refl, sym, ap, _∙_}
+use mathlib.Core.Bool.{Bool, true, false}
+use mathlib.Core.List.{List, [], _∷_}
+use native.Mathlib.Omega.{arith}
+use native.Mathlib.Nat.{add-sub-cancel-left}
+use borrow.Author.Tests.{eqb-true, eqb-false, ne-eqb}
+use lib.Dec.{eqb}
+use lib.ListN.{length, take, drop, getD, length-take, length-drop}
+use lib.Seq.{length-take-le, take-take}
+use Rattle.kinds.specs.Refusals.{order, _gives_, differ}
+use Rattle.kinds.proofs.Refusing.{by-test, eq-differ, ne-differ}
+use Rattle.bindings.specs.Bindings.{listLength}
+use Rattle.bindings.proofs.Laws.{front}
+use Rattle.references.specs.References.{isCustom, referenceAt, referenceAnswer, readReference, tailPlace}
+use Rattle.references.specs.declared.Reference.{Reference}
+use Rattle.references.specs.declared.ReadReference.{ReadReference}
+use Rattle.references.proofs.Laws.{accepted, flags-at, tail-number, tail-within, tail-bytes}
+use Rattle.references.proofs.RoundTrip.{same-reference}
+use Rattle.rules.specs.Entries.{Entries}
+use Rattle.rules.specs.Calls.{Call, Reply}
+use Rattle.rules.specs.Sound.{listsKept}
+use Rattle.rules.specs.Rules.{isLiveExporter, noExporter, oxidOf, refusals, number, next, results, refused, done}
+use Rattle.rules.specs.Contract.{Memory, replyTo}
+use Rattle.rules.proofs.Performing.{unsound, sound-refused}
+use Rattle.rules.proofs.SoundLaws.{table-fields}
+use Rattle.rules.proofs.ByRow.{exporterRow}
+use Rattle.table.specs.View.{exporterCount, slot, exportersOf, memory, view, soundMemory, Performed}
+use Rattle.table.proofs.RowChecks.{front-kept}
+use Rattle.table.proofs.Entries.{exporter-at}
+use Rattle.resolver.specs.NextStop.{refusedStop, stopInStore, stopInReference, stopPlace, stopStart, stopReply, placeReply, StopFound, StopPart, OneCall}
+use Rattle.resolver.specs.declared.routing.StopPlace.{StopPlace}
+use Rattle.resolver.proofs.Calls.{performed, row-gives, row-passes, exporter-in-row}
+
+-- ---- the reference as it was read
+
+module _ (reference : List ℕ) {x : ReadReference} (read : x ≡ readReference reference) where
+  read-number : x .answer ≡ referenceAnswer reference
+  unfolding readReference
+  read-number =
+      ap (λ (r : ReadReference). r .answer) read
+      ∙ by-test (λ (r : ReadReference). r .answer ≡ referenceAnswer reference) (eqb (referenceAnswer reference) 0) _ _ (λ e. sym (eqb-true _ _ e)) (λ e. refl)
+
+  -- its refusal is passed on
+  pub reference-refused : (e : Entries) → (x .answer ≡ 0 → ⊥) → x .answer ≡ number (Call.nextStop reference) e
+  unfolding number refusals
+  reference-refused e bad =
+      let n : ℕ = referenceAnswer reference in
+      read-number ∙ row-gives (differ n 0) n _ refl (ne-differ n 0 (λ z. bad (read-number ∙ z)))
+
+  module _ (good : x .answer ≡ 0) where
+    -- it is accepted, with these fields
+    pub same-fields : (referenceAnswer reference ≡ 0) × (referenceAt reference ≡ x .reference)
+    same-fields = same-reference reference (x .reference) (sym read ∙ (λ u. record { answer = good u; reference = x .reference }))
+
+    pub same-oxid : x .reference .block .oxid .0 ≡ oxidOf reference
+    same-oxid = ap (λ (r : Reference). r .block .oxid .0) (sym (same-fields .1))
+
+    -- the row of the custom form is left
+    pub form-left : (e : Entries) → number (Call.nextStop reference) e ≡ order (isCustom (x .reference .flags) gives 14 ∷ [])
+    unfolding number refusals
+    form-left e =
+        let n : ℕ = referenceAnswer reference in
+        row-passes (differ n 0) n _ refl (eq-differ n 0 (same-fields .0))
+        ∙ ap (λ (f : ℕ). order (isCustom f gives 14 ∷ [])) (sym (flags-at reference (accepted reference (same-fields .0) .form)) ∙ ap (λ (r : Reference). r .flags) (same-fields .1))
+
+-- ---- the list of a live exporter, in the store
+
+module _ (ws s : List ℕ) (i : ℕ) (live : i < exporterCount ws) (kept : listsKept (view (memory ws s)) ≡ true) where
+  enough : listLength (slot s i) ≤ length (slot s i)
+  enough = front (slot s i) (front-kept ws s i live kept) .enough
+
+  list-size : length (getD (exportersOf ws s) i noExporter .bindings) ≡ listLength (slot s i)
+  list-size = rw (exporter-at ws s i noExporter live) (length-take-le _ _ enough)
+
+  -- it lies in the store
+  list-within : length s ≡ 8192 → 512 * i + length (getD (exportersOf ws s) i noExporter .bindings) ≤ length s
+  list-within long =
+      let h = enough in
+      rw list-size (omega (arith, length-take 512 (drop (512 * i) s), length-drop (512 * i) s))
+
+  list-bytes : take (512 * i + length (getD (exportersOf ws s) i noExporter .bindings) - 512 * i) (drop (512 * i) s) ≡ getD (exportersOf ws s) i noExporter .bindings
+  list-bytes =
+      let h = enough in
+      let short : listLength (slot s i) ≤ 512 = omega (arith, length-take 512 (drop (512 * i) s)) in
+      rw (add-sub-cancel-left, list-size, exporter-at ws s i noExporter live) (sym (take-take _ 512 _ short))
+
+-- ---- the place
+
+module _ (ws s reference : List ℕ) where
+  -- a refusal
+  pub refused-stop : (n : ℕ) → (n ≡ 0 → ⊥) → Performed (Call.nextStop reference) (memory ws s) (refused n (Call.nextStop reference) (view (memory ws s))) (memory ws s)
+      → StopFound (memory ws s) reference (refusedStop n)
+  unfolding refused results stopPlace
+  refused-stop n z h =
+      let e : replyTo view (Call.nextStop reference) (memory ws s) .number ≡ n = sym (ap (λ (r : Reply). r .number) (h .answered)) in
+      record { performed = h; place = rw (e, ne-eqb n 0 z); within = (omega arith, omega arith) }
+
+  module _ (h : Performed (Call.nextStop reference) (memory ws s) (done (Call.nextStop reference) (view (memory ws s))) (memory ws s)) where
+    done-number : replyTo view (Call.nextStop reference) (memory ws s) .number ≡ 0
+    unfolding done
+    done-number = sym (ap (λ (r : Reply). r .number) (h .answered))
+
+    -- the OXID is live: its exporter's list
+    pub store-stop : {i : ℕ} → i ≡ exporterRow (view (memory ws s)) (oxidOf reference) → isLiveExporter (view (memory ws s)) (oxidOf reference) ≡ true
+        → i < exporterCount ws → listsKept (view (memory ws s)) ≡ true → length s ≡ 8192 → StopFound (memory ws s) reference (stopInStore (memory ws s) i)
+    unfolding done results stopPlace
+    store-stop {i} row live l kept long =
+        record {
+          performed = rw (list-bytes ws s i l kept, exporter-in-row ws s (oxidOf reference) row) (rw live at h);
+          place = rw (done-number, live, ← row);
+          within = (omega arith, list-within ws s i l kept long);
+        }
+
+    -- it is not: the reference's own list
+    pub reference-stop : referenceAnswer reference ≡ 0 → isLiveExporter (view (memory ws s)) (oxidOf reference) ≡ false
+        → StopFound (memory ws s) reference (stopInReference (tailPlace reference))
+    unfolding done results stopPlace
+    reference-stop good gone =
+        record {
+          performed = rw (tail-number reference ∙ good, tail-bytes reference) (rw gone at h);
+          place = rw (done-number, gone);
+          within = tail-within reference;
+        }
+
+-- the part of a place that is answered
+pub found-part : {m : Memory} {reference : List ℕ} {p : StopPlace} → StopFound m reference p → (store bytes : ℕ × ℕ)
+    → StopPart m reference store bytes (stopStart p store bytes) (placeReply p (m .store) reference .part)
+found-part found store bytes =
+    record { bytes = ap (λ (r : Reply). r .part) (found .performed .answered); begins = ap (λ (q : StopPlace). stopStart q store bytes) (found .place) }
+
+-- ---- the number and the part, as one call
+
+module _ (m : Memory) (reference : List ℕ) {n : ℕ} {part : List ℕ} (e : n ≡ replyTo view (Call.nextStop reference) m .number) (f : part ≡ replyTo view (Call.nextStop reference) m .part) where
+  -- they are those of the reply with which the call is performed
+  as-performed : {k : ℕ} {b : List ℕ} → Performed (Call.nextStop reference) m (stopReply k b) m → Performed (Call.nextStop reference) m (stopReply n part) m
+  as-performed h = rw (e, f, ← h .answered) h
+
+  by-outcome : (sound accepted : Bool) → soundMemory m ≡ sound → eqb (number (Call.nextStop reference) (view m)) 0 ≡ accepted
+      → Performed (Call.nextStop reference) m (stopReply n part) m
+  unfolding next refused done results
+  by-outcome false a s t = as-performed (unsound view (Call.nextStop reference) m refl s)
+  by-outcome true false s t = as-performed (sound-refused view (Call.nextStop reference) m refl s _ refl (eqb-false _ _ t))
+  by-outcome true true s t =
+      let w = table-fields view m s in
+      as-performed (performed (Call.nextStop reference) m m refl s (eqb-true _ _ t) (w .words) (w .store) refl)
+
+pub one-call : OneCall
+one-call m reference n part e f = by-outcome m reference e f (soundMemory m) (eqb (number (Call.nextStop reference) (view m)) 0) refl refl
