@@ -9,3 +9,4 @@ pub mod Feeding
 pub mod Room
 pub mod Demands
 pub mod Runs
+pub mod Cases
