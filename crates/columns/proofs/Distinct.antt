@@ -43,6 +43,11 @@ module _ {A : Type 0} (same : A → A → Bool) where
   unfolding distinct
   distinct-tail x xs h = and-right (not (some (same x) xs)) (distinct same xs) h
 
+  -- of no element
+  pub distinct-none : distinct same [] ≡ true
+  unfolding distinct
+  distinct-none = refl
+
   -- of one element
   pub distinct-one : (x : A) → distinct same (x ∷ []) ≡ true
   unfolding distinct some

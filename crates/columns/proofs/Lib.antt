@@ -5,6 +5,7 @@ pub mod Distinct
 pub mod Loops
 pub mod Moves
 pub mod Guids
+pub mod Marks
 pub mod RowLaws
 pub mod RowLoops
 pub mod WordBits

@@ -19,6 +19,10 @@ use Rattle.columns.proofs.Lists.{length-tabulate, getD-tabulate}
 pub column-step : {A : Type 0} (xs : List A) (d : A) (i : ℕ) → i < length xs → drop i xs ≡ getD xs i d ∷ drop (i + 1) xs
 column-step xs d i h = rw (add-one i) (drop-cons xs i d h)
 
+-- going backwards, the one before the elements from n on
+pub last-step : {A : Type 0} (xs : List A) (d : A) (n : ℕ) → 0 < n → n ≤ length xs → drop (n - 1) xs ≡ getD xs (n - 1) d ∷ drop n xs
+last-step xs d n p h = let e : n - 1 + 1 ≡ n = omega arith in rw e at (column-step xs d (n - 1) (omega arith))
+
 -- none is left
 pub column-end : {A : Type 0} (xs : List A) (i : ℕ) → length xs ≤ i → drop i xs ≡ []
 column-end xs i h = drop-of-length-le xs h

@@ -1,4 +1,5 @@
 // Columns: slices of one word for each row.
+mod buckets;
 pub mod members;
 pub mod rows;
 
@@ -49,13 +50,19 @@ pub fn all_nonzero(col: &[u64]) -> bool
 pub fn all_distinct(col: &[u64]) -> bool
     ensures { λ r. ⌜ r ≡ distinct eqb (now (col .entry)) ⌝ }
 {
-    let mut i = 0;
-    while i < col.len() {
-        let next = i + 1;
-        if has(&col[next..], col[i]) {
-            return false;
+    let mut marks = [false; 4096];
+    let mut i = col.len();
+    while 0 < i {
+        let next = i;
+        i -= 1;
+        let x = col[i];
+        let b = buckets::of_word(x);
+        if marks[b] {
+            if has(&col[next..], x) {
+                return false;
+            }
         }
-        i += 1;
+        marks[b] = true;
     }
     true
 }

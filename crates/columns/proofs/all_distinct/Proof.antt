@@ -1,25 +1,43 @@
--- `columns::all_distinct`: what is left from i on is distinct where the whole column is.
-use Prim.Native.Nat.{_-_, _+_}
-use mathlib.Core.Path.{_≡_, refl}
+-- `columns::all_distinct`: the words from i on are distinct, and their buckets are marked.
+use Prim.Native.Nat.{_≤_, _-_}
+use mathlib.Core.Path.{_≡_, sym}
+use mathlib.Core.Bool.{false}
+use mathlib.Core.Logic.{⊎-elim}
+use native.Mathlib.Omega.{arith}
 use borrow.Author.Needs.{needs}
-use lib.ListN.{length, drop, getD}
 use lib.Dec.{eqb}
-use Rattle.columns.specs.Lists.{some, distinct}
-use Rattle.columns.proofs.Loops.{column-step, column-end, tail-part, distinct-passes, distinct-fails, distinct-end, told}
+use lib.ListN.{length, drop, getD, length-replicate}
+use Rattle.columns.specs.Lists.{some}
+use Rattle.columns.specs.Buckets.{wordBucket}
+use Rattle.columns.proofs.Distinct.{eqb-decides}
+use Rattle.columns.proofs.Marks.{Passed, passed-none, passed-one, repeated, unmarked}
+use Rattle.columns.proofs.Loops.{last-step, column-end, tail-part, told}
 use Rattle.columns.proofs.all_distinct.Statement.{statement}
 use Rattle.columns.proofs.all_distinct.Tie as tie
 
 abbrev Inv-loop : tie.InvT-loop
-Inv-loop col i₀ i = distinct eqb col ≡ distinct eqb (drop i col)
+Inv-loop col marks₀ i₀ marks i = (i ≤ length col) × Passed eqb wordBucket marks (drop i col)
 
 abbrev μ-loop : tie.MeasureT-loop
-μ-loop col i₀ i = length col - i
+μ-loop col marks₀ i₀ marks i = i
 
 loop-holds : tie.Need-loop-holds Inv-loop μ-loop
-loop-holds c = refl
+loop-holds c = (search needs, passed-none _ _ _ (length-replicate 4096 false) (column-end (c .before .args .col .now) (length (c .before .args .col .now)) (search needs)))
 
-add-next : tie.Need-add-next Inv-loop μ-loop
-add-next c = search needs
+sub-i : tie.Need-sub-i Inv-loop μ-loop
+sub-i c = search needs
+
+mul-x : tie.Need-mul-x Inv-loop μ-loop
+mul-x c = search needs
+
+shared-slice-read-x : tie.Need-shared-slice-read-x Inv-loop μ-loop
+shared-slice-read-x c = search needs
+
+of-word-requires : tie.Need-of-word-requires Inv-loop μ-loop
+of-word-requires c κs = search needs
+
+array-read-if1 : tie.Need-array-read-if1 Inv-loop μ-loop
+array-read-if1 c = search needs
 
 mul-has : tie.Need-mul-has Inv-loop μ-loop
 mul-has c = search needs
@@ -33,37 +51,38 @@ part-has-start c = search needs
 part-has-end : tie.Need-part-has-end Inv-loop μ-loop
 part-has-end c = search needs
 
-mul-has-2 : tie.Need-mul-has-2 Inv-loop μ-loop
-mul-has-2 c = search needs
-
-shared-slice-read-has : tie.Need-shared-slice-read-has Inv-loop μ-loop
-shared-slice-read-has c = search needs
-
 has-requires : tie.Need-has-requires Inv-loop μ-loop
 has-requires c κs = search needs
 
 returns : tie.Need-returns Inv-loop μ-loop
 returns c =
-    let at = c .before .before .before .before .before in
-    let l = at .loop in
-    let v = at .before .before .args .col .now in
-    distinct-fails (column-step _ 0 (l .i) (search needs)) _ (l .inv) (told (some (eqb (getD v (l .i) 0))) (tail-part (l .i + 1) v) (c .before .has .ensures) (c .if1 .taken))
+    let l = c .before .before .before .before .before .before .before .loop in
+    let v = c .before .before .before .before .before .before .before .before .before .args .col .now in
+    repeated eqb (l .i - 1) v (last-step v 0 (l .i) (search needs) (search needs)) (told (some (eqb (getD v (l .i - 1) 0))) (tail-part (l .i) v) (c .before .has .ensures) (c .if2 .taken))
 
-add-i : tie.Need-add-i Inv-loop μ-loop
-add-i c = search needs
+array-write-marks : tie.Need-array-write-marks Inv-loop μ-loop
+array-write-marks c = search needs
 
 loop-less : tie.Need-loop-less Inv-loop μ-loop
 loop-less c = search needs
 
 loop-again : tie.Need-loop-again Inv-loop μ-loop
 loop-again c =
-    let at = c .before .before .before .before .before in
-    let l = at .loop in
-    let v = at .before .before .args .col .now in
-    distinct-passes (column-step _ 0 (l .i) (search needs)) _ (l .inv) (told (some (eqb (getD v (l .i) 0))) (tail-part (l .i + 1) v) (c .before .has .ensures) (c .if1 .left))
+    let l = c .before .before .before .before .loop in
+    let v = c .before .before .before .before .before .before .args .col .now in (
+      search needs,
+      passed-one _ _ (last-step v 0 (l .i) (search needs) (search needs)) (l .inv .1) (c .before .of-word .ensures)
+          (⊎-elim
+          (λ w. told (some (eqb (getD v (l .i - 1) 0))) (tail-part (l .i) v) (w .2 .ensures) (w .3 .left))
+          (λ w. unmarked wordBucket eqb eqb-decides (getD v (l .i - 1) 0) (l .inv .1 .marked) (c .before .of-word .ensures) (w .left))
+          (c .if1 .came)),
+    )
 
 returns-2 : tie.Need-returns-2 Inv-loop μ-loop
-returns-2 c = let l = c .before .loop in distinct-end (column-end _ (l .i) (search needs)) _ (l .inv)
+returns-2 c =
+    let l = c .before .loop in
+    let e : l .i ≡ 0 = omega arith in
+    sym (rw e at (l .inv .1 .differ))
 
 pub all-distinct-spec : {M : Type 1} → statement M
 all-distinct-spec =
@@ -72,16 +91,18 @@ all-distinct-spec =
     Inv-loop
     μ-loop
     loop-holds
-    add-next
+    sub-i
+    mul-x
+    shared-slice-read-x
+    of-word-requires
+    array-read-if1
     mul-has
     sub-has
     part-has-start
     part-has-end
-    mul-has-2
-    shared-slice-read-has
     has-requires
     returns
-    add-i
+    array-write-marks
     loop-less
     loop-again
     returns-2)

@@ -1,0 +1,22 @@
+-- Buckets: numbers below 4,096, one for each GUID and each word, under which the same ones are found.
+use Prim.Native.Nat.{ℕ, _+_, _*_, _/_, _%_}
+use mathlib.Core.Path.{_≡_}
+use mathlib.Core.Bool.{Bool, true, false}
+use mathlib.Core.List.{List}
+use lib.ListN.{length, getD}
+use Rattle.kinds.specs.declared.Guid.{Guid}
+use Rattle.columns.specs.Lists.{every}
+
+-- middle bits of a sum of products, so that identifiers that count up by any step spread; the factors are odd and below 2 ^ 30
+unfoldable pub guidBucket : Guid → ℕ
+guidBucket g =
+    (g .low % 4294967296 * 1013904223 + g .low / 4294967296 * 668265263 + (g .high % 4294967296 * 374761393 + g .high / 4294967296 * 461845907))
+    / 1048576 % 4096
+
+abbrev pub wordBucket : ℕ → ℕ
+wordBucket x = guidBucket (record { low = x; high = 0 })
+
+-- a mark for each bucket; the bucket of each element is marked
+pub record Marked {A : Type 0} (bucket : A → ℕ) (marks : List Bool) (xs : List A) : Type 0 where
+  pub size : length marks ≡ 4096
+  pub each : every (λ x. getD marks (bucket x) false) xs ≡ true
