@@ -17,3 +17,15 @@ pub fn of_word(x: u64) -> usize
 {
     of_guid(Guid { low: x, high: 0 })
 }
+
+// For each bucket a row whose word has it, as a hint: it may be any number.
+pub fn hints(col: &[u64]) -> [u16; 4096] {
+    let mut rows = [0u16; 4096];
+    let mut i = 0;
+    while i < col.len() {
+        let b = of_word(col[i]);
+        rows[b] = (i % 65536) as u16;
+        i += 1;
+    }
+    rows
+}

@@ -67,13 +67,29 @@ pub fn all_distinct(col: &[u64]) -> bool
     true
 }
 
+// The same, with a row to try first.
+fn has_hinted(col: &[u64], hint: u16, x: u64) -> bool
+    ensures { λ r. ⌜ r ≡ among (now (col .entry)) x ⌝ }
+{
+    let row = hint as usize;
+    if row < col.len() {
+        if x == col[row] {
+            return true;
+        }
+    }
+    has(col, x)
+}
+
 // Each word of a stands in b.
 pub fn all_in(a: &[u64], b: &[u64]) -> bool
     ensures { λ r. ⌜ r ≡ every (among (now (b .entry))) (now (a .entry)) ⌝ }
 {
+    let hints = buckets::hints(b);
     let mut i = 0;
     while i < a.len() {
-        if !has(b, a[i]) {
+        let x = a[i];
+        let k = buckets::of_word(x);
+        if !has_hinted(b, hints[k], x) {
             return false;
         }
         i += 1;

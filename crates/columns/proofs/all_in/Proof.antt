@@ -10,27 +10,39 @@ use Rattle.columns.proofs.all_in.Statement.{statement}
 use Rattle.columns.proofs.all_in.Tie as tie
 
 abbrev Inv-loop : tie.InvT-loop
-Inv-loop a b i₀ i = every (among b) a ≡ every (among b) (drop i a)
+Inv-loop a b hints i₀ i = every (among b) a ≡ every (among b) (drop i a)
 
 abbrev μ-loop : tie.MeasureT-loop
-μ-loop a b i₀ i = length a - i
+μ-loop a b hints i₀ i = length a - i
+
+hints-requires : tie.Need-hints-requires Inv-loop μ-loop
+hints-requires c κs = search needs
 
 loop-holds : tie.Need-loop-holds Inv-loop μ-loop
 loop-holds c = refl
 
-mul-has : tie.Need-mul-has Inv-loop μ-loop
-mul-has c = search needs
+mul-x : tie.Need-mul-x Inv-loop μ-loop
+mul-x c = search needs
 
-shared-slice-read-has : tie.Need-shared-slice-read-has Inv-loop μ-loop
-shared-slice-read-has c = search needs
+shared-slice-read-x : tie.Need-shared-slice-read-x Inv-loop μ-loop
+shared-slice-read-x c = search needs
 
-has-requires : tie.Need-has-requires Inv-loop μ-loop
-has-requires c κs = search needs
+of-word-requires : tie.Need-of-word-requires Inv-loop μ-loop
+of-word-requires c κs = search needs
+
+mul-has-hinted : tie.Need-mul-has-hinted Inv-loop μ-loop
+mul-has-hinted c = search needs
+
+array-read-has-hinted : tie.Need-array-read-has-hinted Inv-loop μ-loop
+array-read-has-hinted c = search needs
+
+has-hinted-requires : tie.Need-has-hinted-requires Inv-loop μ-loop
+has-hinted-requires c κs = search needs
 
 returns : tie.Need-returns Inv-loop μ-loop
 returns c =
-    let l = c .before .before .before .before .loop in
-    every-fails (column-step _ 0 (l .i) (search needs)) _ (l .inv) (sym (c .before .has .ensures) ∙ not-true _ (c .if1 .taken))
+    let l = c .before .before .before .before .before .loop in
+    every-fails (column-step _ 0 (l .i) (search needs)) _ (l .inv) (sym (c .before .has-hinted .ensures) ∙ not-true _ (c .if1 .taken))
 
 add-i : tie.Need-add-i Inv-loop μ-loop
 add-i c = search needs
@@ -40,8 +52,8 @@ loop-less c = search needs
 
 loop-again : tie.Need-loop-again Inv-loop μ-loop
 loop-again c =
-    let l = c .before .before .before .before .loop in
-    every-passes (column-step _ 0 (l .i) (search needs)) _ (l .inv) (sym (c .before .has .ensures) ∙ not-false _ (c .if1 .left))
+    let l = c .before .before .before .before .before .loop in
+    every-passes (column-step _ 0 (l .i) (search needs)) _ (l .inv) (sym (c .before .has-hinted .ensures) ∙ not-false _ (c .if1 .left))
 
 returns-2 : tie.Need-returns-2 Inv-loop μ-loop
 returns-2 c = let l = c .before .loop in every-end (column-end _ (l .i) (search needs)) _ (l .inv)
@@ -52,10 +64,14 @@ all-in-spec =
     (tie.spec
     Inv-loop
     μ-loop
+    hints-requires
     loop-holds
-    mul-has
-    shared-slice-read-has
-    has-requires
+    mul-x
+    shared-slice-read-x
+    of-word-requires
+    mul-has-hinted
+    array-read-has-hinted
+    has-hinted-requires
     returns
     add-i
     loop-less
