@@ -1,17 +1,18 @@
 -- Laws of GUIDs and of the columns of their halves.
-use Prim.Native.Nat.{ℕ, _+_, _<_, _≤_}
-use mathlib.Core.Path.{_≡_, refl, ap, _∙_}
+use Prim.Native.Nat.{ℕ, _+_, _-_, _<_, _≤_}
+use mathlib.Core.Path.{_≡_, refl, sym, ap, _∙_}
 use mathlib.Core.List.{List, [], _∷_}
+use native.Mathlib.Omega.{arith}
 use borrow.Author.Tests.{eq-eqb, eqb-true}
 use lib.Dec.{eqb}
 use lib.ListN.{getD, length, drop}
 use Rattle.kinds.specs.declared.Guid.{Guid}
 use Rattle.columns.specs.Lists.{tabulate}
-use Rattle.columns.specs.Guids.{sameGuid, guidAt, guids}
+use Rattle.columns.specs.Guids.{nil, sameGuid, guidAt, guids}
 use Rattle.columns.proofs.Tests.{and-intro, and-left, and-right}
 use Rattle.columns.proofs.Lists.{length-tabulate, getD-tabulate, tabulate-ext}
 use Rattle.columns.proofs.Distinct.{Decides}
-use Rattle.columns.proofs.Loops.{table-step, table-end}
+use Rattle.columns.proofs.Loops.{table-step, table-end, last-step}
 
 -- equality of GUIDs
 pub guid-decides : Decides sameGuid
@@ -49,6 +50,12 @@ guids-tabulate n f g =
 pub guids-step : (lows highs : List ℕ) (i : ℕ) → i < length lows → drop i (guids lows highs) ≡ guidAt lows highs i ∷ drop (i + 1) (guids lows highs)
 unfolding guids
 guids-step lows highs i h = table-step (length lows) (guidAt lows highs) i h
+
+-- going backwards, the one before the GUIDs from n on
+pub guids-last : (lows highs : List ℕ) (n : ℕ) {g : Guid} → g ≡ guidAt lows highs (n - 1) → 0 < n → n ≤ length lows → drop (n - 1) (guids lows highs) ≡ g ∷ drop n (guids lows highs)
+guids-last lows highs n e p h =
+    last-step (guids lows highs) nil n p (rw length-guids h)
+    ∙ ap (λ (x : Guid). x ∷ drop n (guids lows highs)) (getD-guids lows highs nil (n - 1) (omega arith) ∙ sym e)
 
 -- none is left
 pub guids-end : (lows highs : List ℕ) (i : ℕ) → length lows ≤ i → drop i (guids lows highs) ≡ []

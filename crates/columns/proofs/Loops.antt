@@ -8,7 +8,7 @@ use native.Mathlib.Numerals.{add-one}
 use lib.Dec.{ltb}
 use lib.ListN.{getD, length, take, drop, length-drop, drop-of-length-le}
 use lib.Seq.{drop-cons, take-all}
-use Rattle.columns.specs.Lists.{every, some, firstIndex, distinct, tabulate}
+use Rattle.columns.specs.Lists.{every, some, firstIndex, tabulate}
 use Rattle.columns.proofs.Tests.{ltb-shift}
 use Rattle.columns.proofs.First.{some-first}
 use Rattle.columns.proofs.Lists.{length-tabulate, getD-tabulate}
@@ -63,17 +63,6 @@ module _ {A : Type 0} {x : A} {xs ys : List A} (e : ys ≡ x ∷ xs) where
     unfolding every
     every-fails f = sym (h ∙ rw (e, f))
 
-  module _ {w : Bool} (same : A → A → Bool) (h : w ≡ distinct same ys) where
-    -- the first is not among the rest
-    pub distinct-passes : some (same x) xs ≡ false → w ≡ distinct same xs
-    unfolding distinct
-    distinct-passes t = h ∙ rw (e, t)
-
-    -- the first is among the rest
-    pub distinct-fails : some (same x) xs ≡ true → false ≡ w
-    unfolding distinct
-    distinct-fails f = sym (h ∙ rw (e, f))
-
   module _ {n : ℕ} (i : ℕ) (p : A → Bool) (h : n ≡ i + firstIndex p ys) where
     -- the first is the one that is looked for
     pub first-found : p x ≡ true → i ≡ n
@@ -90,11 +79,6 @@ module _ {A : Type 0} {ys : List A} (e : ys ≡ []) where
   pub every-end : {w : Bool} (p : A → Bool) → w ≡ every p ys → true ≡ w
   unfolding every
   every-end p h = sym (h ∙ rw e)
-
-  -- the elements were distinct
-  pub distinct-end : {w : Bool} (same : A → A → Bool) → w ≡ distinct same ys → true ≡ w
-  unfolding distinct
-  distinct-end same h = sym (h ∙ rw e)
 
   -- none was the one that is looked for
   pub first-end : {n : ℕ} (i : ℕ) (p : A → Bool) → n ≡ i + firstIndex p ys → i ≡ n

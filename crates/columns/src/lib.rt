@@ -10,6 +10,7 @@ ghost use lib.ListN.{getD, drop};
 ghost use lib.Dec.{eqb, ltb, leb};
 ghost use Rattle.columns.specs.Lists.{every, some, firstIndex, distinct, apart, among, removedAt, copiedDown};
 ghost use Rattle.columns.specs.Guids.{nil, sameGuid, guidAt, guids};
+ghost use Rattle.columns.specs.Buckets.{guidBucket, Marked};
 use kinds::Guid;
 
 // The first index of x, or the column's length where it has none.
@@ -182,13 +183,23 @@ fn guid_at<'a>(lows: &'a [u64], highs: &'a [u64], i: usize) -> Guid
     }
 }
 
+// Whether g stands at i.
+fn is_guid_at<'a>(lows: &'a [u64], highs: &'a [u64], i: usize, g: Guid) -> bool
+    ensures { λ r. ⌜ r ≡ sameGuid g (guidAt (now (lows .entry)) (now (highs .entry)) i) ⌝ }
+{
+    if g.low != word_at(lows, i) {
+        return false;
+    }
+    g.high == word_at(highs, i)
+}
+
 // The first index of g from an index on.
 fn guid_index_from<'a>(lows: &'a [u64], highs: &'a [u64], from: usize, g: Guid) -> usize
     ensures { λ r. ⌜ r ≡ from + firstIndex (sameGuid g) (drop from (guids (now (lows .entry)) (now (highs .entry)))) ⌝ }
 {
     let mut i = from;
     while i < lows.len() {
-        if same_guid(g, guid_at(lows, highs, i)) {
+        if is_guid_at(lows, highs, i, g) {
             return i;
         }
         i += 1;
@@ -232,14 +243,35 @@ pub fn guids_not_nil<'a>(lows: &'a [u64], highs: &'a [u64]) -> bool
 pub fn guids_distinct<'a>(lows: &'a [u64], highs: &'a [u64]) -> bool
     ensures { λ r. ⌜ r ≡ distinct sameGuid (guids (now (lows .entry)) (now (highs .entry))) ⌝ }
 {
-    let mut i = 0;
-    while i < lows.len() {
-        if has_guid_from(lows, highs, i + 1, guid_at(lows, highs, i)) {
-            return false;
+    let mut marks = [false; 4096];
+    let mut i = lows.len();
+    while 0 < i {
+        let next = i;
+        i -= 1;
+        let g = guid_at(lows, highs, i);
+        let b = buckets::of_guid(g);
+        if marks[b] {
+            if has_guid_from(lows, highs, next, g) {
+                return false;
+            }
         }
-        i += 1;
+        marks[b] = true;
     }
     true
+}
+
+// Marks the buckets of the GUIDs.
+fn guid_marks<'a>(lows: &'a [u64], highs: &'a [u64]) -> [bool; 4096]
+    ensures { λ r. ⌜ Marked guidBucket r (guids (now (lows .entry)) (now (highs .entry))) ⌝ }
+{
+    let mut marks = [false; 4096];
+    let mut i = lows.len();
+    while 0 < i {
+        i -= 1;
+        let b = buckets::of_guid(guid_at(lows, highs, i));
+        marks[b] = true;
+    }
+    marks
 }
 
 // No GUID of the first two columns stands in the second two.
@@ -251,10 +283,15 @@ pub fn guids_apart<'a>(
 ) -> bool
     ensures { λ r. ⌜ r ≡ apart sameGuid (guids (now (lows .entry)) (now (highs .entry))) (guids (now (lows2 .entry)) (now (highs2 .entry))) ⌝ }
 {
+    let marks = guid_marks(lows2, highs2);
     let mut i = 0;
     while i < lows.len() {
-        if has_guid(lows2, highs2, guid_at(lows, highs, i)) {
-            return false;
+        let g = guid_at(lows, highs, i);
+        let b = buckets::of_guid(g);
+        if marks[b] {
+            if has_guid(lows2, highs2, g) {
+                return false;
+            }
         }
         i += 1;
     }

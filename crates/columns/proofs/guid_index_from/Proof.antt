@@ -4,7 +4,7 @@ use mathlib.Core.Path.{_≡_, refl}
 use borrow.Author.Needs.{needs}
 use lib.ListN.{length, drop}
 use Rattle.columns.specs.Lists.{firstIndex}
-use Rattle.columns.specs.Guids.{sameGuid, guids}
+use Rattle.columns.specs.Guids.{sameGuid, guidAt, guids}
 use Rattle.columns.proofs.Loops.{first-found, first-passed, first-end, told}
 use Rattle.columns.proofs.Guids.{guids-step, guids-end}
 use Rattle.columns.proofs.guid_index_from.Statement.{statement}
@@ -19,16 +19,14 @@ abbrev μ-loop : tie.MeasureT-loop
 loop-holds : tie.Need-loop-holds Inv-loop μ-loop
 loop-holds c = refl
 
-guid-at-requires : tie.Need-guid-at-requires Inv-loop μ-loop
-guid-at-requires c κs = search needs
-
-same-guid-requires : tie.Need-same-guid-requires Inv-loop μ-loop
-same-guid-requires c κs = search needs
+is-guid-at-requires : tie.Need-is-guid-at-requires Inv-loop μ-loop
+is-guid-at-requires c κs = search needs
 
 returns : tie.Need-returns Inv-loop μ-loop
 returns c =
-    let l = c .before .before .before .before .loop in
-    first-found (guids-step _ _ (l .i) (search needs)) (l .i) _ (l .inv) (told (sameGuid _) (c .before .before .guid-at .ensures) (c .before .same-guid .ensures) (c .if1 .taken))
+    let l = c .before .before .before .loop in
+    let v = c .before .before .before .before .before .before .args in
+    first-found (guids-step _ _ (l .i) (search needs)) (l .i) _ (l .inv) (told (sameGuid (v .g)) {a = guidAt (v .lows .now) (v .highs .now) (l .i)} refl (c .before .is-guid-at .ensures) (c .if1 .taken))
 
 add-i : tie.Need-add-i Inv-loop μ-loop
 add-i c = search needs
@@ -38,8 +36,9 @@ loop-less c = search needs
 
 loop-again : tie.Need-loop-again Inv-loop μ-loop
 loop-again c =
-    let l = c .before .before .before .before .loop in
-    first-passed (guids-step _ _ (l .i) (search needs)) (l .i) _ (l .inv) (told (sameGuid _) (c .before .before .guid-at .ensures) (c .before .same-guid .ensures) (c .if1 .left))
+    let l = c .before .before .before .loop in
+    let v = c .before .before .before .before .before .before .args in
+    first-passed (guids-step _ _ (l .i) (search needs)) (l .i) _ (l .inv) (told (sameGuid (v .g)) {a = guidAt (v .lows .now) (v .highs .now) (l .i)} refl (c .before .is-guid-at .ensures) (c .if1 .left))
 
 returns-2 : tie.Need-returns-2 Inv-loop μ-loop
 returns-2 c = let l = c .before .loop in first-end (guids-end _ _ (l .i) (search needs)) (l .i) _ (l .inv)
@@ -51,8 +50,7 @@ guid-index-from-spec =
     Inv-loop
     μ-loop
     loop-holds
-    guid-at-requires
-    same-guid-requires
+    is-guid-at-requires
     returns
     add-i
     loop-less

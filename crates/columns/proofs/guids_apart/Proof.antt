@@ -1,22 +1,28 @@
 -- `columns::guids_apart`: what is left from i on passes where the whole does.
 use Prim.Native.Nat.{_-_}
-use mathlib.Core.Path.{_≡_, refl, ap}
+use mathlib.Core.Path.{_≡_, refl, sym, ap, _∙_}
+use mathlib.Core.Bool.{not}
+use mathlib.Core.Logic.{⊎-elim}
 use borrow.Author.Needs.{needs}
 use lib.ListN.{length, drop}
-use mathlib.Core.Bool.{not}
 use Rattle.kinds.specs.declared.Guid.{Guid}
 use Rattle.columns.specs.Lists.{some, apart}
 use Rattle.columns.specs.Guids.{sameGuid, guids}
+use Rattle.columns.specs.Buckets.{guidBucket}
 use Rattle.columns.proofs.Loops.{every-passes, every-fails, every-end, told}
-use Rattle.columns.proofs.Guids.{guids-step, guids-end}
+use Rattle.columns.proofs.Guids.{guids-step, guids-end, guid-decides}
+use Rattle.columns.proofs.Marks.{unmarked}
 use Rattle.columns.proofs.guids_apart.Statement.{statement}
 use Rattle.columns.proofs.guids_apart.Tie as tie
 
 abbrev Inv-loop : tie.InvT-loop
-Inv-loop lows highs lows2 highs2 i₀ i = apart sameGuid (guids lows highs) (guids lows2 highs2) ≡ apart sameGuid (drop i (guids lows highs)) (guids lows2 highs2)
+Inv-loop lows highs lows2 highs2 marks i₀ i = apart sameGuid (guids lows highs) (guids lows2 highs2) ≡ apart sameGuid (drop i (guids lows highs)) (guids lows2 highs2)
 
 abbrev μ-loop : tie.MeasureT-loop
-μ-loop lows highs lows2 highs2 i₀ i = length lows - i
+μ-loop lows highs lows2 highs2 marks i₀ i = length lows - i
+
+guid-marks-requires : tie.Need-guid-marks-requires Inv-loop μ-loop
+guid-marks-requires c κs = search needs
 
 loop-holds : tie.Need-loop-holds Inv-loop μ-loop
 loop-holds c = refl
@@ -24,15 +30,21 @@ loop-holds c = refl
 guid-at-requires : tie.Need-guid-at-requires Inv-loop μ-loop
 guid-at-requires c κs = search needs
 
+of-guid-requires : tie.Need-of-guid-requires Inv-loop μ-loop
+of-guid-requires c κs = search needs
+
+array-read-if1 : tie.Need-array-read-if1 Inv-loop μ-loop
+array-read-if1 c = search needs
+
 has-guid-requires : tie.Need-has-guid-requires Inv-loop μ-loop
 has-guid-requires c κs = search needs
 
 returns : tie.Need-returns Inv-loop μ-loop
 returns c =
-    let at = c .before .before .before .before in
+    let at = c .before .before .before .before .before .before in
     let l = at .loop in
-    let v = at .before .before .before .before .before .args in
-    every-fails (guids-step _ _ (l .i) (search needs)) _ (l .inv) (ap not (told (λ (g : Guid). some (sameGuid g) (guids (v .lows2 .now) (v .highs2 .now))) (c .before .before .guid-at .ensures) (c .before .has-guid .ensures) (c .if1 .taken)))
+    let v = at .before .before .before .before .before .before .args in
+    every-fails (guids-step _ _ (l .i) (search needs)) _ (l .inv) (ap not (told (λ (g : Guid). some (sameGuid g) (guids (v .lows2 .now) (v .highs2 .now))) (c .before .before .before .before .guid-at .ensures) (c .before .has-guid .ensures) (c .if2 .taken)))
 
 add-i : tie.Need-add-i Inv-loop μ-loop
 add-i c = search needs
@@ -44,8 +56,13 @@ loop-again : tie.Need-loop-again Inv-loop μ-loop
 loop-again c =
     let at = c .before .before .before .before in
     let l = at .loop in
-    let v = at .before .before .before .before .before .args in
-    every-passes (guids-step _ _ (l .i) (search needs)) _ (l .inv) (ap not (told (λ (g : Guid). some (sameGuid g) (guids (v .lows2 .now) (v .highs2 .now))) (c .before .before .guid-at .ensures) (c .before .has-guid .ensures) (c .if1 .left)))
+    let v = at .before .before .before .before .before .before .args in
+    let g = c .before .before .guid-at in
+    every-passes (guids-step _ _ (l .i) (search needs)) _ (l .inv) (ap not (told (λ (g : Guid). some (sameGuid g) (guids (v .lows2 .now) (v .highs2 .now))) (g .ensures) refl
+    (⊎-elim
+    (λ w. sym (w .1 .ensures) ∙ w .2 .left)
+    (λ w. unmarked guidBucket sameGuid guid-decides (g .result) (at .before .guid-marks .ensures) (c .before .of-guid .ensures) (w .left))
+    (c .if1 .came))))
 
 returns-2 : tie.Need-returns-2 Inv-loop μ-loop
 returns-2 c = let l = c .before .loop in every-end (guids-end _ _ (l .i) (search needs)) _ (l .inv)
@@ -56,8 +73,11 @@ guids-apart-spec =
     (tie.spec
     Inv-loop
     μ-loop
+    guid-marks-requires
     loop-holds
     guid-at-requires
+    of-guid-requires
+    array-read-if1
     has-guid-requires
     returns
     add-i

@@ -1,56 +1,74 @@
--- `columns::guids_distinct`: what is left from i on is distinct where the whole is.
-use Prim.Native.Nat.{_-_, _+_}
-use mathlib.Core.Path.{_≡_, refl}
+-- `columns::guids_distinct`: the GUIDs from i on are distinct, and their buckets are marked.
+use Prim.Native.Nat.{_≤_, _-_}
+use mathlib.Core.Path.{_≡_, sym, _∙_}
+use mathlib.Core.Bool.{false}
+use mathlib.Core.Logic.{⊎-elim}
+use native.Mathlib.Omega.{arith}
 use borrow.Author.Needs.{needs}
-use lib.ListN.{length, drop}
-use Rattle.kinds.specs.declared.Guid.{Guid}
-use Rattle.columns.specs.Lists.{some, distinct}
+use lib.ListN.{length, drop, length-replicate}
 use Rattle.columns.specs.Guids.{sameGuid, guids}
-use Rattle.columns.proofs.Loops.{distinct-passes, distinct-fails, distinct-end, told}
-use Rattle.columns.proofs.Guids.{guids-step, guids-end}
+use Rattle.columns.specs.Buckets.{guidBucket}
+use Rattle.columns.proofs.Marks.{Passed, passed-none, passed-one, repeated, unmarked}
+use Rattle.columns.proofs.Guids.{guids-last, guids-end, guid-decides}
 use Rattle.columns.proofs.guids_distinct.Statement.{statement}
 use Rattle.columns.proofs.guids_distinct.Tie as tie
 
 abbrev Inv-loop : tie.InvT-loop
-Inv-loop lows highs i₀ i = distinct sameGuid (guids lows highs) ≡ distinct sameGuid (drop i (guids lows highs))
+Inv-loop lows highs marks₀ i₀ marks i = (i ≤ length lows) × Passed sameGuid guidBucket marks (drop i (guids lows highs))
 
 abbrev μ-loop : tie.MeasureT-loop
-μ-loop lows highs i₀ i = length lows - i
+μ-loop lows highs marks₀ i₀ marks i = i
 
 loop-holds : tie.Need-loop-holds Inv-loop μ-loop
-loop-holds c = refl
+loop-holds c =
+    let v = c .before .before .args in
+    (search needs, passed-none _ _ _ (length-replicate 4096 false) (guids-end (v .lows .now) (v .highs .now) (length (v .lows .now)) (search needs)))
 
-add-has-guid-from : tie.Need-add-has-guid-from Inv-loop μ-loop
-add-has-guid-from c = search needs
+sub-i : tie.Need-sub-i Inv-loop μ-loop
+sub-i c = search needs
 
 guid-at-requires : tie.Need-guid-at-requires Inv-loop μ-loop
 guid-at-requires c κs = search needs
+
+of-guid-requires : tie.Need-of-guid-requires Inv-loop μ-loop
+of-guid-requires c κs = search needs
+
+array-read-if1 : tie.Need-array-read-if1 Inv-loop μ-loop
+array-read-if1 c = search needs
 
 has-guid-from-requires : tie.Need-has-guid-from-requires Inv-loop μ-loop
 has-guid-from-requires c κs = search needs
 
 returns : tie.Need-returns Inv-loop μ-loop
 returns c =
-    let at = c .before .before .before .before in
-    let l = at .loop in
-    let v = at .before .before .before .args in
-    distinct-fails (guids-step _ _ (l .i) (search needs)) _ (l .inv) (told (λ (g : Guid). some (sameGuid g) (drop (l .i + 1) (guids (v .lows .now) (v .highs .now)))) (c .before .before .guid-at .ensures) (c .before .has-guid-from .ensures) (c .if1 .taken))
+    let l = c .before .before .before .before .before .before .loop in
+    let v = c .before .before .before .before .before .before .before .before .before .args in
+    repeated sameGuid (l .i - 1) (guids (v .lows .now) (v .highs .now)) (guids-last _ _ (l .i) (c .before .before .before .before .guid-at .ensures) (search needs) (search needs))
+    (sym (c .before .has-guid-from .ensures) ∙ c .if2 .taken)
 
-add-i : tie.Need-add-i Inv-loop μ-loop
-add-i c = search needs
+array-write-marks : tie.Need-array-write-marks Inv-loop μ-loop
+array-write-marks c = search needs
 
 loop-less : tie.Need-loop-less Inv-loop μ-loop
 loop-less c = search needs
 
 loop-again : tie.Need-loop-again Inv-loop μ-loop
 loop-again c =
-    let at = c .before .before .before .before in
-    let l = at .loop in
-    let v = at .before .before .before .args in
-    distinct-passes (guids-step _ _ (l .i) (search needs)) _ (l .inv) (told (λ (g : Guid). some (sameGuid g) (drop (l .i + 1) (guids (v .lows .now) (v .highs .now)))) (c .before .before .guid-at .ensures) (c .before .has-guid-from .ensures) (c .if1 .left))
+    let l = c .before .before .before .before .loop in
+    let g = c .before .before .guid-at in (
+      search needs,
+      passed-one _ _ (guids-last _ _ (l .i) (g .ensures) (search needs) (search needs)) (l .inv .1) (c .before .of-guid .ensures)
+          (⊎-elim
+          (λ w. sym (w .1 .ensures) ∙ w .2 .left)
+          (λ w. unmarked guidBucket sameGuid guid-decides (g .result) (l .inv .1 .marked) (c .before .of-guid .ensures) (w .left))
+          (c .if1 .came)),
+    )
 
 returns-2 : tie.Need-returns-2 Inv-loop μ-loop
-returns-2 c = let l = c .before .loop in distinct-end (guids-end _ _ (l .i) (search needs)) _ (l .inv)
+returns-2 c =
+    let l = c .before .loop in
+    let e : l .i ≡ 0 = omega arith in
+    sym (rw e at (l .inv .1 .differ))
 
 pub guids-distinct-spec : {M : Type 1} → statement M
 guids-distinct-spec =
@@ -59,11 +77,13 @@ guids-distinct-spec =
     Inv-loop
     μ-loop
     loop-holds
-    add-has-guid-from
+    sub-i
     guid-at-requires
+    of-guid-requires
+    array-read-if1
     has-guid-from-requires
     returns
-    add-i
+    array-write-marks
     loop-less
     loop-again
     returns-2)

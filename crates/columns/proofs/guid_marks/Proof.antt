@@ -1,0 +1,65 @@
+-- `columns::guid_marks`: the buckets of the GUIDs from i on are marked.
+use Prim.Native.Nat.{_≤_}
+use mathlib.Core.Path.{_≡_}
+use mathlib.Core.Bool.{false}
+use native.Mathlib.Omega.{arith}
+use borrow.Author.Needs.{needs}
+use lib.ListN.{length, drop, length-replicate}
+use Rattle.columns.specs.Guids.{guids}
+use Rattle.columns.specs.Buckets.{guidBucket, Marked}
+use Rattle.columns.proofs.Marks.{marked-none, marked-one}
+use Rattle.columns.proofs.Guids.{guids-last, guids-end}
+use Rattle.columns.proofs.guid_marks.Statement.{statement}
+use Rattle.columns.proofs.guid_marks.Tie as tie
+
+abbrev Inv-loop : tie.InvT-loop
+Inv-loop lows highs marks₀ i₀ marks i = (i ≤ length lows) × Marked guidBucket marks (drop i (guids lows highs))
+
+abbrev μ-loop : tie.MeasureT-loop
+μ-loop lows highs marks₀ i₀ marks i = i
+
+loop-holds : tie.Need-loop-holds Inv-loop μ-loop
+loop-holds c =
+    let v = c .before .before .args in
+    (search needs, marked-none _ _ (length-replicate 4096 false) (guids-end (v .lows .now) (v .highs .now) (length (v .lows .now)) (search needs)))
+
+sub-i : tie.Need-sub-i Inv-loop μ-loop
+sub-i c = search needs
+
+guid-at-requires : tie.Need-guid-at-requires Inv-loop μ-loop
+guid-at-requires c κs = search needs
+
+of-guid-requires : tie.Need-of-guid-requires Inv-loop μ-loop
+of-guid-requires c κs = search needs
+
+array-write-marks : tie.Need-array-write-marks Inv-loop μ-loop
+array-write-marks c = search needs
+
+loop-less : tie.Need-loop-less Inv-loop μ-loop
+loop-less c = search needs
+
+loop-again : tie.Need-loop-again Inv-loop μ-loop
+loop-again c =
+    let l = c .before .before .before .loop in
+    (search needs, marked-one _ (guids-last _ _ (l .i) (c .before .guid-at .ensures) (search needs) (search needs)) (l .inv .1) (c .of-guid .ensures))
+
+returns : tie.Need-returns Inv-loop μ-loop
+returns c =
+    let l = c .before .loop in
+    let e : l .i ≡ 0 = omega arith in
+    rw e at (l .inv .1)
+
+pub guid-marks-spec : {M : Type 1} → statement M
+guid-marks-spec =
+    tie.close
+    (tie.spec
+    Inv-loop
+    μ-loop
+    loop-holds
+    sub-i
+    guid-at-requires
+    of-guid-requires
+    array-write-marks
+    loop-less
+    loop-again
+    returns)
