@@ -18,14 +18,12 @@ pub fn of_word(x: u64) -> usize
     of_guid(Guid { low: x, high: 0 })
 }
 
-// For each bucket a row whose word has it, as a hint: it may be any number.
-pub fn hints(col: &[u64]) -> [u16; 4096] {
-    let mut rows = [0u16; 4096];
+// Sets for each bucket a row whose word has it, as a hint: it may be any number.
+pub fn set_hints(hints: &mut [u16; 4096], col: &[u64]) {
     let mut i = 0;
     while i < col.len() {
         let b = of_word(col[i]);
-        rows[b] = (i % 65536) as u16;
+        hints[b] = (i % 65536) as u16;
         i += 1;
     }
-    rows
 }

@@ -6,7 +6,7 @@ pub mod rows;
 ghost use mathlib.Core.Path.{_≡_};
 ghost use Prim.Native.Nat.{_+_, _-_};
 ghost use mathlib.Core.Bool.{not};
-ghost use lib.ListN.{getD, drop};
+ghost use lib.ListN.{length, getD, drop};
 ghost use lib.Dec.{eqb, ltb, leb};
 ghost use Rattle.columns.specs.Lists.{every, some, firstIndex, distinct, apart, among, removedAt, copiedDown};
 ghost use Rattle.columns.specs.Guids.{nil, sameGuid, guidAt, guids};
@@ -85,7 +85,8 @@ fn has_hinted(col: &[u64], hint: u16, x: u64) -> bool
 pub fn all_in(a: &[u64], b: &[u64]) -> bool
     ensures { λ r. ⌜ r ≡ every (among (now (b .entry))) (now (a .entry)) ⌝ }
 {
-    let hints = buckets::hints(b);
+    let mut hints = [0u16; 4096];
+    buckets::set_hints(&mut hints, b);
     let mut i = 0;
     while i < a.len() {
         let x = a[i];
@@ -231,7 +232,7 @@ pub fn guids_not_nil<'a>(lows: &'a [u64], highs: &'a [u64]) -> bool
 {
     let mut i = 0;
     while i < lows.len() {
-        if is_nil(guid_at(lows, highs, i)) {
+        if is_guid_at(lows, highs, i, Guid { low: 0, high: 0 }) {
             return false;
         }
         i += 1;
@@ -260,18 +261,17 @@ pub fn guids_distinct<'a>(lows: &'a [u64], highs: &'a [u64]) -> bool
     true
 }
 
-// Marks the buckets of the GUIDs.
-fn guid_marks<'a>(lows: &'a [u64], highs: &'a [u64]) -> [bool; 4096]
-    ensures { λ r. ⌜ Marked guidBucket r (guids (now (lows .entry)) (now (highs .entry))) ⌝ }
+// Marks the buckets of the GUIDs, too.
+fn mark_guids<'a>(marks: &mut [bool; 4096], lows: &'a [u64], highs: &'a [u64])
+    requires { ⌜ length (now marks) ≡ 4096 ⌝ }
+    ensures { λ r. ⌜ Marked guidBucket (now (marks .exit)) (guids (now (lows .entry)) (now (highs .entry))) ⌝ }
 {
-    let mut marks = [false; 4096];
     let mut i = lows.len();
     while 0 < i {
         i -= 1;
         let b = buckets::of_guid(guid_at(lows, highs, i));
         marks[b] = true;
     }
-    marks
 }
 
 // No GUID of the first two columns stands in the second two.
@@ -283,7 +283,8 @@ pub fn guids_apart<'a>(
 ) -> bool
     ensures { λ r. ⌜ r ≡ apart sameGuid (guids (now (lows .entry)) (now (highs .entry))) (guids (now (lows2 .entry)) (now (highs2 .entry))) ⌝ }
 {
-    let marks = guid_marks(lows2, highs2);
+    let mut marks = [false; 4096];
+    mark_guids(&mut marks, lows2, highs2);
     let mut i = 0;
     while i < lows.len() {
         let g = guid_at(lows, highs, i);

@@ -15,8 +15,8 @@ Inv-loop a b hints i₀ i = every (among b) a ≡ every (among b) (drop i a)
 abbrev μ-loop : tie.MeasureT-loop
 μ-loop a b hints i₀ i = length a - i
 
-hints-requires : tie.Need-hints-requires Inv-loop μ-loop
-hints-requires c κs = search needs
+set-hints-requires : tie.Need-set-hints-requires Inv-loop μ-loop
+set-hints-requires c κs = search needs
 
 loop-holds : tie.Need-loop-holds Inv-loop μ-loop
 loop-holds c = refl
@@ -64,7 +64,7 @@ all-in-spec =
     (tie.spec
     Inv-loop
     μ-loop
-    hints-requires
+    set-hints-requires
     loop-holds
     mul-x
     shared-slice-read-x

@@ -1,10 +1,10 @@
 -- `columns::guids_apart`: what is left from i on passes where the whole does.
 use Prim.Native.Nat.{_-_}
 use mathlib.Core.Path.{_≡_, refl, sym, ap, _∙_}
-use mathlib.Core.Bool.{not}
+use mathlib.Core.Bool.{false, not}
 use mathlib.Core.Logic.{⊎-elim}
 use borrow.Author.Needs.{needs}
-use lib.ListN.{length, drop}
+use lib.ListN.{length, drop, length-replicate}
 use Rattle.kinds.specs.declared.Guid.{Guid}
 use Rattle.columns.specs.Lists.{some, apart}
 use Rattle.columns.specs.Guids.{sameGuid, guids}
@@ -21,8 +21,8 @@ Inv-loop lows highs lows2 highs2 marks i₀ i = apart sameGuid (guids lows highs
 abbrev μ-loop : tie.MeasureT-loop
 μ-loop lows highs lows2 highs2 marks i₀ i = length lows - i
 
-guid-marks-requires : tie.Need-guid-marks-requires Inv-loop μ-loop
-guid-marks-requires c κs = search needs
+mark-guids-requires : tie.Need-mark-guids-requires Inv-loop μ-loop
+mark-guids-requires c κs = length-replicate 4096 false
 
 loop-holds : tie.Need-loop-holds Inv-loop μ-loop
 loop-holds c = refl
@@ -43,7 +43,7 @@ returns : tie.Need-returns Inv-loop μ-loop
 returns c =
     let at = c .before .before .before .before .before .before in
     let l = at .loop in
-    let v = at .before .before .before .before .before .before .args in
+    let v = at .before .before .before .before .before .before .before .args in
     every-fails (guids-step _ _ (l .i) (search needs)) _ (l .inv) (ap not (told (λ (g : Guid). some (sameGuid g) (guids (v .lows2 .now) (v .highs2 .now))) (c .before .before .before .before .guid-at .ensures) (c .before .has-guid .ensures) (c .if2 .taken)))
 
 add-i : tie.Need-add-i Inv-loop μ-loop
@@ -56,12 +56,12 @@ loop-again : tie.Need-loop-again Inv-loop μ-loop
 loop-again c =
     let at = c .before .before .before .before in
     let l = at .loop in
-    let v = at .before .before .before .before .before .before .args in
+    let v = at .before .before .before .before .before .before .before .args in
     let g = c .before .before .guid-at in
     every-passes (guids-step _ _ (l .i) (search needs)) _ (l .inv) (ap not (told (λ (g : Guid). some (sameGuid g) (guids (v .lows2 .now) (v .highs2 .now))) (g .ensures) refl
     (⊎-elim
     (λ w. sym (w .1 .ensures) ∙ w .2 .left)
-    (λ w. unmarked guidBucket sameGuid guid-decides (g .result) (at .before .guid-marks .ensures) (c .before .of-guid .ensures) (w .left))
+    (λ w. unmarked guidBucket sameGuid guid-decides (g .result) (at .before .mark-guids .ensures) (c .before .of-guid .ensures) (w .left))
     (c .if1 .came))))
 
 returns-2 : tie.Need-returns-2 Inv-loop μ-loop
@@ -73,7 +73,7 @@ guids-apart-spec =
     (tie.spec
     Inv-loop
     μ-loop
-    guid-marks-requires
+    mark-guids-requires
     loop-holds
     guid-at-requires
     of-guid-requires

@@ -1,14 +1,14 @@
 -- `columns::guids_not_nil`: what is left from i on passes where the whole does.
 use Prim.Native.Nat.{_-_}
-use mathlib.Core.Path.{_≡_, refl, ap}
+use mathlib.Core.Path.{_≡_, refl, ap, _∙_}
 use borrow.Author.Needs.{needs}
 use lib.ListN.{length, drop}
-use mathlib.Core.Bool.{not}
-use Rattle.kinds.specs.declared.Guid.{Guid}
+use mathlib.Core.Bool.{Bool, not}
 use Rattle.columns.specs.Lists.{every}
-use Rattle.columns.specs.Guids.{nil, sameGuid, guids}
+use Rattle.columns.specs.Guids.{nil, sameGuid, guidAt, guids}
+use Rattle.columns.proofs.Distinct.{same-comm}
 use Rattle.columns.proofs.Loops.{every-passes, every-fails, every-end, told}
-use Rattle.columns.proofs.Guids.{guids-step, guids-end}
+use Rattle.columns.proofs.Guids.{guids-step, guids-end, guid-decides}
 use Rattle.columns.proofs.guids_not_nil.Statement.{statement}
 use Rattle.columns.proofs.guids_not_nil.Tie as tie
 
@@ -21,16 +21,22 @@ abbrev μ-loop : tie.MeasureT-loop
 loop-holds : tie.Need-loop-holds Inv-loop μ-loop
 loop-holds c = refl
 
-guid-at-requires : tie.Need-guid-at-requires Inv-loop μ-loop
-guid-at-requires c κs = search needs
+is-guid-at-requires : tie.Need-is-guid-at-requires Inv-loop μ-loop
+is-guid-at-requires c κs = search needs
 
-is-nil-requires : tie.Need-is-nil-requires Inv-loop μ-loop
-is-nil-requires c κs = search needs
+-- what the test says of the GUID at i
+outcome : (c : tie.After-is-guid-at Inv-loop μ-loop) {t : Bool} → c .is-guid-at .result ≡ t
+    → sameGuid (guidAt (c .before .before .before .before .before .args .lows .now) (c .before .before .before .before .before .args .highs .now) (c .before .before .loop .i)) nil ≡ t
+outcome c o =
+    let v = c .before .before .before .before .before .args in
+    let i = c .before .before .loop .i in
+    same-comm sameGuid guid-decides (guidAt (v .lows .now) (v .highs .now) i) nil
+    ∙ told (sameGuid nil) {a = guidAt (v .lows .now) (v .highs .now) i} refl (c .is-guid-at .ensures) o
 
 returns : tie.Need-returns Inv-loop μ-loop
 returns c =
-    let l = c .before .before .before .before .loop in
-    every-fails (guids-step _ _ (l .i) (search needs)) _ (l .inv) (ap not (told (λ (g : Guid). sameGuid g nil) (c .before .before .guid-at .ensures) (c .before .is-nil .ensures) (c .if1 .taken)))
+    let l = c .before .before .before .loop in
+    every-fails (guids-step _ _ (l .i) (search needs)) _ (l .inv) (ap not (outcome (c .before) (c .if1 .taken)))
 
 add-i : tie.Need-add-i Inv-loop μ-loop
 add-i c = search needs
@@ -40,8 +46,8 @@ loop-less c = search needs
 
 loop-again : tie.Need-loop-again Inv-loop μ-loop
 loop-again c =
-    let l = c .before .before .before .before .loop in
-    every-passes (guids-step _ _ (l .i) (search needs)) _ (l .inv) (ap not (told (λ (g : Guid). sameGuid g nil) (c .before .before .guid-at .ensures) (c .before .is-nil .ensures) (c .if1 .left)))
+    let l = c .before .before .before .loop in
+    every-passes (guids-step _ _ (l .i) (search needs)) _ (l .inv) (ap not (outcome (c .before) (c .if1 .left)))
 
 returns-2 : tie.Need-returns-2 Inv-loop μ-loop
 returns-2 c = let l = c .before .loop in every-end (guids-end _ _ (l .i) (search needs)) _ (l .inv)
@@ -53,8 +59,7 @@ guids-not-nil-spec =
     Inv-loop
     μ-loop
     loop-holds
-    guid-at-requires
-    is-nil-requires
+    is-guid-at-requires
     returns
     add-i
     loop-less

@@ -1,27 +1,26 @@
--- `columns::guid_marks`: the buckets of the GUIDs from i on are marked.
+-- `columns::mark_guids`: the buckets of the GUIDs from i on are marked.
 use Prim.Native.Nat.{_≤_}
 use mathlib.Core.Path.{_≡_}
-use mathlib.Core.Bool.{false}
 use native.Mathlib.Omega.{arith}
 use borrow.Author.Needs.{needs}
-use lib.ListN.{length, drop, length-replicate}
+use lib.ListN.{length, drop}
 use Rattle.columns.specs.Guids.{guids}
 use Rattle.columns.specs.Buckets.{guidBucket, Marked}
 use Rattle.columns.proofs.Marks.{marked-none, marked-one}
 use Rattle.columns.proofs.Guids.{guids-last, guids-end}
-use Rattle.columns.proofs.guid_marks.Statement.{statement}
-use Rattle.columns.proofs.guid_marks.Tie as tie
+use Rattle.columns.proofs.mark_guids.Statement.{statement}
+use Rattle.columns.proofs.mark_guids.Tie as tie
 
 abbrev Inv-loop : tie.InvT-loop
-Inv-loop lows highs marks₀ i₀ marks i = (i ≤ length lows) × Marked guidBucket marks (drop i (guids lows highs))
+Inv-loop marks₀ lows highs i₀ marks i = (i ≤ length lows) × Marked guidBucket marks (drop i (guids lows highs))
 
 abbrev μ-loop : tie.MeasureT-loop
-μ-loop lows highs marks₀ i₀ marks i = i
+μ-loop marks₀ lows highs i₀ marks i = i
 
 loop-holds : tie.Need-loop-holds Inv-loop μ-loop
 loop-holds c =
     let v = c .before .before .args in
-    (search needs, marked-none _ _ (length-replicate 4096 false) (guids-end (v .lows .now) (v .highs .now) (length (v .lows .now)) (search needs)))
+    (search needs, marked-none _ _ (c .before .before .pre) (guids-end (v .lows .now) (v .highs .now) (length (v .lows .now)) (search needs)))
 
 sub-i : tie.Need-sub-i Inv-loop μ-loop
 sub-i c = search needs
@@ -32,8 +31,8 @@ guid-at-requires c κs = search needs
 of-guid-requires : tie.Need-of-guid-requires Inv-loop μ-loop
 of-guid-requires c κs = search needs
 
-array-write-marks : tie.Need-array-write-marks Inv-loop μ-loop
-array-write-marks c = search needs
+element-write-marks : tie.Need-element-write-marks Inv-loop μ-loop
+element-write-marks c = search needs
 
 loop-less : tie.Need-loop-less Inv-loop μ-loop
 loop-less c = search needs
@@ -49,8 +48,8 @@ returns c =
     let e : l .i ≡ 0 = omega arith in
     rw e at (l .inv .1)
 
-pub guid-marks-spec : {M : Type 1} → statement M
-guid-marks-spec =
+pub mark-guids-spec : {M : Type 1} → statement M
+mark-guids-spec =
     tie.close
     (tie.spec
     Inv-loop
@@ -59,7 +58,7 @@ guid-marks-spec =
     sub-i
     guid-at-requires
     of-guid-requires
-    array-write-marks
+    element-write-marks
     loop-less
     loop-again
     returns)

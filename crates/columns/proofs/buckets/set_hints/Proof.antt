@@ -1,15 +1,15 @@
--- `columns::buckets::hints`: each store is within the array, and each row is below 2 ^ 16.
+-- `columns::buckets::set_hints`: each store is within the array, and each row is below 2 ^ 16.
 use Prim.Native.Nat.{_≤_, _-_}
 use borrow.Author.Needs.{needs}
 use lib.ListN.{length}
-use Rattle.columns.proofs.buckets.hints.Statement.{statement}
-use Rattle.columns.proofs.buckets.hints.Tie as tie
+use Rattle.columns.proofs.buckets.set_hints.Statement.{statement}
+use Rattle.columns.proofs.buckets.set_hints.Tie as tie
 
 abbrev Inv-loop : tie.InvT-loop
-Inv-loop col rows₀ i₀ rows i = i ≤ length col
+Inv-loop hints₀ col i₀ hints i = i ≤ length col
 
 abbrev μ-loop : tie.MeasureT-loop
-μ-loop col rows₀ i₀ rows i = length col - i
+μ-loop hints₀ col i₀ hints i = length col - i
 
 loop-holds : tie.Need-loop-holds Inv-loop μ-loop
 loop-holds c = search needs
@@ -23,14 +23,14 @@ shared-slice-read-of-word c = search needs
 of-word-requires : tie.Need-of-word-requires Inv-loop μ-loop
 of-word-requires c κs = search needs
 
-cast-rows : tie.Need-cast-rows Inv-loop μ-loop
-cast-rows c = search needs
+cast-hints : tie.Need-cast-hints Inv-loop μ-loop
+cast-hints c = search needs
 
-mul-rows : tie.Need-mul-rows Inv-loop μ-loop
-mul-rows c = search needs
+mul-hints : tie.Need-mul-hints Inv-loop μ-loop
+mul-hints c = search needs
 
-array-write-rows : tie.Need-array-write-rows Inv-loop μ-loop
-array-write-rows c = search needs
+element-write-hints : tie.Need-element-write-hints Inv-loop μ-loop
+element-write-hints c = search needs
 
 add-i : tie.Need-add-i Inv-loop μ-loop
 add-i c = search needs
@@ -44,8 +44,8 @@ loop-again c = search needs
 returns : tie.Need-returns Inv-loop μ-loop
 returns c = search needs
 
-pub hints-spec : {M : Type 1} → statement M
-hints-spec =
+pub set-hints-spec : {M : Type 1} → statement M
+set-hints-spec =
     tie.close
     (tie.spec
     Inv-loop
@@ -54,9 +54,9 @@ hints-spec =
     mul-of-word
     shared-slice-read-of-word
     of-word-requires
-    cast-rows
-    mul-rows
-    array-write-rows
+    cast-hints
+    mul-hints
+    element-write-hints
     add-i
     loop-less
     loop-again
