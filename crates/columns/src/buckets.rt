@@ -1,8 +1,11 @@
-// Buckets: equal words, and equal GUIDs, share one.
+// Buckets of words and GUIDs: the same ones share a bucket.
 use kinds::Guid;
 ghost use mathlib.Core.Path.{_≡_};
 ghost use Prim.Native.Nat.{_<_};
 ghost use Rattle.columns.specs.Buckets.{guidBucket, wordBucket};
+
+// How many there are.
+pub const BUCKETS: usize = 4096;
 
 pub fn of_guid(g: Guid) -> usize
     ensures { λ r. ⌜ (r ≡ guidBucket g) × (r < 4096) ⌝ }
@@ -18,8 +21,8 @@ pub fn of_word(x: u64) -> usize
     of_guid(Guid { low: x, high: 0 })
 }
 
-// Sets for each bucket a row whose word has it, as a hint: it may be any number.
-pub fn set_hints(hints: &mut [u16; 4096], col: &[u64]) {
+// Notes the row of each word under its bucket, to be tried first. A wrong row does no harm.
+pub fn set_hints(hints: &mut [u16; BUCKETS], col: &[u64]) {
     let mut i = 0;
     while i < col.len() {
         let b = of_word(col[i]);

@@ -33,6 +33,19 @@ pub fn has(col: &[u64], x: u64) -> bool
     index_of(col, x) < col.len()
 }
 
+// The same, with a row to try first.
+fn has_hinted(col: &[u64], hint: u16, x: u64) -> bool
+    ensures { λ r. ⌜ r ≡ among (now (col .entry)) x ⌝ }
+{
+    let row = hint as usize;
+    if row < col.len() {
+        if x == col[row] {
+            return true;
+        }
+    }
+    has(col, x)
+}
+
 // No word is 0.
 pub fn all_nonzero(col: &[u64]) -> bool
     ensures { λ r. ⌜ r ≡ every (λ x. not (eqb x 0)) (now (col .entry)) ⌝ }
@@ -47,11 +60,11 @@ pub fn all_nonzero(col: &[u64]) -> bool
     true
 }
 
-// No word stands twice.
+// No word stands twice. From the last word to the first: where its bucket is not yet marked, no later word is the same.
 pub fn all_distinct(col: &[u64]) -> bool
     ensures { λ r. ⌜ r ≡ distinct eqb (now (col .entry)) ⌝ }
 {
-    let mut marks = [false; 4096];
+    let mut marks = [false; buckets::BUCKETS];
     let mut i = col.len();
     while 0 < i {
         let next = i;
@@ -68,24 +81,11 @@ pub fn all_distinct(col: &[u64]) -> bool
     true
 }
 
-// The same, with a row to try first.
-fn has_hinted(col: &[u64], hint: u16, x: u64) -> bool
-    ensures { λ r. ⌜ r ≡ among (now (col .entry)) x ⌝ }
-{
-    let row = hint as usize;
-    if row < col.len() {
-        if x == col[row] {
-            return true;
-        }
-    }
-    has(col, x)
-}
-
-// Each word of a stands in b.
+// Each word of a stands in b; the row that its bucket hints at is tried first.
 pub fn all_in(a: &[u64], b: &[u64]) -> bool
     ensures { λ r. ⌜ r ≡ every (among (now (b .entry))) (now (a .entry)) ⌝ }
 {
-    let mut hints = [0u16; 4096];
+    let mut hints = [0u16; buckets::BUCKETS];
     buckets::set_hints(&mut hints, b);
     let mut i = 0;
     while i < a.len() {
@@ -240,11 +240,11 @@ pub fn guids_not_nil<'a>(lows: &'a [u64], highs: &'a [u64]) -> bool
     true
 }
 
-// No GUID stands twice.
+// No GUID stands twice; by buckets, as for words.
 pub fn guids_distinct<'a>(lows: &'a [u64], highs: &'a [u64]) -> bool
     ensures { λ r. ⌜ r ≡ distinct sameGuid (guids (now (lows .entry)) (now (highs .entry))) ⌝ }
 {
-    let mut marks = [false; 4096];
+    let mut marks = [false; buckets::BUCKETS];
     let mut i = lows.len();
     while 0 < i {
         let next = i;
@@ -261,8 +261,8 @@ pub fn guids_distinct<'a>(lows: &'a [u64], highs: &'a [u64]) -> bool
     true
 }
 
-// Marks the buckets of the GUIDs, too.
-fn mark_guids<'a>(marks: &mut [bool; 4096], lows: &'a [u64], highs: &'a [u64])
+// Marks the buckets of the GUIDs as well.
+fn mark_guids<'a>(marks: &mut [bool; buckets::BUCKETS], lows: &'a [u64], highs: &'a [u64])
     requires { ⌜ length (now marks) ≡ 4096 ⌝ }
     ensures { λ r. ⌜ Marked guidBucket (now (marks .exit)) (guids (now (lows .entry)) (now (highs .entry))) ⌝ }
 {
@@ -283,7 +283,7 @@ pub fn guids_apart<'a>(
 ) -> bool
     ensures { λ r. ⌜ r ≡ apart sameGuid (guids (now (lows .entry)) (now (highs .entry))) (guids (now (lows2 .entry)) (now (highs2 .entry))) ⌝ }
 {
-    let mut marks = [false; 4096];
+    let mut marks = [false; buckets::BUCKETS];
     mark_guids(&mut marks, lows2, highs2);
     let mut i = 0;
     while i < lows.len() {
