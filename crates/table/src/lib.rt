@@ -1,5 +1,4 @@
 // The table of live entries: an array of 8,192 words and a store of 8,192 bytes, both lent by the caller.
-use columns::members::Members;
 use kinds::SetId;
 use kinds::answer;
 ghost use mathlib.Core.Path.{_≡_};
@@ -103,21 +102,15 @@ fn member_count(words: &[u64], set: u64) -> MemberCount
     requires { ⌜ length (now words) ≡ 8192 ⌝ }
     ensures { λ r. ⌜ ((s : List ℕ) → r ≡ memberCountOf (view (memory (now (words .entry)) s)) set) ⌝ }
 {
-    let n = layout::set_count(words);
-    let end = layout::SET_NUMBERS + n;
-    let i = columns::index_of(&words[layout::SET_NUMBERS..end], set);
-    if n <= i {
+    let i = find::set_row(words, set);
+    if layout::set_count(words) <= i {
         return MemberCount {
             answer: answer::NO_SET,
             count: 0,
         };
     }
-    let members = Members {
-        low: words[layout::MEMBER_LOWS + i],
-        high: words[layout::MEMBER_HIGHS + i],
-    };
     MemberCount {
         answer: answer::DONE,
-        count: members.size(),
+        count: find::members(words, i).size(),
     }
 }
