@@ -16,7 +16,8 @@ use Rattle.columns.proofs.Lists.{getD-map, getD-tabulate, tabulate-ext, set-tab
 use Rattle.rules.specs.Entries.{Object, Entries, oids, withObjects, heardAt}
 use Rattle.rules.specs.Sound.{proper}
 use Rattle.rules.specs.Rules.{noObject}
-use Rattle.resolver.specs.Pinging.{memberOids, heardRow, heardNow}
+use Rattle.rules.specs.PingRows.{heardNow}
+use Rattle.resolver.specs.Pinging.{memberOids, heardRow}
 use Rattle.resolver.proofs.Memberships.{member-among}
 
 module _ (m : Members) (e : Entries) where

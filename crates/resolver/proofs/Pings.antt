@@ -25,13 +25,14 @@ use Rattle.rules.proofs.SoundLaws.{sound-fields}
 use Rattle.rules.proofs.Pinging.{newSet}
 use Rattle.rules.proofs.ByRow.{setRow, set-live, set-row}
 use Rattle.rules.proofs.PingRows.{complex-ping-row, complex-ping-new}
+use Rattle.rules.specs.PingRows.{changeSet, heardNow, pingedRow, updatedRow}
 use Rattle.table.specs.View.{objectCount, setCount, setsOf, memory, view}
-use Rattle.table.specs.Edits.{membersAt, Became, changeSet}
+use Rattle.table.specs.Edits.{membersAt, Became}
 use Rattle.table.proofs.Entries.{sets-length}
 use Rattle.table.proofs.EditViews.{oidsOf}
 use Rattle.table.proofs.EditMembers.{oids-length, below-at}
 use Rattle.table.proofs.EditBelow.{nonzero, row-members, live-below}
-use Rattle.resolver.specs.Pinging.{memberOids, heardNow, pingedRow, updatedRow, withSetMeant, rowMeant, Put}
+use Rattle.resolver.specs.Pinging.{memberOids, withSetMeant, rowMeant, Put}
 use Rattle.resolver.proofs.Calls.{row-passes, two-rows}
 use Rattle.resolver.proofs.Memberships.{new-members}
 

@@ -17,10 +17,11 @@ ghost use Rattle.rules.specs.Entries.{oids};
 ghost use Rattle.rules.specs.Sound.{proper, membersLive};
 ghost use Rattle.rules.specs.Rules.{stale, setMeant, isLiveObject, number};
 ghost use Rattle.rules.specs.Calls.{Call, numbered};
+ghost use Rattle.rules.specs.PingRows.{heardNow, pingedRow, updatedRow};
 ghost use Rattle.table.specs.View.{objectCount, setCount, memory, view, Performed};
 ghost use Rattle.table.specs.Edits.{Became};
 ghost use Rattle.resolver.specs.Replies.{pingReply};
-ghost use Rattle.resolver.specs.Pinging.{memberOids, heardRow, heardNow, pingedRow, updatedRow, rowMeant, withSetMeant, Put};
+ghost use Rattle.resolver.specs.Pinging.{memberOids, heardRow, rowMeant, withSetMeant, Put};
 
 // Object i is heard now, where it is a member.
 fn hear_row(words: &mut [u64], members: Members, i: usize)

@@ -1,60 +1,43 @@
--- What the pings leave, by the row of the set: the set with its new members and sequence number, then its time, and its members heard.
+-- What the pings leave is what they leave by the row of the set.
 use Prim.Native.Nat.{ℕ, _+_, _<_}
 use mathlib.Core.Path.{_≡_, refl, ap, _∙_}
-use mathlib.Core.Bool.{true, false, cond}
-use mathlib.Core.List.{List, [], _∷_, map}
+use mathlib.Core.Bool.{true, false}
+use mathlib.Core.List.{List, [], _∷_}
 use native.Mathlib.Omega.{arith}
 use native.Mathlib.Nat.{add-zero}
 use borrow.Author.Tests.{eq-eqb}
-use lib.ListN.{getD, length, set, length-append, length-map, length-set}
+use lib.ListN.{length, length-append, length-map, length-set}
 use lib.Seq.{map-set-same}
 use lib.Dec.{eqb}
 use Rattle.kinds.proofs.Refusing.{or-false}
 use Rattle.columns.specs.Lists.{distinct, firstIndex, among}
 use Rattle.columns.proofs.Lists.{map-append}
 use Rattle.columns.proofs.First.{first-here, first-right}
-use Rattle.rules.specs.Entries.{Object, PingSet, Entries, setNumbers, withObjects, withSets, heardAt, pingedAt, withSequence, withMembers}
+use Rattle.rules.specs.Entries.{PingSet, Entries, setNumbers, pingedAt}
 use Rattle.rules.specs.Calls.{simplePing, complexPing}
 use Rattle.rules.specs.Sound.{sound}
-use Rattle.rules.specs.Rules.{noSet, atSet, ping, newMembers, makeSet, next}
+use Rattle.rules.specs.PingRows.{heardNow, changeSet, pingedRow, updatedRow}
+use Rattle.rules.specs.Rules.{noSet, atSet, ping, makeSet, next}
 use Rattle.rules.proofs.Groups.{fine-distinct, grouped}
 use Rattle.rules.proofs.Pinging.{newSet, next-free, set-made}
 use Rattle.rules.proofs.ByRow.{setRow, setIn, set-row, at-set-row, sets-distinct}
 
--- the entries with the set at a row pinged now, and its members heard
-abbrev pub pingedAtRow : ℕ → Entries → Entries
-pingedAtRow row e =
-    let p : PingSet = getD (e .sets) row noSet in
-    withSets (set (e .sets) row (pingedAt (e .clock) p))
-    (withObjects (map (λ (o : Object). cond (among (p .members) (o .oid)) (heardAt (e .clock) o) o) (e .objects)) e)
-
--- the entries with the set at a row changed
-abbrev changedAtRow : ℕ → (PingSet → PingSet) → Entries → Entries
-changedAtRow row f e = withSets (set (e .sets) row (f (getD (e .sets) row noSet))) e
-
--- and so by a complex ping: its members and its sequence number
-abbrev pub updatedAtRow : ℕ → ℕ → List ℕ → List ℕ → Entries → Entries
-updatedAtRow row n adds dels e = changedAtRow row (λ p. withSequence n (withMembers (newMembers e adds dels (p .members)) p)) e
-
 -- a ping of the set in a row
-ping-row : (e : Entries) (s : ℕ) → setRow e s < length (e .sets) → distinct eqb (setNumbers e) ≡ true → ping s e ≡ pingedAtRow (setRow e s) e
+ping-row : (e : Entries) (s : ℕ) → setRow e s < length (e .sets) → distinct eqb (setNumbers e) ≡ true → ping s e ≡ pingedRow (setRow e s) e
 ping-row e s h u =
-    ap (λ (p : PingSet). atSet s (pingedAt (e .clock)) (heard p)) (set-row e s)
-    ∙ at-set-row (heard (setIn e s)) s (pingedAt (e .clock)) h u
-  where
-    heard : PingSet → Entries
-    heard p = withObjects (map (λ (o : Object). cond (among (p .members) (o .oid)) (heardAt (e .clock) o) o) (e .objects)) e
+    ap (λ (p : PingSet). atSet s (pingedAt (e .clock)) (heardNow (p .members) e)) (set-row e s)
+    ∙ at-set-row (heardNow (setIn e s .members) e) s (pingedAt (e .clock)) h u
 
 -- a change that keeps the number, and a ping
 change-row : (e : Entries) (s : ℕ) (f : PingSet → PingSet) → ((p : PingSet) → f p .number ≡ p .number) → setRow e s < length (e .sets) → distinct eqb (setNumbers e) ≡ true
-    → ping s (atSet s f e) ≡ pingedAtRow (setRow e s) (changedAtRow (setRow e s) f e)
+    → ping s (atSet s f e) ≡ pingedRow (setRow e s) (changeSet (setRow e s) f e)
 change-row e s f n h u =
     ap (ping s) (at-set-row e s f h u)
     ∙ ping-row after s (rw (row, length-set (e .sets) (setRow e s) (f (setIn e s))) h) (rw numbers u)
-    ∙ ap (λ (k : ℕ). pingedAtRow k after) row
+    ∙ ap (λ (k : ℕ). pingedRow k after) row
   where
     after : Entries
-    after = changedAtRow (setRow e s) f e
+    after = changeSet (setRow e s) f e
 
     numbers : setNumbers after ≡ setNumbers e
     numbers = map-set-same (λ (p : PingSet). p .number) (e .sets) (setRow e s) (f (setIn e s)) noSet (n (setIn e s))
@@ -64,7 +47,7 @@ change-row e s f n h u =
 
 module _ (e : Entries) (sd : sound e ≡ true) where
   -- a simple ping
-  pub simple-ping-row : (s : ℕ) → setRow e s < length (e .sets) → next (simplePing s) e ≡ pingedAtRow (setRow e s) e
+  pub simple-ping-row : (s : ℕ) → setRow e s < length (e .sets) → next (simplePing s) e ≡ pingedRow (setRow e s) e
   unfolding next
   simple-ping-row s h = ping-row e s h (sets-distinct e sd)
 
@@ -80,17 +63,17 @@ module _ (e : Entries) (sd : sound e ≡ true) where
   module _ (s n : ℕ) (adds dels : List ℕ) where
     -- a complex ping of a live set
     pub complex-ping-row : eqb s 0 ≡ false → setRow e s < length (e .sets)
-        → next (complexPing s n adds dels) e ≡ pingedAtRow (setRow e s) (updatedAtRow (setRow e s) n adds dels e)
+        → next (complexPing s n adds dels) e ≡ pingedRow (setRow e s) (updatedRow (setRow e s) n adds dels e)
     unfolding next
     complex-ping-row z h = rw z (change-row e s _ (λ p. refl) h (sets-distinct e sd))
 
     -- a complex ping that makes a set
     pub complex-ping-new : eqb s 0 ≡ true
-        → next (complexPing s n adds dels) e ≡ pingedAtRow (length (e .sets)) (updatedAtRow (length (e .sets)) n adds dels (makeSet e))
+        → next (complexPing s n adds dels) e ≡ pingedRow (length (e .sets)) (updatedRow (length (e .sets)) n adds dels (makeSet e))
     unfolding next
     complex-ping-new z =
         rw z
         (change-row (makeSet e) (e .next) _ (λ p. refl)
         (let l = length-append (e .sets) (newSet e ∷ []) in let r = new-row in omega arith)
         (fine-distinct eqb 0 (setNumbers (makeSet e)) (set-made e (grouped e sd) .sets .ids))
-        ∙ ap (λ (k : ℕ). pingedAtRow k (updatedAtRow k n adds dels (makeSet e))) new-row)
+        ∙ ap (λ (k : ℕ). pingedRow k (updatedRow k n adds dels (makeSet e))) new-row)

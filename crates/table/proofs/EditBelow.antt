@@ -20,7 +20,8 @@ use Rattle.rules.specs.Entries.{PingSet, Entries, oids, withMembers}
 use Rattle.rules.specs.Rules.{noSet, makeSet}
 use Rattle.rules.specs.Sound.{membersLive}
 use Rattle.table.specs.View.{objectCount, setCount, setsOf, memory, view}
-use Rattle.table.specs.Edits.{membersAt, membersBelow, Became, dropSet, changeSet}
+use Rattle.rules.specs.PingRows.{changeSet}
+use Rattle.table.specs.Edits.{membersAt, membersBelow, Became, dropSet}
 use Rattle.table.proofs.Entries.{sets-length, set-at}
 use Rattle.table.proofs.EditViews.{oidsOf}
 use Rattle.table.proofs.EditMembers.{Below, oids-length, below-at, below-from}

@@ -12,7 +12,7 @@ use Rattle.columns.specs.Members.{memberRows, Cut}
 use Rattle.columns.specs.declared.members.Members.{Members}
 use Rattle.columns.specs.declared.rows.Kind.{Kind}
 use Rattle.rules.specs.Entries.{Exporter, Object, Interface, PingSet, Entries, withExporters, withObjects, withInterfaces, withSets, withMembers}
-use Rattle.rules.specs.Rules.{noObject, noInterface, noSet}
+use Rattle.rules.specs.Rules.{noObject, noInterface}
 use Rattle.table.specs.View.{objectCount, setCount, setKind, memory, view}
 
 -- nothing but the rows of a kind and the word of its count changed
@@ -81,12 +81,9 @@ dropObject i e =
     withSets (map (λ (s : PingSet). withMembers (keep (λ (o : ℕ). not (eqb o (getD (e .objects) i noObject .oid))) (s .members)) s) (e .sets))
     (withObjects (deleteAt i (e .objects)) e)
 
--- the entry at a row changed
+-- the entry at a row changed (of a set: `changeSet` of the rules)
 abbrev pub changeObject : ℕ → (Object → Object) → Entries → Entries
 changeObject i f e = withObjects (set (e .objects) i (f (getD (e .objects) i noObject))) e
 
 abbrev pub changeInterface : ℕ → (Interface → Interface) → Entries → Entries
 changeInterface i f e = withInterfaces (set (e .interfaces) i (f (getD (e .interfaces) i noInterface))) e
-
-abbrev pub changeSet : ℕ → (PingSet → PingSet) → Entries → Entries
-changeSet i f e = withSets (set (e .sets) i (f (getD (e .sets) i noSet))) e

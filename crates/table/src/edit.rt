@@ -17,7 +17,8 @@ ghost use Rattle.bindings.specs.Bindings.{listAnswer};
 ghost use Rattle.rules.specs.Entries.{oids, heardAt, withCounts, pingedAt, withSequence, withMembers, withClock};
 ghost use Rattle.rules.specs.Rules.{makeSet};
 ghost use Rattle.table.specs.View.{exporterCount, objectCount, interfaceCount, setCount, memory, view};
-ghost use Rattle.table.specs.Edits.{Pushed, Pulled, membersBelow, Became, addExporter, addObject, addInterface, addSet, dropExporter, dropObject, dropInterface, dropSet, changeObject, changeInterface, changeSet, MembersCut};
+ghost use Rattle.rules.specs.PingRows.{changeSet};
+ghost use Rattle.table.specs.Edits.{Pushed, Pulled, membersBelow, Became, addExporter, addObject, addInterface, addSet, dropExporter, dropObject, dropInterface, dropSet, changeObject, changeInterface, MembersCut};
 
 // Enters a row after the n live ones of a kind, whose count is the word at.
 fn push_row(words: &mut [u64], k: Kind, at: usize, n: usize, row: &[u64])

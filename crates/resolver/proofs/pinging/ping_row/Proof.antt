@@ -5,7 +5,7 @@ use lib.ListN.{length, getD}
 use borrow.Author.Needs.{needs}
 use Rattle.rules.specs.Entries.{Entries, pingedAt}
 use Rattle.table.specs.View.{setCount}
-use Rattle.table.specs.Edits.{changeSet}
+use Rattle.rules.specs.PingRows.{changeSet}
 use Rattle.table.proofs.Entries.{sets-length}
 use Rattle.resolver.proofs.Pings.{row-heard}
 use Rattle.resolver.proofs.pinging.ping_row.Statement.{statement}

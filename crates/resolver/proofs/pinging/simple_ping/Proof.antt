@@ -8,9 +8,9 @@ use Rattle.rules.specs.Rules.{results, refused, done}
 use Rattle.rules.proofs.SoundLaws.{sound-fields}
 use Rattle.rules.proofs.ByRow.{setRow}
 use Rattle.rules.proofs.PingRows.{simple-ping-row}
+use Rattle.rules.specs.PingRows.{pingedRow}
 use Rattle.table.specs.View.{memory, view}
 use Rattle.table.proofs.Entries.{sets-length}
-use Rattle.resolver.specs.Pinging.{pingedRow}
 use Rattle.resolver.proofs.Calls.{sound-table, unsound-call, refused-call, accepted-call, row-gives, row-passes, gone-gives, live-passes, rows-end, set-tested}
 use Rattle.resolver.proofs.Pings.{simple-rows}
 use borrow.Author.Needs.{needs}

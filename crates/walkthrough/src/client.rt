@@ -1,0 +1,147 @@
+// A client, and the clock.
+use crate::say;
+use crate::server;
+use kinds::Oid;
+use kinds::Oxid;
+use kinds::SetId;
+use kinds::answer;
+use references::Block;
+use references::Reference;
+
+// Reads the reference, goes where it leads, takes references of its own, and puts the object into a set; the set.
+fn take_up<'a>(words: &'a mut [u64], store: &'a [u8], reference: &'a [u8]) -> SetId {
+    let read = Reference::read(reference);
+    say::step(read.answer, b"client: reads the reference");
+    described(read.reference.block);
+    next_stop(words, store, reference);
+    resolve(words, store, read.reference.block.oxid);
+    say::done(
+        resolver::add(words, store, read.reference.block.ipid, 2, 1),
+        b"client: takes 2 public and 1 private references more",
+    );
+    make_set(words, store, read.reference.block.oid)
+}
+
+// A set with one object.
+fn make_set<'a>(words: &'a mut [u64], store: &'a [u8], oid: Oid) -> SetId {
+    let adds = [oid.0];
+    let deletes = [0u64; 1];
+    let r = resolver::complex_ping(words, store, SetId(0), 1, &adds, &deletes[0..0]);
+    say::step(r.answer, b"client: makes a ping set with the group");
+    say::counted(b", set ", r.set.0);
+    print::end_line();
+    r.set
+}
+
+fn described(block: Block) {
+    print::text(b", OXID 0x");
+    print::hex(block.oxid.0, 1);
+    print::text(b", OID 0x");
+    print::hex(block.oid.0, 1);
+    say::counted(b", ", block.public as u64);
+    print::text(b" public references, ");
+    if block.no_ping() {
+        print::text(b"not pinged\n");
+    } else {
+        print::text(b"pinged\n");
+    }
+}
+
+fn next_stop<'a>(words: &'a [u64], store: &'a [u8], reference: &'a [u8]) {
+    let place = resolver::next_stop_place(words, store, reference);
+    say::step(place.answer, b"client: asks where to go next");
+    if place.in_store {
+        print::text(b", the exporter's list, ");
+    } else {
+        print::text(b", the reference's own list, ");
+    }
+    say::address(resolver::next_stop(words, store, reference));
+    print::end_line();
+}
+
+fn resolve<'a>(words: &'a [u64], store: &'a [u8], oxid: Oxid) {
+    let mut list = [0u8; 512];
+    let r = resolver::resolve(words, store, oxid, &mut list);
+    let n = r.length;
+    say::step(r.answer, b"client: resolves the exporter");
+    if r.answer != answer::DONE {
+        ended(r.answer);
+    } else if n <= 512 {
+        say::counted(b", ", n as u64);
+        print::text(b" bytes, ");
+        say::address(&list[0..n]);
+        print::end_line();
+    }
+}
+
+// The end of a step: of a refused one, what goes out on the wire.
+fn ended(number: u32) {
+    if number != answer::DONE {
+        say::counted(b", code ", kinds::wire_code(number) as u64);
+        print::text(b" on the wire");
+    }
+    print::end_line();
+}
+
+// So many periods of two minutes have passed since 8 o'clock.
+fn pass<'a>(words: &'a mut [u64], store: &'a [u8], periods: u32) {
+    let r = resolver::clock(words, store, 28800 + 120 * periods as u64);
+    say::step(r.answer, b"clock: two minutes later");
+    say::counted(b", ", r.objects as u64);
+    say::counted(b" objects, ", r.interfaces as u64);
+    say::counted(b" interfaces and ", r.sets as u64);
+    print::text(b" sets went\n");
+}
+
+fn give_back<'a>(words: &'a mut [u64], store: &'a [u8]) {
+    let interface = server::ipid();
+    let r = resolver::release(words, store, interface, 7, 1);
+    say::step(
+        r.answer,
+        b"client: gives 7 public and 1 private references back",
+    );
+    say::counted(b", took ", r.public as u64);
+    say::counted(b" and ", r.private as u64);
+    say::counted(b"; interfaces that went: ", r.interfaces as u64);
+    say::counted(b", objects: ", r.objects as u64);
+    print::end_line();
+}
+
+fn ping<'a>(words: &'a mut [u64], store: &'a [u8], set: SetId) {
+    let r = resolver::simple_ping(words, store, set);
+    say::step(r, b"client: pings its set");
+    ended(r);
+}
+
+// The clock runs from after one period through another, and the client pings or not.
+fn wait<'a>(words: &'a mut [u64], store: &'a [u8], set: SetId, from: u32, to: u32, pinging: bool) {
+    let mut k = from;
+    while k < to {
+        k += 1;
+        pass(words, store, k);
+        if pinging {
+            ping(words, store, set);
+        }
+    }
+}
+
+// Pings every two minutes, and gives the references back at the end.
+pub fn stay<'a>(words: &'a mut [u64], store: &'a [u8], reference: &'a [u8]) {
+    let set = take_up(words, store, reference);
+    wait(words, store, set, 0, 4, true);
+    give_back(words, store);
+}
+
+// Pings no more.
+pub fn fall_silent<'a>(words: &'a mut [u64], store: &'a [u8], reference: &'a [u8]) {
+    let set = take_up(words, store, reference);
+    wait(words, store, set, 4, 7, false);
+    ping(words, store, set);
+    give_back(words, store);
+}
+
+// A reference is read after its exporter left.
+pub fn come_late<'a>(words: &'a [u64], store: &'a [u8], reference: &'a [u8]) {
+    resolve(words, store, Oxid(server::OXID));
+    next_stop(words, store, reference);
+}

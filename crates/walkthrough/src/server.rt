@@ -1,0 +1,148 @@
+// The process-data server.
+use crate::say;
+use kinds::Guid;
+use kinds::Oid;
+use kinds::Oxid;
+use references::Block;
+use references::Reference;
+
+// Identifiers that the server chose.
+pub const OXID: u64 = 0x1101;
+
+pub const OID: u64 = 0x7E0A;
+
+// The bytes of the reference: header, object block and binding list.
+pub const REFERENCE: usize = 108;
+
+// The IPID of the group's interface.
+pub fn ipid() -> Guid {
+    Guid {
+        low: 0x0000110100000002,
+        high: 0x4600000000000002,
+    }
+}
+
+// {39c13a54-011e-11d0-9675-0020afd8adb3}, a group of items.
+fn iid() -> Guid {
+    Guid {
+        low: 0x11D0011E39C13A54,
+        high: 0xB3ADD8AF20007596,
+    }
+}
+
+// One string binding, "10.1.4.20[49500]" over TCP, and no security binding.
+fn bindings_of() -> [u8; 44] {
+    [
+        20,
+        0,
+        19,
+        0,
+        7,
+        0,
+        0x31,
+        0,
+        0x30,
+        0,
+        0x2E,
+        0,
+        0x31,
+        0,
+        0x2E,
+        0,
+        0x34,
+        0,
+        0x2E,
+        0,
+        0x32,
+        0,
+        0x30,
+        0,
+        0x5B,
+        0,
+        0x34,
+        0,
+        0x39,
+        0,
+        0x35,
+        0,
+        0x30,
+        0,
+        0x30,
+        0,
+        0x5D,
+        0,
+        0,
+        0,
+        0,
+        0,
+        0,
+        0,
+    ]
+}
+
+// Registers at 8 o'clock.
+pub fn open<'a>(words: &'a mut [u64], store: &'a mut [u8]) {
+    let list = bindings_of();
+    let unknown = Guid {
+        low: 0x0000110100000001,
+        high: 0x4600000000000001,
+    };
+    say::done(
+        table::reset(words, store, 28800),
+        b"server: resets its table at 8 o'clock",
+    );
+    say::done(
+        resolver::enter_exporter(words, store, Oxid(OXID), unknown, &list),
+        b"server: registers as exporter",
+    );
+}
+
+// Enters the group and writes its reference.
+pub fn offer<'a>(words: &'a mut [u64], store: &'a [u8], reference: &'a mut [u8]) {
+    let interface = ipid();
+    let group = iid();
+    say::done(
+        resolver::enter_object(
+            words,
+            store,
+            Oid(OID),
+            Oxid(OXID),
+            interface,
+            group,
+            5,
+            false,
+        ),
+        b"server: enters the tank level group with 5 public references",
+    );
+    write(reference);
+}
+
+fn write(reference: &mut [u8]) {
+    let list = bindings_of();
+    let interface = ipid();
+    let group = iid();
+    let block = Block::new(0, 5, Oxid(OXID), Oid(OID), interface);
+    let r = Reference::standard(group, block).write(&list, reference);
+    say::step(r.answer, b"server: writes the reference");
+    say::counted(b", ", r.length as u64);
+    print::text(b" bytes\n");
+}
+
+// What is live.
+pub fn count<'a>(words: &'a [u64], store: &'a [u8]) {
+    let r = table::census(words, store);
+    say::step(r.answer, b"server: census");
+    say::counted(b", ", r.exporters as u64);
+    say::counted(b" exporters, ", r.objects as u64);
+    say::counted(b" objects, ", r.interfaces as u64);
+    say::counted(b" interfaces, ", r.sets as u64);
+    print::text(b" sets\n");
+}
+
+// Leaves.
+pub fn close<'a>(words: &'a mut [u64], store: &'a mut [u8]) {
+    say::done(
+        resolver::remove_exporter(words, store, Oxid(OXID)),
+        b"server: leaves",
+    );
+}
