@@ -30,59 +30,19 @@ fn iid() -> Guid {
     }
 }
 
-// One string binding, "10.1.4.20[49500]" over TCP, and no security binding.
-fn bindings_of() -> [u8; 44] {
-    [
-        20,
+// One string binding, "10.1.4.20[49500]" over TCP, and no security binding: 44 bytes.
+fn put_bindings(list: &mut [u8]) {
+    fields::copy(
+        list,
         0,
-        19,
-        0,
-        7,
-        0,
-        0x31,
-        0,
-        0x30,
-        0,
-        0x2E,
-        0,
-        0x31,
-        0,
-        0x2E,
-        0,
-        0x34,
-        0,
-        0x2E,
-        0,
-        0x32,
-        0,
-        0x30,
-        0,
-        0x5B,
-        0,
-        0x34,
-        0,
-        0x39,
-        0,
-        0x35,
-        0,
-        0x30,
-        0,
-        0x30,
-        0,
-        0x5D,
-        0,
-        0,
-        0,
-        0,
-        0,
-        0,
-        0,
-    ]
+        b"\x14\x00\x13\x00\x07\x001\x000\x00.\x001\x00.\x004\x00.\x002\x000\x00[\x004\x009\x005\x000\x000\x00]\x00\x00\x00\x00\x00\x00\x00",
+    );
 }
 
 // Registers at 8 o'clock.
 pub fn open<'a>(words: &'a mut [u64], store: &'a mut [u8]) {
-    let list = bindings_of();
+    let mut list = [0u8; 44];
+    put_bindings(&mut list);
     let unknown = Guid {
         low: 0x0000110100000001,
         high: 0x4600000000000001,
@@ -118,7 +78,8 @@ pub fn offer<'a>(words: &'a mut [u64], store: &'a [u8], reference: &'a mut [u8])
 }
 
 fn write(reference: &mut [u8]) {
-    let list = bindings_of();
+    let mut list = [0u8; 44];
+    put_bindings(&mut list);
     let interface = ipid();
     let group = iid();
     let block = Block::new(0, 5, Oxid(OXID), Oid(OID), interface);
