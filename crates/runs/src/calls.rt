@@ -9,6 +9,7 @@ use resolver::Resolved;
 
 // J: judge. R: reset. C: census. M: members of a set. X: enter an exporter. D: remove one. O: enter an object. I: enter an
 // interface. A: add. L: release. S: simple ping. Q: complex ping. Z: complex ping with long lists. K: clock. V: resolve.
+// T: the next stop of a reference.
 pub fn call(kind: u8, s: &[u8], words: &mut [u64], store: &mut [u8]) {
     if kind == b'J' {
         verdict(table::judge::sound(words, store));
@@ -40,6 +41,10 @@ pub fn call(kind: u8, s: &[u8], words: &mut [u64], store: &mut [u8]) {
         clock(input::number(s, 0).value, words, store);
     } else if kind == b'V' {
         resolve(s, words, store);
+    } else if kind == b'T' {
+        let mut reference = [0u8; 4096];
+        let n = input::decode(s, &mut reference);
+        next_stop(words, store, &reference[..n]);
     }
 }
 
@@ -265,6 +270,20 @@ fn resolved(r: Resolved) {
     let unknown = r.unknown;
     print::guid(unknown);
     print::text(b" buffer ");
+}
+
+fn next_stop<'a>(words: &'a [u64], store: &'a [u8], reference: &'a [u8]) {
+    let r = resolver::next_stop_place(words, store, reference);
+    number(resolver::next_stop_answer(words, store, reference));
+    if r.in_store {
+        print::text(b" store ");
+    } else {
+        print::text(b" reference ");
+    }
+    print::decimal(r.from as u64);
+    labelled(b" to ", r.to as u64);
+    print::text(b" ");
+    print::bytes(resolver::next_stop(words, store, reference));
 }
 
 fn census<'a>(words: &'a [u64], store: &'a [u8]) {
