@@ -17,7 +17,7 @@ use Rattle.rules.specs.Contract.{Memory}
 use Rattle.rules.proofs.Performing.{sound-refused}
 use Rattle.rules.proofs.SoundLaws.{table-fields}
 use Rattle.rules.proofs.ByRow.{interfaceRow, interfaceIn, lessened, interface-live, release-counted, release-empty, counted-values, empty-values}
-use Rattle.table.specs.View.{interfaceCount, memory, view, soundMemory, Performed}
+use Rattle.table.specs.View.{interfaceCount, interfacesOf, memory, view, soundMemory, Performed}
 use Rattle.table.specs.Edits.{changeInterface}
 use Rattle.table.proofs.Entries.{interfaces-length}
 use Rattle.resolver.specs.Leaving.{InterfaceDropped}
@@ -28,74 +28,95 @@ use Rattle.resolver.proofs.Calls.{live-row, performed}
 count-left : (asked count taken left : ℕ) → taken ≡ min asked count → left ≡ count - taken → left ≡ count - asked
 count-left asked count taken left t l = omega arith
 
-module _ (ws s : List ℕ) (i : Guid) (p q : ℕ) (h : soundMemory (memory ws s) ≡ true) (r n : ℕ) (row : r ≡ interfaceRow (view (memory ws s)) i) (count : n ≡ interfaceCount ws) where
+-- the row that was found, of as many as were counted, in a sound table
+pub record Found (ws s : List ℕ) (i : Guid) (r n : ℕ) : Type 0 where
+  pub judged : soundMemory (memory ws s) ≡ true
+  pub row : r ≡ interfaceRow (view (memory ws s)) i
+  pub count : n ≡ interfaceCount ws
+
+module _ (ws s : List ℕ) (i : Guid) (p q : ℕ) {r n : ℕ} (found : Found ws s i r n) where
   abbrev before : Entries
   before = view (memory ws s)
 
   -- live: the row is below the number of interfaces
   interface-here : isLiveInterface before i ≡ ltb r n
-  interface-here = live-row r n (interface-live before i) row (count ∙ sym (interfaces-length ws))
+  interface-here = live-row r n (interface-live before i) (found .row) (found .count ∙ sym (interfaces-length ws))
 
   pub no-interface : n ≤ r → Performed (Call.release i p q) (memory ws s) (releaseReply (record { answer = 6; public = 0; private = 0; interfaces = 0; objects = 0 })) (memory ws s)
   unfolding refused results number refusals order
   no-interface l =
       let gone = interface-here ∙ le-ltb r n l in
       let e : number (Call.release i p q) before ≡ 6 = rw gone in
-      sound-refused view (Call.release i p q) (memory ws s) refl h 6 e (λ z. omega arith)
+      sound-refused view (Call.release i p q) (memory ws s) refl (found .judged) 6 e (λ z. omega arith)
 
-  module _ (l : r < n) where
-    -- accepted, with what is answered
-    released : (m : Memory) (a b c d : ℕ) → length (m .words) ≡ 8192 → length (m .store) ≡ 8192 → view m ≡ next (Call.release i p q) before
-        → results (Call.release i p q) before .values ≡ a ∷ b ∷ c ∷ d ∷ []
-        → Performed (Call.release i p q) (memory ws s) (releaseReply (record { answer = 0; public = a; private = b; interfaces = c; objects = d })) m
-    unfolding done results number refusals order
-    released m a b c d w k v e =
-        let live = interface-here ∙ lt-ltb r n l in
-        let z : number (Call.release i p q) before ≡ 0 = rw live in
-        subst (λ (vs : List ℕ). Performed (Call.release i p q) (memory ws s) (record { number = 0; values = vs; part = []; buffer = [] }) m) e
-        (performed (Call.release i p q) (memory ws s) m refl h z w k v)
+  -- accepted, with what is answered
+  released : r < n → (m : Memory) (a b c d : ℕ) → length (m .words) ≡ 8192 → length (m .store) ≡ 8192 → view m ≡ next (Call.release i p q) before
+      → results (Call.release i p q) before .values ≡ a ∷ b ∷ c ∷ d ∷ []
+      → Performed (Call.release i p q) (memory ws s) (releaseReply (record { answer = 0; public = a; private = b; interfaces = c; objects = d })) m
+  unfolding done results number refusals order
+  released l m a b c d w k v e =
+      let live = interface-here ∙ lt-ltb r n l in
+      let z : number (Call.release i p q) before ≡ 0 = rw live in
+      subst (λ (vs : List ℕ). Performed (Call.release i p q) (memory ws s) (record { number = 0; values = vs; part = []; buffer = [] }) m) e
+      (performed (Call.release i p q) (memory ws s) m refl (found .judged) z w k v)
 
-    below : interfaceRow before i < length (before .interfaces)
-    below = let k = interfaces-length ws in rw (← row) (omega arith)
+-- the row is live; what is taken of its counts, and what is left
+pub record Taking (ws s : List ℕ) (i : Guid) (p q r n taken taken₂ left left₂ : ℕ) : Type 0 where
+  pub found : Found ws s i r n
+  pub live : r < n
+  pub takes : taken ≡ min p (getD (interfacesOf ws) r noInterface .public)
+  pub takes₂ : taken₂ ≡ min q (getD (interfacesOf ws) r noInterface .private)
+  pub leaves : left ≡ getD (interfacesOf ws) r noInterface .public - taken
+  pub leaves₂ : left₂ ≡ getD (interfacesOf ws) r noInterface .private - taken₂
 
-    -- what is taken of the counts in the row, and what is left
-    module _ (taken taken₂ left left₂ : ℕ)
-        (tp : taken ≡ min p (getD (before .interfaces) r noInterface .public)) (tq : taken₂ ≡ min q (getD (before .interfaces) r noInterface .private))
-        (lp : left ≡ getD (before .interfaces) r noInterface .public - taken) (lq : left₂ ≡ getD (before .interfaces) r noInterface .private - taken₂) where
-      here : getD (before .interfaces) r noInterface ≡ interfaceIn before i
-      here = ap (λ (j : ℕ). getD (before .interfaces) j noInterface) row
+module _ {ws s : List ℕ} {i : Guid} {p q r n taken taken₂ left left₂ : ℕ} (k : Taking ws s i p q r n taken taken₂ left left₂) where
+  abbrev entries : Entries
+  entries = view (memory ws s)
 
-      public-left : left ≡ interfaceIn before i .public - p
-      public-left = count-left p _ taken left tp lp ∙ ap (λ (x : Interface). x .public - p) here
+  below : interfaceRow entries i < length (entries .interfaces)
+  below = let l = interfaces-length ws in let c = k .found .count in let b = k .live in rw (← k .found .row) (omega arith)
 
-      private-left : left₂ ≡ interfaceIn before i .private - q
-      private-left = count-left q _ taken₂ left₂ tq lq ∙ ap (λ (x : Interface). x .private - q) here
+  here : getD (entries .interfaces) r noInterface ≡ interfaceIn entries i
+  here = ap (λ (j : ℕ). getD (entries .interfaces) j noInterface) (k .found .row)
 
-      held-left : held (lessened before i p q) ≡ (not (eqb left 0) || not (eqb left₂ 0))
-      held-left = λ u. not (eqb (sym public-left u) 0) || not (eqb (sym private-left u) 0)
+  public-left : left ≡ interfaceIn entries i .public - p
+  public-left = count-left p _ taken left (k .takes) (k .leaves) ∙ ap (λ (x : Interface). x .public - p) here
 
-      took : (c d : ℕ) → min p (interfaceIn before i .public) ∷ min q (interfaceIn before i .private) ∷ c ∷ d ∷ [] ≡ taken ∷ taken₂ ∷ c ∷ d ∷ []
-      took c d =
-          λ u. (ap (λ (x : Interface). min p (x .public)) (sym here) ∙ sym tp) u ∷ (ap (λ (x : Interface). min q (x .private)) (sym here) ∙ sym tq) u ∷ c ∷ d ∷ []
+  private-left : left₂ ≡ interfaceIn entries i .private - q
+  private-left = count-left q _ taken₂ left₂ (k .takes₂) (k .leaves₂) ∙ ap (λ (x : Interface). x .private - q) here
 
-      -- a count is left
-      pub counted-done : (not (eqb left 0) || not (eqb left₂ 0)) ≡ true → (ws′ : List ℕ) → length ws′ ≡ 8192 → view (memory ws′ s) ≡ changeInterface r (withCounts left left₂) before
-          → Performed (Call.release i p q) (memory ws s) (releaseReply (record { answer = 0; public = taken; private = taken₂; interfaces = 0; objects = 0 })) (memory ws′ s)
-      counted-done t ws′ w v =
-          let table = table-fields view (memory ws s) h in
-          released (memory ws′ s) taken taken₂ 0 0 w (table .store)
-          (v
-          ∙ (λ u. withInterfaces (set (before .interfaces) (row u) (withCounts (public-left u) (private-left u) (here u))) before)
-          ∙ sym (release-counted before i (table .entries) below p q (held-left ∙ t)))
-          (counted-values before i (table .entries) below p q (held-left ∙ t) ∙ took 0 0)
+  held-left : held (lessened entries i p q) ≡ (not (eqb left 0) || not (eqb left₂ 0))
+  held-left = λ u. not (eqb (sym public-left u) 0) || not (eqb (sym private-left u) 0)
 
-      -- none is left
-      pub empty-done : (not (eqb left 0) || not (eqb left₂ 0)) ≡ false → (ws′ : List ℕ) (o : ℕ) → length ws′ ≡ 8192
-          → InterfaceDropped r (getD (before .interfaces) r noInterface .object) before o (view (memory ws′ s))
-          → Performed (Call.release i p q) (memory ws s) (releaseReply (record { answer = 0; public = taken; private = taken₂; interfaces = 1; objects = o })) (memory ws′ s)
-      empty-done f ws′ o w d =
-          let table = table-fields view (memory ws s) h in
-          let dropped : InterfaceDropped (interfaceRow before i) (interfaceIn before i .object) before o (view (memory ws′ s)) = rw row at d in
-          released (memory ws′ s) taken taken₂ 1 o w (table .store)
-          (dropped .became ∙ sym (release-empty before i (table .entries) below p q (held-left ∙ f)))
-          (empty-values before i (table .entries) below p q (held-left ∙ f) ∙ ap (λ (x : ℕ). min p (interfaceIn before i .public) ∷ min q (interfaceIn before i .private) ∷ 1 ∷ x ∷ []) (sym (dropped .gone)) ∙ took 1 o)
+  took : (c d : ℕ) → min p (interfaceIn entries i .public) ∷ min q (interfaceIn entries i .private) ∷ c ∷ d ∷ [] ≡ taken ∷ taken₂ ∷ c ∷ d ∷ []
+  took c d =
+      λ u.
+      (ap (λ (x : Interface). min p (x .public)) (sym here) ∙ sym (k .takes)) u
+      ∷ (ap (λ (x : Interface). min q (x .private)) (sym here) ∙ sym (k .takes₂)) u
+      ∷ c
+      ∷ d
+      ∷ []
+
+  -- a count is left
+  pub counted-done : (not (eqb left 0) || not (eqb left₂ 0)) ≡ true → (ws′ : List ℕ) → length ws′ ≡ 8192 → view (memory ws′ s) ≡ changeInterface r (withCounts left left₂) entries
+      → Performed (Call.release i p q) (memory ws s) (releaseReply (record { answer = 0; public = taken; private = taken₂; interfaces = 0; objects = 0 })) (memory ws′ s)
+  counted-done t ws′ w v =
+      let table = table-fields view (memory ws s) (k .found .judged) in
+      released ws s i p q (k .found) (k .live) (memory ws′ s) taken taken₂ 0 0 w (table .store)
+      (v
+      ∙ (λ u. withInterfaces (set (entries .interfaces) (k .found .row u) (withCounts (public-left u) (private-left u) (here u))) entries)
+      ∙ sym (release-counted entries i (table .entries) below p q (held-left ∙ t)))
+      (counted-values entries i (table .entries) below p q (held-left ∙ t) ∙ took 0 0)
+
+  -- none is left
+  pub empty-done : (not (eqb left 0) || not (eqb left₂ 0)) ≡ false → (ws′ : List ℕ) (o : ℕ) → length ws′ ≡ 8192
+      → InterfaceDropped r (getD (entries .interfaces) r noInterface .object) entries o (view (memory ws′ s))
+      → Performed (Call.release i p q) (memory ws s) (releaseReply (record { answer = 0; public = taken; private = taken₂; interfaces = 1; objects = o })) (memory ws′ s)
+  empty-done f ws′ o w d =
+      let table = table-fields view (memory ws s) (k .found .judged) in
+      let dropped : InterfaceDropped (interfaceRow entries i) (interfaceIn entries i .object) entries o (view (memory ws′ s)) = rw (k .found .row) at d in
+      released ws s i p q (k .found) (k .live) (memory ws′ s) taken taken₂ 1 o w (table .store)
+      (dropped .became ∙ sym (release-empty entries i (table .entries) below p q (held-left ∙ f)))
+      (empty-values entries i (table .entries) below p q (held-left ∙ f)
+      ∙ ap (λ (x : ℕ). min p (interfaceIn entries i .public) ∷ min q (interfaceIn entries i .private) ∷ 1 ∷ x ∷ []) (sym (dropped .gone))
+      ∙ took 1 o)

@@ -9,7 +9,7 @@ use Rattle.rules.specs.Rules.{results, refused}
 use Rattle.rules.proofs.Performing.{unsound}
 use Rattle.rules.proofs.SoundLaws.{table-fields, sound-fields}
 use Rattle.table.specs.View.{memory, view, soundMemory}
-use Rattle.resolver.proofs.Releasing.{no-interface, counted-done, empty-done}
+use Rattle.resolver.proofs.Releasing.{Found, Taking, no-interface, counted-done, empty-done}
 use borrow.Author.Needs.{needs}
 use Rattle.resolver.proofs.counting.release.Statement.{statement}
 use Rattle.resolver.proofs.counting.release.Tie as tie
@@ -44,11 +44,14 @@ refused-requires-2 c κs = search needs
 same-length-2 : tie.Need-same-length-2
 same-length-2 c = search needs
 
+-- the row that was found
+found : (c : tie.After-interface-count) → let a = c .before .before .before .before .before .before .before .before .before .args in Found (a .words .now) (a .store .now) (a .ipid) (c .before .before .interface-row .result) (c .interface-count .result)
+found c = record { judged = sound-here (c .before .before .before .before); row = c .before .before .interface-row .ensures (c .before .before .before .before .before .before .before .before .before .args .store .now); count = c .interface-count .ensures .0 }
+
 returns-2 : tie.Need-returns-2
 returns-2 c =
     let a = c .before .before .before .before .before .before .before .before .before .before .before .args in
-    rw (c .refused2 .ensures)
-    (no-interface (a .words .now) (a .store .now) (a .ipid) (a .public) (a .private) (sound-here (c .before .before .before .before .before .before)) _ _ (c .before .before .before .before .interface-row .ensures (a .store .now)) (c .before .before .interface-count .ensures .0) (c .before .if2 .taken))
+    rw (c .refused2 .ensures) (no-interface (a .words .now) (a .store .now) (a .ipid) (a .public) (a .private) (found (c .before .before)) (c .before .if2 .taken))
 
 interface-held-requires : tie.Need-interface-held-requires
 interface-held-requires c κs =
@@ -79,18 +82,26 @@ set-counts-requires c κs =
 same-length-3 : tie.Need-same-length-3
 same-length-3 c = search needs
 
+-- what is taken of its counts, and what is left
+taking : (c : tie.After-is-held) → let a = c .before .before .before .before .before .before .before .before .before .before .before .before .before .before .before .before .before .args in let h = c .before .before .before .before .before .interface-held .result in
+    Taking (a .words .now) (a .store .now) (a .ipid) (a .public) (a .private) (c .before .before .before .before .before .before .before .before .before .before .interface-row .result) (c .before .before .before .before .before .before .before .before .interface-count .result)
+    (c .before .before .before .before .smaller .result) (c .before .before .before .smaller2 .result) (h .public - c .before .before .before .before .smaller .result) (h .private - c .before .before .before .smaller2 .result)
+taking c =
+    let held = c .before .before .before .before .before .interface-held .ensures in
+    record {
+      found = found (c .before .before .before .before .before .before .before .before);
+      live = c .before .before .before .before .before .before .before .if2 .left;
+      takes = rw held at (c .before .before .before .before .smaller .ensures);
+      takes₂ = rw held at (c .before .before .before .smaller2 .ensures);
+      leaves = rw held;
+      leaves₂ = rw held;
+    }
+
 returns-3 : tie.Need-returns-3
 returns-3 c =
     let b = c .before .before .before .before in
-    let a = b .before .before .before .before .before .before .before .before .before .before .before .before .before .before .before .before .before .before .args in
-    let h = sound-here (b .before .before .before .before .before .before .before .before .before .before .before .before .before) in
-    let w = table-fields view _ h .words in
-    counted-done (a .words .now) (a .store .now) (a .ipid) (a .public) (a .private) h
-    (b .before .before .before .before .before .before .before .before .before .before .before .interface-row .result) (b .before .before .before .before .before .before .before .before .before .interface-count .result) (b .before .before .before .before .before .before .before .before .before .before .before .interface-row .ensures (a .store .now)) (b .before .before .before .before .before .before .before .before .before .interface-count .ensures .0) (b .before .before .before .before .before .before .before .before .if2 .left)
-    (b .before .before .before .before .before .smaller .result) (b .before .before .before .before .smaller2 .result) (b .before .before .before .before .before .before .interface-held .result .public - b .before .before .before .before .before .smaller .result) (b .before .before .before .before .before .before .interface-held .result .private - b .before .before .before .before .smaller2 .result)
-    (rw (b .before .before .before .before .before .before .interface-held .ensures) at (b .before .before .before .before .before .smaller .ensures)) (rw (b .before .before .before .before .before .before .interface-held .ensures) at (b .before .before .before .before .smaller2 .ensures))
-    (rw (b .before .before .before .before .before .before .interface-held .ensures)) (rw (b .before .before .before .before .before .before .interface-held .ensures))
-    (sym (b .before .is-held .ensures) ∙ b .if3 .taken) _ (search needs) (c .before .before .set-counts .ensures (a .store .now))
+    let w = table-fields view _ (sound-here (b .before .before .before .before .before .before .before .before .before .before .before .before .before)) .words in
+    counted-done (taking (b .before)) (sym (b .before .is-held .ensures) ∙ b .if3 .taken) _ (search needs) (c .before .before .set-counts .ensures (b .before .before .before .before .before .before .before .before .before .before .before .before .before .before .before .before .before .before .args .store .now))
 
 drop-interface-requires : tie.Need-drop-interface-requires
 drop-interface-requires c κs =
@@ -105,15 +116,9 @@ same-length-4 c = search needs
 returns-4 : tie.Need-returns-4
 returns-4 c =
     let b = c .before .before .before .before in
-    let a = b .before .before .before .before .before .before .before .before .before .before .before .before .before .before .before .before .before .before .args in
-    let h = sound-here (b .before .before .before .before .before .before .before .before .before .before .before .before .before) in
-    let w = table-fields view _ h .words in
-    empty-done (a .words .now) (a .store .now) (a .ipid) (a .public) (a .private) h
-    (b .before .before .before .before .before .before .before .before .before .before .before .interface-row .result) (b .before .before .before .before .before .before .before .before .before .interface-count .result) (b .before .before .before .before .before .before .before .before .before .before .before .interface-row .ensures (a .store .now)) (b .before .before .before .before .before .before .before .before .before .interface-count .ensures .0) (b .before .before .before .before .before .before .before .before .if2 .left)
-    (b .before .before .before .before .before .smaller .result) (b .before .before .before .before .smaller2 .result) (b .before .before .before .before .before .before .interface-held .result .public - b .before .before .before .before .before .smaller .result) (b .before .before .before .before .before .before .interface-held .result .private - b .before .before .before .before .smaller2 .result)
-    (rw (b .before .before .before .before .before .before .interface-held .ensures) at (b .before .before .before .before .before .smaller .ensures)) (rw (b .before .before .before .before .before .before .interface-held .ensures) at (b .before .before .before .before .smaller2 .ensures))
-    (rw (b .before .before .before .before .before .before .interface-held .ensures)) (rw (b .before .before .before .before .before .before .interface-held .ensures))
-    (sym (b .before .is-held .ensures) ∙ b .if3 .left) _ _ (search needs) (rw (b .before .before .before .before .before .before .interface-held .ensures) at (c .before .before .drop-interface .ensures (a .store .now)))
+    let w = table-fields view _ (sound-here (b .before .before .before .before .before .before .before .before .before .before .before .before .before)) .words in
+    empty-done (taking (b .before)) (sym (b .before .is-held .ensures) ∙ b .if3 .left) _ _ (search needs)
+    (rw (b .before .before .before .before .before .before .interface-held .ensures) at (c .before .before .drop-interface .ensures (b .before .before .before .before .before .before .before .before .before .before .before .before .before .before .before .before .before .before .args .store .now)))
 
 pub release-spec : {M : Type 1} → statement M
 release-spec =
