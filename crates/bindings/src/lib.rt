@@ -14,6 +14,7 @@ pub enum Part {
 }
 
 // Where a binding stands, or the number of its refusal.
+#[repr(C)]
 pub struct Place {
     pub answer: u32,
     pub from: usize,

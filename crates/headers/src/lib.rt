@@ -7,6 +7,7 @@ ghost use Rattle.fields.specs.Fields.{stored};
 ghost use Rattle.headers.specs.Headers.{thisAnswer, readThis, thisBytes, thisWritten, thatAnswer, readThat, thatBytes, thatWritten};
 
 // The header of a call. Its major version is MAJOR, and it has no extensions.
+#[repr(C)]
 pub struct OrpcThis {
     pub minor: u16,
     pub flags: u32,
@@ -14,6 +15,7 @@ pub struct OrpcThis {
 }
 
 // A header that was read, or the number of a refusal with zeros.
+#[repr(C)]
 pub struct ReadThis {
     pub answer: u32,
     pub header: OrpcThis,
@@ -101,11 +103,13 @@ impl OrpcThis {
 }
 
 // The header of a reply. It has no extensions.
+#[repr(C)]
 pub struct OrpcThat {
     pub flags: u32,
 }
 
 // A header that was read, or the number of a refusal with zeros.
+#[repr(C)]
 pub struct ReadThat {
     pub answer: u32,
     pub header: OrpcThat,

@@ -5,15 +5,19 @@ ghost use Rattle.kinds.specs.Wire.{wireCode};
 pub mod answer;
 
 // An exporter's number (OXID).
+#[repr(C)]
 pub struct Oxid(pub u64);
 
 // An object's number (OID).
+#[repr(C)]
 pub struct Oid(pub u64);
 
 // A ping set's number.
+#[repr(C)]
 pub struct SetId(pub u64);
 
 // A GUID, as the little-endian numbers of its first and its last eight bytes.
+#[repr(C)]
 pub struct Guid {
     pub low: u64,
     pub high: u64,

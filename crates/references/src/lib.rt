@@ -13,6 +13,7 @@ ghost use Rattle.fields.specs.Fields.{written, stored};
 ghost use Rattle.references.specs.References.{fixedSize, isNoPing, isForm, blockAt, blockBytes, headerBytes, bodyBytes, referenceBytes, noBlock, noReference, standard, handler, custom, referenceAt, tailAnswer, referenceAnswer, readReference, tailPlace, tailOf, referenceBinding, writeAnswer, writeReference};
 
 // The standard object block (STDOBJREF).
+#[repr(C)]
 pub struct Block {
     pub flags: u32,
     pub public: u32,
@@ -22,6 +23,7 @@ pub struct Block {
 }
 
 // The fixed fields of a reference. A field that its form does not have is zero.
+#[repr(C)]
 pub struct Reference {
     pub flags: u32,
     pub iid: Guid,
@@ -32,12 +34,14 @@ pub struct Reference {
 }
 
 // A reference that was read, or the number of a refusal with zeros.
+#[repr(C)]
 pub struct ReadReference {
     pub answer: u32,
     pub reference: Reference,
 }
 
 // A writer's answer, and the number of bytes that it wrote.
+#[repr(C)]
 pub struct Written {
     pub answer: u32,
     pub length: usize,

@@ -21,6 +21,7 @@ ghost use Rattle.resolver.specs.Replies.{releaseReply};
 ghost use Rattle.resolver.specs.Leaving.{InterfaceDropped};
 
 // What a release took of each count, and how many interfaces and objects went: 0 or 1 of each.
+#[repr(C)]
 pub struct Released {
     pub answer: u32,
     pub public: u32,

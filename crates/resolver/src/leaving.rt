@@ -151,6 +151,7 @@ fn drop_sets(words: &mut [u64], time: u64)
 }
 
 // How many of each kind went.
+#[repr(C)]
 pub struct Expired {
     pub answer: u32,
     pub exporters: usize,

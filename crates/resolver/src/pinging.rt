@@ -213,6 +213,7 @@ fn row_meant(words: &mut [u64], set: u64) -> usize
 }
 
 // The number of the set that was pinged, and the backoff factor.
+#[repr(C)]
 pub struct Pinged {
     pub answer: u32,
     pub set: SetId,

@@ -11,6 +11,7 @@ ghost use Rattle.table.specs.View.{memory, Performed};
 ghost use Rattle.resolver.specs.Replies.{resolveReply};
 
 // The length of the list that was written, and the remote-unknown IPID.
+#[repr(C)]
 pub struct Resolved {
     pub answer: u32,
     pub length: usize,

@@ -16,6 +16,7 @@ ghost use Rattle.references.specs.References.{tailPlace};
 ghost use Rattle.resolver.specs.NextStop.{refusedStop, stopInStore, stopInReference, StopFound, StopPart};
 
 // Where a next stop stands, in the store or else in the reference.
+#[repr(C)]
 pub struct StopPlace {
     pub answer: u32,
     pub in_store: bool,

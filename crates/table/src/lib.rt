@@ -15,6 +15,7 @@ pub mod judge;
 pub mod layout;
 
 // The live numbers of the four kinds.
+#[repr(C)]
 pub struct LiveCounts {
     pub answer: u32,
     pub exporters: usize,
@@ -24,6 +25,7 @@ pub struct LiveCounts {
 }
 
 // The number of a set's members.
+#[repr(C)]
 pub struct MemberCount {
     pub answer: u32,
     pub count: usize,

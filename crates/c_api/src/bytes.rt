@@ -1,0 +1,219 @@
+// Call headers, binding lists and references.
+use bindings::Part;
+use bindings::Place;
+use headers::OrpcThat;
+use headers::OrpcThis;
+use headers::ReadThat;
+use headers::ReadThis;
+use kinds::Guid;
+use kinds::Oid;
+use kinds::Oxid;
+use references::Block;
+use references::ReadReference;
+use references::Reference;
+use references::Written;
+ghost use mathlib.Core.Path.{_≡_};
+ghost use mathlib.Core.Bool.{cond};
+ghost use lib.Dec.{eqb};
+ghost use lib.ListN.{length};
+ghost use Rattle.fields.specs.Fields.{stored};
+ghost use Rattle.headers.specs.declared.OrpcThis.{OrpcThis};
+ghost use Rattle.references.specs.declared.Reference.{Reference};
+ghost use Rattle.headers.specs.Headers.{readThis, thisBytes, thisWritten, readThat, thatBytes, thatWritten};
+ghost use Rattle.bindings.specs.Bindings.{frontAnswer, listAnswer, listLength, bindingAt};
+ghost use Rattle.references.specs.References.{referenceAnswer, readReference, tailPlace, referenceBinding, referenceBytes, writeReference};
+
+// Reads the ORPCTHIS at the front of bytes.
+#[no_mangle]
+pub extern "C" fn rimonakh_this_read(bytes: &[u8]) -> ReadThis
+    ensures { λ r. ⌜ r ≡ readThis (now (bytes .entry)) ⌝ }
+{
+    OrpcThis::read(bytes)
+}
+
+// Writes an ORPCTHIS at the front of buffer.
+#[no_mangle]
+pub extern "C" fn rimonakh_this_write(
+    minor: u16,
+    flags: u32,
+    causality_low: u64,
+    causality_high: u64,
+    buffer: &mut [u8],
+) -> u32
+    ensures { λ r. ⌜
+        (let header : OrpcThis = record { minor = minor; flags = flags; causality = record { low = «causality_low»; high = «causality_high» } } in
+        (r ≡ thisWritten header (length (now (buffer .entry))))
+        × (now (buffer .exit) ≡ stored r (thisBytes 0 header) (now (buffer .entry)))) ⌝ }
+{
+    let causality = Guid {
+        low: causality_low,
+        high: causality_high,
+    };
+    let header = OrpcThis {
+        minor: minor,
+        flags: flags,
+        causality: causality,
+    };
+    header.write(buffer)
+}
+
+// Reads the ORPCTHAT at the front of bytes.
+#[no_mangle]
+pub extern "C" fn rimonakh_that_read(bytes: &[u8]) -> ReadThat
+    ensures { λ r. ⌜ r ≡ readThat (now (bytes .entry)) ⌝ }
+{
+    OrpcThat::read(bytes)
+}
+
+// Writes an ORPCTHAT at the front of buffer.
+#[no_mangle]
+pub extern "C" fn rimonakh_that_write(flags: u32, buffer: &mut [u8]) -> u32
+    ensures { λ r. ⌜
+        (r ≡ thatWritten (length (now (buffer .entry))))
+        × (now (buffer .exit) ≡ stored r (thatBytes (record { flags = flags })) (now (buffer .entry))) ⌝ }
+{
+    let header = OrpcThat { flags: flags };
+    header.write(buffer)
+}
+
+// Of the bytes as a whole binding list.
+#[no_mangle]
+pub extern "C" fn rimonakh_list_answer(bytes: &[u8]) -> u32
+    ensures { λ r. ⌜ r ≡ listAnswer (now (bytes .entry)) ⌝ }
+{
+    bindings::list_answer(bytes)
+}
+
+// Of the binding list at the front of bytes.
+#[no_mangle]
+pub extern "C" fn rimonakh_list_front_answer(bytes: &[u8]) -> u32
+    ensures { λ r. ⌜ r ≡ frontAnswer (now (bytes .entry)) ⌝ }
+{
+    bindings::front_answer(bytes)
+}
+
+// The length of the binding list at the front of bytes.
+#[no_mangle]
+pub extern "C" fn rimonakh_list_front_length(bytes: &[u8]) -> usize
+    ensures { λ r. ⌜ r ≡ cond (eqb (frontAnswer (now (bytes .entry))) 0) (listLength (now (bytes .entry))) 0 ⌝ }
+{
+    bindings::list_length(bytes)
+}
+
+// Where string binding k of a whole list stands.
+#[no_mangle]
+pub extern "C" fn rimonakh_list_string_binding(bytes: &[u8], k: usize) -> Place
+    ensures { λ r. ⌜ r ≡ bindingAt (now (bytes .entry)) Part.Strings k ⌝ }
+{
+    bindings::locate(bytes, Part::Strings, k)
+}
+
+// Where security binding k of a whole list stands.
+#[no_mangle]
+pub extern "C" fn rimonakh_list_security_binding(bytes: &[u8], k: usize) -> Place
+    ensures { λ r. ⌜ r ≡ bindingAt (now (bytes .entry)) Part.Security k ⌝ }
+{
+    bindings::locate(bytes, Part::Security, k)
+}
+
+// Whether the bytes are a reference.
+#[no_mangle]
+pub extern "C" fn rimonakh_reference_answer(bytes: &[u8]) -> u32
+    ensures { λ r. ⌜ r ≡ referenceAnswer (now (bytes .entry)) ⌝ }
+{
+    references::reference_answer(bytes)
+}
+
+// Reads a reference.
+#[no_mangle]
+pub extern "C" fn rimonakh_reference_read(bytes: &[u8]) -> ReadReference
+    ensures { λ r. ⌜ r ≡ readReference (now (bytes .entry)) ⌝ }
+{
+    Reference::read(bytes)
+}
+
+// Where the binding list or the object data of a reference stands.
+#[no_mangle]
+pub extern "C" fn rimonakh_reference_tail(bytes: &[u8]) -> Place
+    ensures { λ r. ⌜ r ≡ tailPlace (now (bytes .entry)) ⌝ }
+{
+    references::tail_place(bytes)
+}
+
+// Where string binding k of a reference stands.
+#[no_mangle]
+pub extern "C" fn rimonakh_reference_string_binding(bytes: &[u8], k: usize) -> Place
+    ensures { λ r. ⌜ r ≡ referenceBinding (now (bytes .entry)) Part.Strings k ⌝ }
+{
+    references::locate(bytes, Part::Strings, k)
+}
+
+// Where security binding k of a reference stands.
+#[no_mangle]
+pub extern "C" fn rimonakh_reference_security_binding(bytes: &[u8], k: usize) -> Place
+    ensures { λ r. ⌜ r ≡ referenceBinding (now (bytes .entry)) Part.Security k ⌝ }
+{
+    references::locate(bytes, Part::Security, k)
+}
+
+// Writes a reference with its list or object data at the front of buffer. Fields that the form does not have are not written.
+#[no_mangle]
+pub extern "C" fn rimonakh_reference_write<'a>(
+    flags: u32,
+    iid_low: u64,
+    iid_high: u64,
+    block_flags: u32,
+    public: u32,
+    oxid: u64,
+    oid: u64,
+    ipid_low: u64,
+    ipid_high: u64,
+    clsid_low: u64,
+    clsid_high: u64,
+    extension: u32,
+    size: u32,
+    tail: &'a [u8],
+    buffer: &'a mut [u8],
+) -> Written
+    ensures { λ r. ⌜
+        (let reference : Reference =
+        record {
+          flags = flags;
+          iid = record { low = «iid_low»; high = «iid_high» };
+          block = record { flags = «block_flags»; public = public; oxid = record { 0 = oxid }; oid = record { 0 = oid }; ipid = record { low = «ipid_low»; high = «ipid_high» } };
+          clsid = record { low = «clsid_low»; high = «clsid_high» };
+          extension = extension;
+          size = size;
+        } in
+        (r ≡ writeReference reference (now (tail .entry)) (length (now (buffer .entry))))
+        × (now (buffer .exit) ≡ stored (r .answer) (referenceBytes reference (now (tail .entry))) (now (buffer .entry)))) ⌝ }
+{
+    let iid = Guid {
+        low: iid_low,
+        high: iid_high,
+    };
+    let ipid = Guid {
+        low: ipid_low,
+        high: ipid_high,
+    };
+    let clsid = Guid {
+        low: clsid_low,
+        high: clsid_high,
+    };
+    let block = Block {
+        flags: block_flags,
+        public: public,
+        oxid: Oxid(oxid),
+        oid: Oid(oid),
+        ipid: ipid,
+    };
+    let reference = Reference {
+        flags: flags,
+        iid: iid,
+        block: block,
+        clsid: clsid,
+        extension: extension,
+        size: size,
+    };
+    reference.write(tail, buffer)
+}

@@ -1,0 +1,254 @@
+// The calls on a table: an array of 8,192 words and a store of 8,192 bytes.
+use kinds::Guid;
+use kinds::Oid;
+use kinds::Oxid;
+use kinds::SetId;
+use resolver::Expired;
+use resolver::Pinged;
+use resolver::Released;
+use resolver::Resolved;
+use resolver::StopPlace;
+use table::LiveCounts;
+use table::MemberCount;
+ghost use Rattle.rules.specs.Calls.{Call, numbered};
+ghost use Rattle.table.specs.View.{memory, Performed};
+ghost use Rattle.table.specs.Replies.{censusReply, membersReply};
+ghost use Rattle.resolver.specs.Replies.{releaseReply, clockReply, pingReply, resolveReply};
+ghost use Rattle.resolver.specs.NextStop.{StopFound};
+
+// Empties the table and sets its clock.
+#[no_mangle]
+pub extern "C" fn rimonakh_reset<'a>(words: &'a mut [u64], store: &'a [u8], time: u64) -> u32
+    ensures { λ r. ⌜
+        Performed (Call.reset time) (memory (now (words .entry)) (now (store .entry))) (numbered r)
+        (memory (now (words .exit)) (now (store .entry))) ⌝ }
+{
+    table::reset(words, store, time)
+}
+
+// The live number of each kind.
+#[no_mangle]
+pub extern "C" fn rimonakh_census<'a>(words: &'a [u64], store: &'a [u8]) -> LiveCounts
+    ensures { λ r. ⌜
+        Performed Call.census (memory (now (words .entry)) (now (store .entry))) (censusReply r)
+        (memory (now (words .entry)) (now (store .entry))) ⌝ }
+{
+    table::census(words, store)
+}
+
+// The number of members of a set.
+#[no_mangle]
+pub extern "C" fn rimonakh_members<'a>(words: &'a [u64], store: &'a [u8], set: u64) -> MemberCount
+    ensures { λ r. ⌜
+        Performed (Call.members set) (memory (now (words .entry)) (now (store .entry))) (membersReply r)
+        (memory (now (words .entry)) (now (store .entry))) ⌝ }
+{
+    table::members(words, store, SetId(set))
+}
+
+// Enters an exporter.
+#[no_mangle]
+pub extern "C" fn rimonakh_enter_exporter<'a>(
+    words: &'a mut [u64],
+    store: &'a mut [u8],
+    oxid: u64,
+    unknown_low: u64,
+    unknown_high: u64,
+    list: &'a [u8],
+) -> u32
+    ensures { λ r. ⌜
+        Performed (Call.enterExporter oxid (record { low = «unknown_low»; high = «unknown_high» }) (now (list .entry)))
+        (memory (now (words .entry)) (now (store .entry))) (numbered r) (memory (now (words .exit)) (now (store .exit))) ⌝ }
+{
+    let unknown = Guid {
+        low: unknown_low,
+        high: unknown_high,
+    };
+    resolver::enter_exporter(words, store, Oxid(oxid), unknown, list)
+}
+
+// Removes an exporter.
+#[no_mangle]
+pub extern "C" fn rimonakh_remove_exporter<'a>(
+    words: &'a mut [u64],
+    store: &'a mut [u8],
+    oxid: u64,
+) -> u32
+    ensures { λ r. ⌜
+        Performed (Call.removeExporter oxid) (memory (now (words .entry)) (now (store .entry)))
+        (numbered r) (memory (now (words .exit)) (now (store .exit))) ⌝ }
+{
+    resolver::remove_exporter(words, store, Oxid(oxid))
+}
+
+// Enters an object with its first interface.
+#[no_mangle]
+pub extern "C" fn rimonakh_enter_object<'a>(
+    words: &'a mut [u64],
+    store: &'a [u8],
+    oid: u64,
+    oxid: u64,
+    ipid_low: u64,
+    ipid_high: u64,
+    iid_low: u64,
+    iid_high: u64,
+    public: u32,
+    no_ping: bool,
+) -> u32
+    ensures { λ r. ⌜
+        Performed
+        (Call.enterObject oid oxid (record { low = «ipid_low»; high = «ipid_high» }) (record { low = «iid_low»; high = «iid_high» }) public «no_ping»)
+        (memory (now (words .entry)) (now (store .entry))) (numbered r) (memory (now (words .exit)) (now (store .entry))) ⌝ }
+{
+    let ipid = Guid {
+        low: ipid_low,
+        high: ipid_high,
+    };
+    let iid = Guid {
+        low: iid_low,
+        high: iid_high,
+    };
+    resolver::enter_object(
+        words,
+        store,
+        Oid(oid),
+        Oxid(oxid),
+        ipid,
+        iid,
+        public,
+        no_ping,
+    )
+}
+
+// Enters an interface of a live object.
+#[no_mangle]
+pub extern "C" fn rimonakh_enter_interface<'a>(
+    words: &'a mut [u64],
+    store: &'a [u8],
+    oid: u64,
+    ipid_low: u64,
+    ipid_high: u64,
+    iid_low: u64,
+    iid_high: u64,
+    public: u32,
+) -> u32
+    ensures { λ r. ⌜
+        Performed (Call.enterInterface oid (record { low = «ipid_low»; high = «ipid_high» }) (record { low = «iid_low»; high = «iid_high» }) public)
+        (memory (now (words .entry)) (now (store .entry))) (numbered r) (memory (now (words .exit)) (now (store .entry))) ⌝ }
+{
+    let ipid = Guid {
+        low: ipid_low,
+        high: ipid_high,
+    };
+    let iid = Guid {
+        low: iid_low,
+        high: iid_high,
+    };
+    resolver::enter_interface(words, store, Oid(oid), ipid, iid, public)
+}
+
+// Adds to the counts of an interface.
+#[no_mangle]
+pub extern "C" fn rimonakh_add<'a>(
+    words: &'a mut [u64],
+    store: &'a [u8],
+    ipid_low: u64,
+    ipid_high: u64,
+    public: u32,
+    private: u32,
+) -> u32
+    ensures { λ r. ⌜
+        Performed (Call.add (record { low = «ipid_low»; high = «ipid_high» }) public private) (memory (now (words .entry)) (now (store .entry)))
+        (numbered r) (memory (now (words .exit)) (now (store .entry))) ⌝ }
+{
+    let ipid = Guid {
+        low: ipid_low,
+        high: ipid_high,
+    };
+    resolver::add(words, store, ipid, public, private)
+}
+
+// Gives references of an interface back.
+#[no_mangle]
+pub extern "C" fn rimonakh_release<'a>(
+    words: &'a mut [u64],
+    store: &'a [u8],
+    ipid_low: u64,
+    ipid_high: u64,
+    public: u32,
+    private: u32,
+) -> Released
+    ensures { λ r. ⌜
+        Performed (Call.release (record { low = «ipid_low»; high = «ipid_high» }) public private) (memory (now (words .entry)) (now (store .entry)))
+        (releaseReply r) (memory (now (words .exit)) (now (store .entry))) ⌝ }
+{
+    let ipid = Guid {
+        low: ipid_low,
+        high: ipid_high,
+    };
+    resolver::release(words, store, ipid, public, private)
+}
+
+// Pings a set.
+#[no_mangle]
+pub extern "C" fn rimonakh_simple_ping<'a>(words: &'a mut [u64], store: &'a [u8], set: u64) -> u32
+    ensures { λ r. ⌜
+        Performed (Call.simplePing set) (memory (now (words .entry)) (now (store .entry)))
+        (numbered r) (memory (now (words .exit)) (now (store .entry))) ⌝ }
+{
+    resolver::simple_ping(words, store, SetId(set))
+}
+
+// Adds objects to a set, takes objects out of it and pings it; set 0 makes a set.
+#[no_mangle]
+pub extern "C" fn rimonakh_complex_ping<'a>(
+    words: &'a mut [u64],
+    store: &'a [u8],
+    set: u64,
+    sequence: u16,
+    adds: &'a [u64],
+    deletes: &'a [u64],
+) -> Pinged
+    ensures { λ r. ⌜
+        Performed (Call.complexPing set sequence (now (adds .entry)) (now (deletes .entry)))
+        (memory (now (words .entry)) (now (store .entry))) (pingReply r) (memory (now (words .exit)) (now (store .entry))) ⌝ }
+{
+    resolver::complex_ping(words, store, SetId(set), sequence, adds, deletes)
+}
+
+// Sets the clock.
+#[no_mangle]
+pub extern "C" fn rimonakh_clock<'a>(words: &'a mut [u64], store: &'a [u8], time: u64) -> Expired
+    ensures { λ r. ⌜
+        Performed (Call.clock time) (memory (now (words .entry)) (now (store .entry)))
+        (clockReply r) (memory (now (words .exit)) (now (store .entry))) ⌝ }
+{
+    resolver::clock(words, store, time)
+}
+
+// Writes an exporter's binding list at the front of buffer.
+#[no_mangle]
+pub extern "C" fn rimonakh_resolve<'a>(
+    words: &'a [u64],
+    store: &'a [u8],
+    oxid: u64,
+    buffer: &'a mut [u8],
+) -> Resolved
+    ensures { λ r. ⌜
+        Performed (Call.resolve oxid (now (buffer .entry))) (memory (now (words .entry)) (now (store .entry)))
+        (resolveReply r (now (buffer .exit))) (memory (now (words .entry)) (now (store .entry))) ⌝ }
+{
+    resolver::resolve(words, store, Oxid(oxid), buffer)
+}
+
+// Where to go next with a reference: the list of its exporter in the store, or its own list.
+#[no_mangle]
+pub extern "C" fn rimonakh_next_stop<'a>(
+    words: &'a [u64],
+    store: &'a [u8],
+    reference: &'a [u8],
+) -> StopPlace
+    ensures { λ r. ⌜ StopFound (memory (now (words .entry)) (now (store .entry))) (now (reference .entry)) r ⌝ }
+{
+    resolver::next_stop_place(words, store, reference)
+}
