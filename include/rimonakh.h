@@ -1,0 +1,305 @@
+/*
+ * Rimonakh: a proved DCOM object resolver. Object references (OBJREF), binding lists (DUALSTRINGARRAY), call headers
+ * (ORPCTHIS, ORPCTHAT), and a table of exporters, objects, interfaces and ping sets.
+ *
+ * Buffers. Every buffer is the caller's: the library allocates nothing and keeps no pointer when a call returns. A buffer is
+ * a pointer and its length, in this order; the pointer is not NULL, even where the length is 0, and the buffers of one call
+ * do not overlap. A pointer to const is only read.
+ *
+ * Tables. A table is an array of 8,192 words and a store of 8,192 bytes. Both are lent to every call, and a call that is lent
+ * words and a store that are no sound table answers 1. Between calls the caller may copy, save and restore them. Two calls on
+ * one table do not run at the same time, unless both take it as const.
+ *
+ * GUIDs are two numbers: the little-endian numbers of the first and of the last eight of their sixteen bytes on the wire.
+ *
+ * Answers. Every call ends with an answer number: 0, or one of the refusals below. A refused call answers zero in every other
+ * field and changes no word or byte of what it was lent. No number or byte that is handed in is wrong to hand in.
+ */
+#ifndef RIMONAKH_H
+#define RIMONAKH_H
+
+#include <stdbool.h>
+#include <stddef.h>
+#include <stdint.h>
+
+#ifdef __cplusplus
+extern "C" {
+#endif
+
+enum {
+    RIMONAKH_WORDS = 8192, /* the length of a table's array, in words */
+    RIMONAKH_BYTES = 8192, /* the length of a table's store, in bytes */
+    RIMONAKH_LONGEST_LIST = 512, /* the longest binding list of an exporter, in bytes */
+    RIMONAKH_NO_PING = 0x1000 /* the bit of a block's flags that means no pinging */
+};
+
+/* Answer numbers. */
+enum {
+    RIMONAKH_DONE = 0,
+    RIMONAKH_UNSOUND = 1, /* a lent table has the wrong length or is not sound */
+    RIMONAKH_CLOCK_BACK = 2, /* the new clock is below the table's clock */
+    RIMONAKH_BAD_IDENTIFIER = 3, /* an OXID, OID or IPID to be entered is zero or already live */
+    RIMONAKH_NO_EXPORTER = 4, /* no such live exporter */
+    RIMONAKH_NO_OBJECT = 5, /* no such live object */
+    RIMONAKH_NO_INTERFACE = 6, /* no such live interface */
+    RIMONAKH_NO_REFERENCES = 7, /* an entry with zero references */
+    RIMONAKH_COUNT_OVERFLOW = 8, /* a count would pass 4,294,967,295 */
+    RIMONAKH_NO_PLACE = 9, /* no free place of a kind that is needed */
+    RIMONAKH_TOO_MANY = 10, /* a list of more than 65,535 identifiers */
+    RIMONAKH_NO_SET = 11, /* no such live ping set */
+    RIMONAKH_STALE = 12, /* a stale sequence number */
+    RIMONAKH_SHORT = 13, /* the bytes end before a field does */
+    RIMONAKH_LAYOUT = 14, /* a layout rule is broken */
+    RIMONAKH_NO_ROOM = 15, /* the output buffer is too short */
+    RIMONAKH_VERSION = 16, /* version not understood */
+    RIMONAKH_EXTENSIONS = 17, /* extensions present */
+    RIMONAKH_SETS_USED_UP = 18, /* the set numbers are used up */
+    RIMONAKH_LONG_LIST = 19, /* a binding list of more than 512 bytes */
+    RIMONAKH_NO_BINDING = 24 /* the list has no binding of this number */
+};
+
+/* The flags of a reference, which name its form. */
+enum {
+    RIMONAKH_STANDARD = 1,
+    RIMONAKH_HANDLER = 2,
+    RIMONAKH_CUSTOM = 4
+};
+
+typedef struct {
+    uint64_t low;
+    uint64_t high;
+} rimonakh_guid;
+
+/* The header of a call. Its major version is 5, and it has no extensions. */
+typedef struct {
+    uint16_t minor;
+    uint32_t flags;
+    rimonakh_guid causality;
+} rimonakh_orpc_this;
+
+typedef struct {
+    uint32_t answer;
+    rimonakh_orpc_this header;
+} rimonakh_read_this;
+
+/* The header of a reply, without extensions. */
+typedef struct {
+    uint32_t flags;
+} rimonakh_orpc_that;
+
+typedef struct {
+    uint32_t answer;
+    rimonakh_orpc_that header;
+} rimonakh_read_that;
+
+/* A part of a buffer that was lent: from byte `from` up to and not with byte `to`. */
+typedef struct {
+    uint32_t answer;
+    size_t from;
+    size_t to;
+} rimonakh_place;
+
+/* The standard object block (STDOBJREF). */
+typedef struct {
+    uint32_t flags;
+    uint32_t public_refs;
+    uint64_t oxid;
+    uint64_t oid;
+    rimonakh_guid ipid;
+} rimonakh_block;
+
+/* The fixed fields of a reference. A field that its form does not have is zero. */
+typedef struct {
+    uint32_t flags;
+    rimonakh_guid iid;
+    rimonakh_block block; /* standard and handler */
+    rimonakh_guid clsid; /* handler and custom */
+    uint32_t extension; /* custom: the extension size, kept and not used */
+    uint32_t size; /* custom: the size, kept and not used */
+} rimonakh_reference;
+
+typedef struct {
+    uint32_t answer;
+    rimonakh_reference reference;
+} rimonakh_read_reference;
+
+/* The number of bytes written. */
+typedef struct {
+    uint32_t answer;
+    size_t length;
+} rimonakh_written;
+
+/* Numbers of each kind: of live entries, or of those that went. */
+typedef struct {
+    uint32_t answer;
+    size_t exporters;
+    size_t objects;
+    size_t interfaces;
+    size_t sets;
+} rimonakh_counts;
+
+typedef struct {
+    uint32_t answer;
+    size_t count;
+} rimonakh_member_count;
+
+/* What a release took of each count, and how many interfaces and objects went: 0 or 1 of each. */
+typedef struct {
+    uint32_t answer;
+    uint32_t public_refs;
+    uint32_t private_refs;
+    uint32_t interfaces;
+    uint32_t objects;
+} rimonakh_released;
+
+/* The number of the set that was pinged, and the backoff factor. */
+typedef struct {
+    uint32_t answer;
+    uint64_t set;
+    uint16_t backoff;
+} rimonakh_pinged;
+
+/* The length of the list that was written, and the remote-unknown IPID. */
+typedef struct {
+    uint32_t answer;
+    size_t length;
+    rimonakh_guid unknown;
+} rimonakh_resolved;
+
+/* Where a next stop stands: in the store, or else in the reference; from byte `from` up to and not with byte `to`. */
+typedef struct {
+    uint32_t answer;
+    bool in_store;
+    size_t from;
+    size_t to;
+} rimonakh_stop_place;
+
+/* The code that goes out on the wire for an answer number: an HRESULT or an error code. */
+uint32_t rimonakh_wire_code(uint32_t number);
+
+/* ---- call headers */
+
+/* Reads the ORPCTHIS at the front of bytes; the bytes after its 32 are the call's own. 13; 16; 17. */
+rimonakh_read_this rimonakh_this_read(const uint8_t *bytes, size_t bytes_len);
+
+/* Writes an ORPCTHIS, 32 bytes, at the front of buffer and keeps the rest. Minor version, flags, the two halves of the
+ * causality id; buffer is written. 16; 15. */
+uint32_t rimonakh_this_write(uint16_t minor, uint32_t flags, uint64_t causality_low, uint64_t causality_high,
+                             uint8_t *buffer, size_t buffer_len);
+
+/* Reads the ORPCTHAT at the front of bytes; the bytes after its 8 are the call's own. 13; 17. */
+rimonakh_read_that rimonakh_that_read(const uint8_t *bytes, size_t bytes_len);
+
+/* Writes an ORPCTHAT, 8 bytes, at the front of buffer and keeps the rest. Flags; buffer is written. 15. */
+uint32_t rimonakh_that_write(uint32_t flags, uint8_t *buffer, size_t buffer_len);
+
+/* ---- binding lists */
+
+/* Whether bytes are one whole binding list: 0; 13; 14, also for bytes left over. */
+uint32_t rimonakh_list_answer(const uint8_t *bytes, size_t bytes_len);
+
+/* The same of the list at the front of bytes; the bytes after it are not judged. */
+uint32_t rimonakh_list_front_answer(const uint8_t *bytes, size_t bytes_len);
+
+/* The length in bytes of the list at the front of bytes; 0 where it is refused. */
+size_t rimonakh_list_front_length(const uint8_t *bytes, size_t bytes_len);
+
+/* Where string binding k, from 0, stands in a whole list: its first word through its zero word. The list's refusals; 24. */
+rimonakh_place rimonakh_list_string_binding(const uint8_t *bytes, size_t bytes_len, size_t k);
+
+/* The same of security binding k. */
+rimonakh_place rimonakh_list_security_binding(const uint8_t *bytes, size_t bytes_len, size_t k);
+
+/* ---- references */
+
+/* Whether bytes are a reference: 0; 13; 14. */
+uint32_t rimonakh_reference_answer(const uint8_t *bytes, size_t bytes_len);
+
+/* Reads the fixed fields of a reference. 13; 14. */
+rimonakh_read_reference rimonakh_reference_read(const uint8_t *bytes, size_t bytes_len);
+
+/* Where the binding list of a reference stands in bytes, or the object data of a custom one. 13; 14. */
+rimonakh_place rimonakh_reference_tail(const uint8_t *bytes, size_t bytes_len);
+
+/* Where string binding k, from 0, of a reference stands in bytes. The reference's refusals; 24, also for a custom one. */
+rimonakh_place rimonakh_reference_string_binding(const uint8_t *bytes, size_t bytes_len, size_t k);
+
+/* The same of security binding k. */
+rimonakh_place rimonakh_reference_security_binding(const uint8_t *bytes, size_t bytes_len, size_t k);
+
+/* Writes a reference at the front of buffer, keeps the rest, and answers its length. Flags (the form); IID; the block's flags,
+ * public references, OXID, OID and IPID; CLSID; extension size and size; then tail, which is read: the binding list, or the
+ * object data of a custom reference. Numbers that the form does not have are not written. buffer is written. 14 for the flags;
+ * the list's refusals; 15. */
+rimonakh_written rimonakh_reference_write(uint32_t flags, uint64_t iid_low, uint64_t iid_high, uint32_t block_flags,
+                                          uint32_t public_refs, uint64_t oxid, uint64_t oid, uint64_t ipid_low,
+                                          uint64_t ipid_high, uint64_t clsid_low, uint64_t clsid_high,
+                                          uint32_t extension, uint32_t size, const uint8_t *tail, size_t tail_len,
+                                          uint8_t *buffer, size_t buffer_len);
+
+/* ---- calls on a table: each is lent the array and the store, and answers 1 first */
+
+/* Empties the table and sets its clock, in seconds. It looks at nothing but the lengths, and changes words only. */
+uint32_t rimonakh_reset(uint64_t *words, size_t words_len, const uint8_t *store, size_t store_len, uint64_t time);
+
+/* Enters an exporter: its OXID, its remote-unknown IPID, its binding list, which is copied into the store. 3; 13; 14; 19; 9. */
+uint32_t rimonakh_enter_exporter(uint64_t *words, size_t words_len, uint8_t *store, size_t store_len, uint64_t oxid,
+                                 uint64_t unknown_low, uint64_t unknown_high, const uint8_t *list, size_t list_len);
+
+/* Removes an exporter by its OXID, with its objects, their interfaces and memberships. 4. */
+uint32_t rimonakh_remove_exporter(uint64_t *words, size_t words_len, uint8_t *store, size_t store_len, uint64_t oxid);
+
+/* Enters an object with its first interface: OID, OXID, IPID, IID, public references, whether it is not pinged. 3; 4; 7; 9. */
+uint32_t rimonakh_enter_object(uint64_t *words, size_t words_len, const uint8_t *store, size_t store_len, uint64_t oid,
+                               uint64_t oxid, uint64_t ipid_low, uint64_t ipid_high, uint64_t iid_low,
+                               uint64_t iid_high, uint32_t public_refs, bool no_ping);
+
+/* Enters an interface of a live object: OID, IPID, IID, public references. 3; 5; 7; 9. */
+uint32_t rimonakh_enter_interface(uint64_t *words, size_t words_len, const uint8_t *store, size_t store_len,
+                                  uint64_t oid, uint64_t ipid_low, uint64_t ipid_high, uint64_t iid_low,
+                                  uint64_t iid_high, uint32_t public_refs);
+
+/* Adds references to an interface: IPID, public and private references. 6; 8. */
+uint32_t rimonakh_add(uint64_t *words, size_t words_len, const uint8_t *store, size_t store_len, uint64_t ipid_low,
+                      uint64_t ipid_high, uint32_t public_refs, uint32_t private_refs);
+
+/* Gives references of an interface back: IPID, public and private references. Each count falls by the smaller of the asked
+ * number and itself; an interface at zero and zero goes, and an object without interfaces, from its sets too. 6. */
+rimonakh_released rimonakh_release(uint64_t *words, size_t words_len, const uint8_t *store, size_t store_len,
+                                   uint64_t ipid_low, uint64_t ipid_high, uint32_t public_refs, uint32_t private_refs);
+
+/* Pings a set, by its number: the set and its members are heard. 11. */
+uint32_t rimonakh_simple_ping(uint64_t *words, size_t words_len, const uint8_t *store, size_t store_len, uint64_t set);
+
+/* Adds objects to a set, then takes objects out of it, and pings it: the set's number, or 0 for a new set; a sequence number;
+ * then two lists of OIDs, which are read. Answers the set's number and a backoff factor of 0. 10; of a set other than 0:
+ * 11; 12; 5; of a new set: 5; 9; 18. */
+rimonakh_pinged rimonakh_complex_ping(uint64_t *words, size_t words_len, const uint8_t *store, size_t store_len,
+                                      uint64_t set, uint16_t sequence, const uint64_t *adds, size_t adds_len,
+                                      const uint64_t *deletes, size_t deletes_len);
+
+/* Sets the clock, in seconds. Sets and pinged objects that were not heard for 360 seconds or more go; answers how many. 2. */
+rimonakh_counts rimonakh_clock(uint64_t *words, size_t words_len, const uint8_t *store, size_t store_len,
+                               uint64_t time);
+
+/* Writes the binding list of an exporter, by its OXID, at the front of buffer and keeps the rest. 4; 15. */
+rimonakh_resolved rimonakh_resolve(const uint64_t *words, size_t words_len, const uint8_t *store, size_t store_len,
+                                   uint64_t oxid, uint8_t *buffer, size_t buffer_len);
+
+/* Where to go next with a reference: the binding list of its exporter in the store where its OXID is live, else its own list.
+ * The reference's refusals; 14 for a custom one. */
+rimonakh_stop_place rimonakh_next_stop(const uint64_t *words, size_t words_len, const uint8_t *store, size_t store_len,
+                                       const uint8_t *reference, size_t reference_len);
+
+/* The live number of each kind. */
+rimonakh_counts rimonakh_census(const uint64_t *words, size_t words_len, const uint8_t *store, size_t store_len);
+
+/* The number of members of a ping set, by its number. 11. */
+rimonakh_member_count rimonakh_members(const uint64_t *words, size_t words_len, const uint8_t *store, size_t store_len,
+                                       uint64_t set);
+
+#ifdef __cplusplus
+}
+#endif
+
+#endif
