@@ -1,0 +1,205 @@
+//! Measures the library against plain Rust that keeps the same tables and judges as often: same machine, same input, in turns.
+//! Prints nanoseconds and ratios, library / plain Rust.
+
+use plain::bytes as pb;
+use plain::table as pt;
+use rimonakh::{Block, Guid, Oid, Oxid, Reference, SetId, Table};
+use std::hint::black_box;
+use std::time::Instant;
+
+/// Turns that each side has; the fastest of each counts.
+const TURNS: usize = 60;
+
+/// The nanoseconds of one call, in the fastest turn of each side.
+fn measure(what: &str, calls: u32, mut library: impl FnMut(), mut plain: impl FnMut()) {
+    let mut fastest = [f64::INFINITY; 2];
+    for _ in 0..TURNS {
+        let sides: [&mut dyn FnMut(); 2] = [&mut library, &mut plain];
+        for (side, best) in sides.into_iter().zip(&mut fastest) {
+            let began = Instant::now();
+            for _ in 0..calls {
+                side();
+            }
+            *best = best.min(began.elapsed().as_nanos() as f64 / calls as f64);
+        }
+    }
+    let [library, plain] = fastest;
+    println!(
+        "{what:<44} {library:>10.1} {plain:>10.1} {:>8.2}",
+        library / plain
+    );
+}
+
+/// Has the compiler make a result that is not used.
+fn keep<T>(result: T) {
+    black_box(result);
+}
+
+/// A binding list of N words: one string binding, no security binding.
+fn list(n: u16) -> Vec<u8> {
+    let mut words = vec![n, n - 1, 7];
+    words.resize(n as usize - 1, b'a' as u16);
+    words.extend([0, 0, 0]);
+    words.iter().flat_map(|w| w.to_le_bytes()).collect()
+}
+
+/// An identifier, spread over its bits.
+fn spread(n: u64) -> u64 {
+    (n + 1).wrapping_mul(0x9E37_79B9_7F4A_7C15)
+}
+
+fn ipid(n: u64) -> plain::Guid {
+    plain::Guid {
+        low: spread(n),
+        high: spread(n + 10_000),
+    }
+}
+
+fn guid(g: plain::Guid) -> Guid {
+    Guid((g.low as u128 | (g.high as u128) << 64).to_le_bytes())
+}
+
+/// A table with every place taken and lists of the longest kind. Each set has 20 members.
+fn full_table() -> (Vec<u64>, Vec<u8>) {
+    let mut w = vec![0; pt::WORDS];
+    let mut s = vec![0; pt::BYTES];
+    let iid = plain::Guid { low: 1, high: 2 };
+    pt::reset(&mut w, &s, 1000).unwrap();
+    for x in 0..16 {
+        pt::enter_exporter(&mut w, &mut s, spread(x), ipid(1000 + x), &list(254)).unwrap();
+    }
+    for o in 0..128 {
+        pt::enter_object(
+            &mut w,
+            &s,
+            spread(o),
+            spread(o % 16),
+            ipid(o),
+            iid,
+            5,
+            false,
+        )
+        .unwrap();
+    }
+    for i in 128..256 {
+        pt::enter_interface(&mut w, &s, spread(i % 128), ipid(i), iid, 5).unwrap();
+    }
+    for k in 0..32 {
+        let members: Vec<u64> = (0..20).map(|i| spread((5 * k + 3 * i) % 128)).collect();
+        pt::complex_ping(&mut w, &s, 0, 1, &members, &[]).unwrap();
+    }
+    (w, s)
+}
+
+fn references(n: u16, calls: u32) {
+    let list = list(n);
+    let fields = pb::Reference {
+        flags: 1,
+        iid: ipid(1),
+        public: 5,
+        oxid: spread(1),
+        oid: spread(2),
+        ipid: ipid(2),
+        ..pb::Reference::default()
+    };
+    let block = Block {
+        flags: 0,
+        public: 5,
+        oxid: Oxid(spread(1)),
+        oid: Oid(spread(2)),
+        ipid: guid(ipid(2)),
+    };
+    let typed = Reference::standard(guid(ipid(1)), block);
+    let (mut ours, mut theirs) = ([0; 1024], [0; 1024]);
+    let length = typed.write(&list, &mut ours).unwrap();
+    assert_eq!(pb::write_reference(&fields, &list, &mut theirs), Ok(length));
+    assert_eq!(ours, theirs);
+    let bytes = ours[..length].to_vec();
+    assert_eq!(Reference::read(&bytes), Ok(typed));
+    measure(
+        &format!("read a reference of {length} bytes"),
+        calls,
+        || keep(Reference::read(black_box(&bytes))),
+        || keep(pb::read_reference(black_box(&bytes))),
+    );
+    measure(
+        &format!("write a reference of {length} bytes"),
+        calls,
+        || keep(typed.write(black_box(&list), black_box(&mut ours))),
+        || {
+            keep(pb::write_reference(
+                &fields,
+                black_box(&list),
+                black_box(&mut theirs),
+            ))
+        },
+    );
+}
+
+fn tables() {
+    let (words, store) = full_table();
+    let mut table = Table::over(words.clone(), store.clone());
+    let (mut w, s) = (words, store);
+    assert_eq!(table.census().map(|c| c.sets), Ok(32));
+    measure(
+        "judge a full table (census)",
+        200,
+        || keep(black_box(&table).census()),
+        || keep(pt::census(black_box(&w), black_box(&s))),
+    );
+    let i = ipid(200);
+    measure(
+        "add and release on a full table",
+        200,
+        || {
+            keep(table.add(black_box(guid(i)), 2, 1));
+            keep(table.release(black_box(guid(i)), 2, 1));
+        },
+        || {
+            keep(pt::add(&mut w, &s, black_box(i), 2, 1));
+            keep(pt::release(&mut w, &s, black_box(i), 2, 1));
+        },
+    );
+    let members: Vec<u64> = (0..20).map(|i| spread(6 * i)).collect();
+    let oids: Vec<Oid> = members.iter().copied().map(Oid).collect();
+    let (mut ours, mut theirs) = (1, 1);
+    measure(
+        "complex ping, 20 adds and 17 deletes",
+        200,
+        || {
+            ours += 1;
+            keep(table.complex_ping(SetId(7), ours, black_box(&oids), black_box(&oids[3..])));
+        },
+        || {
+            theirs += 1;
+            keep(pt::complex_ping(
+                &mut w,
+                &s,
+                7,
+                theirs,
+                black_box(&members),
+                black_box(&members[3..]),
+            ));
+        },
+    );
+    let x = spread(9);
+    let (mut ours, mut theirs) = ([0; 512], [0; 512]);
+    measure(
+        "resolve on a full table",
+        200,
+        || keep(table.resolve(black_box(Oxid(x)), &mut ours)),
+        || keep(pt::resolve(&w, &s, black_box(x), &mut theirs)),
+    );
+    assert_eq!(table.words(), w);
+    assert_eq!(table.store(), s);
+}
+
+fn main() {
+    println!(
+        "{:<44} {:>10} {:>10} {:>8}",
+        "nanoseconds", "library", "plain", "ratio"
+    );
+    references(20, 20_000);
+    references(254, 4_000);
+    tables();
+}

@@ -1,0 +1,332 @@
+//! References, binding lists and call headers, proper and damaged, compared with the model.
+
+use crate::generate::{damage, list, reference};
+use crate::random::Random;
+use crate::shrink::shrink;
+use crate::tally::Tally;
+use crate::Differs;
+use model::bytes as m;
+use rimonakh::{Block, Error, Guid, Oid, OrpcThat, OrpcThis, Oxid, Part, Reference};
+use std::fmt::Debug;
+use std::panic::catch_unwind;
+
+#[derive(Clone, Copy, Debug)]
+enum Kind {
+    Reference,
+    List,
+    This,
+    That,
+    /// A reference to be written, with the bytes as its list or object data.
+    Written,
+}
+
+/// One input; the seed gives the fields that are not in the bytes.
+struct Case {
+    kind: Kind,
+    bytes: Vec<u8>,
+    seed: u64,
+}
+
+impl Case {
+    fn new(random: &mut Random) -> Case {
+        let kind = random.pick(&[
+            Kind::Reference,
+            Kind::Reference,
+            Kind::Reference,
+            Kind::List,
+            Kind::List,
+            Kind::This,
+            Kind::That,
+            Kind::Written,
+        ]);
+        let mut bytes = match kind {
+            Kind::Reference => {
+                let oxid = random.word();
+                reference(random, oxid)
+            }
+            Kind::List | Kind::Written => list(random),
+            Kind::This => {
+                let mut header = vec![5, 0, random.below(9) as u8, 0];
+                header.extend(random.bytes(24));
+                header.extend([0; 4]);
+                let after = random.below(5);
+                header.extend(random.bytes(after));
+                header
+            }
+            Kind::That => {
+                let mut header = random.bytes(4);
+                header.extend([0; 4]);
+                let after = random.below(5);
+                header.extend(random.bytes(after));
+                header
+            }
+        };
+        match random.below(10) {
+            0..=4 => damage(random, &mut bytes),
+            5 => {
+                let n = random.below(120);
+                bytes = random.bytes(n);
+            }
+            _ => {}
+        }
+        Case {
+            kind,
+            bytes,
+            seed: random.word(),
+        }
+    }
+
+    fn fails(&self, bytes: &[u8]) -> Option<String> {
+        let mut tally = Tally::default();
+        let (kind, seed, bytes) = (self.kind, self.seed, bytes.to_vec());
+        let checked = catch_unwind(move || check(kind, &bytes, seed, &mut tally).err());
+        checked.unwrap_or_else(|_| Some("it panicked".to_string()))
+    }
+}
+
+fn check(kind: Kind, s: &[u8], seed: u64, tally: &mut Tally) -> Result<(), String> {
+    let mut random = Random::new(seed);
+    match kind {
+        Kind::Reference => check_reference(s, &mut random, tally),
+        Kind::List => check_list(s, tally),
+        Kind::This => check_this(s, &mut random, tally),
+        Kind::That => check_that(s, &mut random, tally),
+        Kind::Written => {
+            let fields = m::Reference {
+                flags: random.pick(&[0, 1, 1, 2, 2, 3, 4, 4, 5, 8]),
+                iid: guid(&mut random),
+                block_flags: random.word() as u32,
+                public: random.word() as u32,
+                oxid: random.word(),
+                oid: random.word(),
+                ipid: guid(&mut random),
+                clsid: guid(&mut random),
+                extension: random.word() as u32,
+                size: random.word() as u32,
+            };
+            check_written(&fields, s, &mut random, tally)
+        }
+    }
+}
+
+fn guid(random: &mut Random) -> model::Guid {
+    random.bytes(16).try_into().unwrap()
+}
+
+/// Whether both sides answer the same.
+fn same<T: PartialEq + Debug>(
+    what: &str,
+    answer: Result<T, Error>,
+    demanded: Result<T, u32>,
+    tally: &mut Tally,
+) -> Result<(), String> {
+    let answer = answer.map_err(Error::number);
+    tally.count(*demanded.as_ref().err().unwrap_or(&0));
+    if answer == demanded {
+        Ok(())
+    } else {
+        Err(format!(
+            "{what}: answered {answer:?}, demanded {demanded:?}"
+        ))
+    }
+}
+
+/// Whether both sides write the same into a buffer of a length near `n`, and keep the rest.
+fn same_written<T: PartialEq + Debug>(
+    what: &str,
+    n: usize,
+    random: &mut Random,
+    tally: &mut Tally,
+    write: impl Fn(&mut [u8]) -> Result<T, Error>,
+    demand: impl Fn(&mut [u8]) -> Result<T, u32>,
+) -> Result<(), String> {
+    let room = random.pick(&[0, n.saturating_sub(1), n, n, n + 1, n + 9]);
+    let mut written = random.bytes(room);
+    let mut demanded = written.clone();
+    same(what, write(&mut written), demand(&mut demanded), tally)?;
+    if written == demanded {
+        Ok(())
+    } else {
+        Err(format!("{what}: wrote {written:?}, demanded {demanded:?}"))
+    }
+}
+
+const PARTS: [(Part, m::Part); 2] = [
+    (Part::Strings, m::Part::Strings),
+    (Part::Security, m::Part::Security),
+];
+
+fn check_list(s: &[u8], tally: &mut Tally) -> Result<(), String> {
+    use rimonakh::list;
+    same("list", list::judge(s), m::list(s).map(|_| ()), tally)?;
+    let front = list::front(s).map(<[u8]>::len);
+    same(
+        "list at the front",
+        front,
+        m::front_list(s).map(|l| l.length),
+        tally,
+    )?;
+    for (part, of) in PARTS {
+        for k in [0, 1, 2, usize::MAX] {
+            same(
+                "binding",
+                list::locate(s, part, k),
+                m::list_binding(s, of, k),
+                tally,
+            )?;
+        }
+    }
+    Ok(())
+}
+
+fn check_reference(s: &[u8], random: &mut Random, tally: &mut Tally) -> Result<(), String> {
+    let demanded = m::read_reference(s);
+    let fields = demanded.clone().map(|(fields, _)| fields);
+    same(
+        "reference",
+        Reference::judge(s),
+        demanded.clone().map(|_| ()),
+        tally,
+    )?;
+    same(
+        "reference read",
+        Reference::read(s).map(plain_fields),
+        fields,
+        tally,
+    )?;
+    let tail = demanded.clone().map(|(_, tail)| &s[tail]);
+    same("list or object data", Reference::tail(s), tail, tally)?;
+    for (part, of) in PARTS {
+        for k in [0, 1, 2, usize::MAX] {
+            let place = m::reference_binding(s, of, k);
+            same(
+                "binding of a reference",
+                Reference::locate(s, part, k),
+                place,
+                tally,
+            )?;
+        }
+    }
+    match demanded {
+        Ok((fields, tail)) => check_written(&fields, &s[tail], random, tally),
+        Err(_) => Ok(()),
+    }
+}
+
+fn check_written(
+    fields: &m::Reference,
+    tail: &[u8],
+    random: &mut Random,
+    tally: &mut Tally,
+) -> Result<(), String> {
+    let n = tail.len() + [0, 64, 80, 0, 48][fields.flags.min(4) as usize];
+    let library = typed_fields(fields);
+    let write = |buffer: &mut [u8]| library.write(tail, buffer);
+    let demand = |buffer: &mut [u8]| m::write_reference(fields, tail, buffer);
+    same_written("reference written", n, random, tally, write, demand)
+}
+
+fn plain_fields(r: Reference) -> m::Reference {
+    m::Reference {
+        flags: r.flags,
+        iid: r.iid.0,
+        block_flags: r.block.flags,
+        public: r.block.public,
+        oxid: r.block.oxid.0,
+        oid: r.block.oid.0,
+        ipid: r.block.ipid.0,
+        clsid: r.clsid.0,
+        extension: r.extension,
+        size: r.size,
+    }
+}
+
+fn typed_fields(r: &m::Reference) -> Reference {
+    Reference {
+        flags: r.flags,
+        iid: Guid(r.iid),
+        block: Block {
+            flags: r.block_flags,
+            public: r.public,
+            oxid: Oxid(r.oxid),
+            oid: Oid(r.oid),
+            ipid: Guid(r.ipid),
+        },
+        clsid: Guid(r.clsid),
+        extension: r.extension,
+        size: r.size,
+    }
+}
+
+fn check_this(s: &[u8], random: &mut Random, tally: &mut Tally) -> Result<(), String> {
+    let plain = |h: OrpcThis| m::OrpcThis {
+        minor: h.minor,
+        flags: h.flags,
+        causality: h.causality.0,
+    };
+    same(
+        "ORPCTHIS",
+        OrpcThis::read(s).map(plain),
+        m::read_this(s),
+        tally,
+    )?;
+    let header = m::OrpcThis {
+        minor: random.below(10) as u16,
+        flags: random.word() as u32,
+        causality: guid(random),
+    };
+    let library = OrpcThis {
+        minor: header.minor,
+        flags: header.flags,
+        causality: Guid(header.causality),
+    };
+    let write = |buffer: &mut [u8]| library.write(buffer);
+    let demand = |buffer: &mut [u8]| m::write_this(&header, buffer).map(|_| ());
+    same_written("ORPCTHIS written", 32, random, tally, write, demand)
+}
+
+fn check_that(s: &[u8], random: &mut Random, tally: &mut Tally) -> Result<(), String> {
+    same(
+        "ORPCTHAT",
+        OrpcThat::read(s).map(|h| h.flags),
+        m::read_that(s),
+        tally,
+    )?;
+    let flags = random.word() as u32;
+    let write = |buffer: &mut [u8]| OrpcThat { flags }.write(buffer);
+    let demand = |buffer: &mut [u8]| m::write_that(flags, buffer).map(|_| ());
+    same_written("ORPCTHAT written", 8, random, tally, write, demand)
+}
+
+/// So many inputs. A failure prints the shortest failing input that is found.
+pub fn compare(seed: u64, inputs: u64) -> Result<Tally, Differs> {
+    let mut random = Random::new(seed);
+    let mut tally = Tally::default();
+    for n in 0..inputs {
+        let case = Case::new(&mut random);
+        if let Err(difference) = check(case.kind, &case.bytes, case.seed, &mut tally) {
+            println!("FAILED: the library and the model differ at input {n} of seed {seed}: {difference}");
+            let fewest = shrink(&case.bytes, |fewer| case.fails(fewer).is_some());
+            println!(
+                "the shortest failing input that was found: {:?} {fewest:02x?}, fields of seed {}",
+                case.kind, case.seed
+            );
+            println!("{}", case.fails(&fewest).unwrap_or_default());
+            return Err(Differs);
+        }
+    }
+    Ok(tally)
+}
+
+/// Every answer number has its wire code, and so have numbers that are none.
+pub fn wire_codes() -> Result<(), Differs> {
+    for number in (0..100).chain([u32::MAX, 1 << 31]) {
+        // SAFETY: numbers only.
+        let code = unsafe { rimonakh::ffi::rimonakh_wire_code(number) };
+        if code != model::wire_code(number) {
+            println!("FAILED: the wire code of {number} is {code:#x}");
+            return Err(Differs);
+        }
+    }
+    Ok(())
+}

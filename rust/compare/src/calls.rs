@@ -1,0 +1,214 @@
+//! Runs of calls on one table, compared with the model: every answer, and after every call the live entries.
+
+use crate::decode;
+use crate::generate::Pools;
+use crate::op::{Op, Reply, Side};
+use crate::random::Random;
+use crate::shrink::shrink;
+use crate::subject::Subject;
+use crate::tally::Tally;
+use crate::Differs;
+use model::entries::{Entries, OBJECTS};
+use std::marker::PhantomData;
+use std::panic::{catch_unwind, AssertUnwindSafe};
+
+const LENGTH: usize = 8192;
+
+/// An array and a store, each with one place more than a table has, for lengths that are too large.
+#[derive(Clone, PartialEq)]
+struct Memory {
+    words: Vec<u64>,
+    store: Vec<u8>,
+}
+
+/// Both sides of a run.
+struct Pair<S> {
+    memory: Memory,
+    before: Memory,
+    side: Side,
+    tally: Tally,
+    subject: PhantomData<S>,
+}
+
+impl<S: Subject> Pair<S> {
+    /// Both sides reset, the subject on memory that holds anything.
+    fn new(noise: u64) -> Result<Pair<S>, String> {
+        let mut random = Random::new(noise);
+        let memory = Memory {
+            words: (0..=LENGTH).map(|_| random.word()).collect(),
+            store: random.bytes(LENGTH + 1),
+        };
+        let mut pair = Pair {
+            before: memory.clone(),
+            memory,
+            side: Side {
+                entries: Entries::empty(0),
+                sound: false,
+            },
+            tally: Tally::default(),
+            subject: PhantomData,
+        };
+        pair.step(&Op::Reset(1000))?;
+        Ok(pair)
+    }
+
+    fn words(&self) -> &[u64] {
+        &self.memory.words[..LENGTH]
+    }
+
+    fn store(&self) -> &[u8] {
+        &self.memory.store[..LENGTH]
+    }
+
+    /// Performs a step on both sides; says how they differ.
+    fn step(&mut self, op: &Op) -> Result<(), String> {
+        let (words, store, call) = match op {
+            Op::PokeWord { at, value } => {
+                self.memory.words[*at] = *value;
+                self.side
+                    .decode(&self.memory.words[..LENGTH], &self.memory.store[..LENGTH]);
+                return Ok(());
+            }
+            Op::PokeByte { at, value } => {
+                self.memory.store[*at] = *value;
+                self.side
+                    .decode(&self.memory.words[..LENGTH], &self.memory.store[..LENGTH]);
+                return Ok(());
+            }
+            Op::Lent { words, store, call } => (*words, *store, call.as_ref()),
+            call => (LENGTH, LENGTH, call),
+        };
+        self.before.words.copy_from_slice(&self.memory.words);
+        self.before.store.copy_from_slice(&self.memory.store);
+        let lent_words = &mut self.memory.words[..words];
+        let lent_store = &mut self.memory.store[..store];
+        let answered = catch_unwind(AssertUnwindSafe(|| {
+            S::perform(lent_words, lent_store, call)
+        }));
+        let answer = answered.map_err(|_| "it panicked".to_string())?;
+        let last = self.last_sequence(call);
+        let demanded = self.side.perform(op);
+        self.tally.count(demanded.number);
+        if let Some(event) = self.event(call, &demanded, last) {
+            self.tally.event(event);
+        }
+        if answer != demanded {
+            return Err(format!("answered {answer:?}\n  demanded {demanded:?}"));
+        }
+        if answer.number != 0 && self.memory != self.before {
+            return Err(format!(
+                "refused by {} and changed the memory",
+                answer.number
+            ));
+        }
+        if answer.number == 0 {
+            let left = decode::entries(self.words(), self.store());
+            if !decode::same(&left, &self.side.entries) {
+                return Err(format!("left {left:?}\n  demanded {:?}", self.side.entries));
+            }
+            if !self.side.entries.sound() {
+                return Err("the model is not sound".to_string());
+            }
+        }
+        Ok(())
+    }
+}
+
+impl<S> Pair<S> {
+    /// The sequence number of the set that a complex ping names.
+    fn last_sequence(&self, call: &Op) -> Option<u16> {
+        let Op::ComplexPing { set, .. } = call else {
+            return None;
+        };
+        let mut sets = self.side.entries.sets.iter();
+        sets.find(|s| s.number == *set).map(|s| s.sequence)
+    }
+
+    /// What a call reached besides its answer number.
+    fn event(&self, call: &Op, reply: &Reply, last: Option<u16>) -> Option<&'static str> {
+        let event = match (call, reply.number) {
+            (Op::EnterExporter { .. }, 9) => "exporters full",
+            (Op::EnterObject { .. }, 9) => "objects or interfaces full at an object",
+            (Op::EnterInterface { .. }, 9) => "interfaces full",
+            (Op::ComplexPing { .. }, 9) => "sets full",
+            (Op::Clock(_), 0) if reply.values[1] != 0 => "objects expired",
+            (Op::Clock(_), 0) if reply.values[3] != 0 => "sets expired",
+            (Op::Release { .. }, 0) if reply.values[3] != 0 => "objects released",
+            (Op::RemoveExporter(_), 0) => "exporters removed",
+            (Op::ComplexPing { sequence, .. }, 0) if last.is_some_and(|n| *sequence < n) => {
+                "sequence numbers wrapped"
+            }
+            (Op::Members(_), 0) if self.side.entries.objects.len() == OBJECTS => {
+                "members of a full table"
+            }
+            (Op::NextStop(_), 0) if reply.values[0] != 0 => "next stops in the store",
+            (Op::NextStop(_), 0) => "next stops in the reference",
+            (Op::Census, 1) if !self.side.sound => "tables unsound",
+            _ => return None,
+        };
+        Some(event)
+    }
+}
+
+/// Performs the steps from a reset; how the sides differ, if they do.
+fn replay<S: Subject>(noise: u64, steps: &[Op]) -> Option<String> {
+    let mut pair = match Pair::<S>::new(noise) {
+        Ok(pair) => pair,
+        Err(difference) => return Some(difference),
+    };
+    steps.iter().find_map(|op| pair.step(op).err())
+}
+
+/// One random run of so many steps. A failure prints the shortest failing run that is found.
+fn run<S: Subject>(seed: u64, length: usize, pokes: bool) -> Result<Tally, Differs> {
+    let mut random = Random::new(seed);
+    let pools = Pools::new(&mut random, pokes);
+    let mut steps: Vec<Op> = Vec::new();
+    let mut pair = match Pair::<S>::new(seed) {
+        Ok(pair) => pair,
+        Err(difference) => return Err(report::<S>(seed, &steps, &difference)),
+    };
+    while steps.len() < length {
+        let mut next = pools.steps(&mut random, &pair.side.entries, pair.words(), pair.store());
+        if !pair.side.sound && random.once_in(3) {
+            next = vec![Op::Reset(1000)];
+        }
+        for op in next {
+            let done = pair.step(&op);
+            steps.push(op);
+            if let Err(difference) = done {
+                return Err(report::<S>(seed, &steps, &difference));
+            }
+        }
+    }
+    Ok(pair.tally)
+}
+
+fn report<S: Subject>(seed: u64, steps: &[Op], difference: &str) -> Differs {
+    println!(
+        "FAILED: {} and the model differ in the run of seed {seed}, at step {}",
+        S::NAME,
+        steps.len()
+    );
+    let fewest = shrink(steps, |fewer| replay::<S>(seed, fewer).is_some());
+    println!("the shortest failing run that was found, after a reset at time 1000:");
+    for op in &fewest {
+        println!("  {op:?}");
+    }
+    println!(
+        "{}",
+        replay::<S>(seed, &fewest).as_deref().unwrap_or(difference)
+    );
+    Differs
+}
+
+/// Random runs until so many answers are compared.
+pub fn compare<S: Subject>(seed: u64, answers: u64, pokes: bool) -> Result<Tally, Differs> {
+    let mut seeds = Random::new(seed);
+    let mut tally = Tally::default();
+    while tally.total() < answers {
+        let length = seeds.pick(&[200, 1000, 4000]);
+        tally.join(&run::<S>(seeds.word(), length, pokes)?);
+    }
+    Ok(tally)
+}

@@ -1,0 +1,448 @@
+//! Random lists, references and calls.
+
+use crate::op::Op;
+use crate::random::Random;
+use model::entries::{Entries, EXPORTERS, INTERFACES, OBJECTS, SETS};
+use model::Guid;
+
+// ---- bytes
+
+/// A binding list that keeps the rules.
+fn proper_list(random: &mut Random) -> Vec<u8> {
+    let mut strings: Vec<u16> = Vec::new();
+    let mut security: Vec<u16> = Vec::new();
+    for _ in 0..random.below(4) {
+        strings.push(random.pick(&[7, 8, 0x1F, 0xFFFF]));
+        text(random, &mut strings);
+    }
+    for _ in 0..random.below(3) {
+        security.push(random.pick(&[9, 10, 16, 0x8000]));
+        security.push(random.pick(&[0xFFFF, 0, 1]));
+        text(random, &mut security);
+    }
+    if random.once_in(8) {
+        // as long as an exporter's list may be, or a word longer
+        let length = 252 + random.below(2);
+        strings.push(7);
+        while strings.len() + security.len() + 1 < length {
+            strings.push(b'a' as u16);
+        }
+        strings.push(0);
+    }
+    strings.push(0);
+    security.push(0);
+    list_bytes(&strings, &security)
+}
+
+fn text(random: &mut Random, words: &mut Vec<u16>) {
+    for _ in 0..random.pick(&[0, 0, 1, 5, 12]) {
+        words.push(1 + random.below(0xFFFF) as u16);
+    }
+    words.push(0);
+}
+
+fn list_bytes(strings: &[u16], security: &[u16]) -> Vec<u8> {
+    let n = (strings.len() + security.len()) as u16;
+    let head = [n, strings.len() as u16];
+    let words = head.iter().chain(strings).chain(security);
+    words.flat_map(|w| w.to_le_bytes()).collect()
+}
+
+/// A list, which now and then breaks a rule.
+pub fn list(random: &mut Random) -> Vec<u8> {
+    let mut list = proper_list(random);
+    if random.once_in(6) {
+        damage(random, &mut list);
+    }
+    list
+}
+
+/// Changes, cuts off, puts in or takes out a few bytes.
+pub fn damage(random: &mut Random, bytes: &mut Vec<u8>) {
+    for _ in 0..1 + random.below(2) {
+        let n = bytes.len();
+        match random.below(7) {
+            0 => bytes.truncate(random.below(n + 1)),
+            1 => bytes.truncate(n.saturating_sub(1 + random.below(3))),
+            2 => {
+                let more = 1 + random.below(3);
+                bytes.extend(random.bytes(more));
+            }
+            3 if n > 0 => bytes[random.below(n)] = random.pick(&[0, 1, 2, 4, 0xFF]),
+            4 if n > 0 => bytes[random.below(n)] ^= 1 << random.below(8),
+            5 if n > 0 => bytes[random.below(n.min(100))] = random.word() as u8,
+            _ if n > 1 => {
+                // a whole word becomes zero or anything
+                let at = random.below(n / 2) * 2;
+                let word = random.pick(&[0, 0, 1, 0xFFFF]) as u16;
+                bytes[at..at + 2].copy_from_slice(&word.to_le_bytes());
+            }
+            _ => {}
+        }
+    }
+}
+
+/// A reference to an object of an exporter, which keeps the rules.
+pub fn reference(random: &mut Random, oxid: u64) -> Vec<u8> {
+    let flags = random.pick(&[1u32, 1, 2, 4]);
+    let mut bytes = b"MEOW".to_vec();
+    bytes.extend(flags.to_le_bytes());
+    bytes.extend(random.bytes(16));
+    if flags == 4 {
+        bytes.extend(random.bytes(24));
+        let data = random.below(40);
+        bytes.extend(random.bytes(data));
+        return bytes;
+    }
+    bytes.extend(random.pick(&[0u32, 0x1000, 0x280]).to_le_bytes());
+    bytes.extend((random.below(6) as u32).to_le_bytes());
+    bytes.extend(oxid.to_le_bytes());
+    bytes.extend(random.bytes(if flags == 2 { 40 } else { 24 }));
+    bytes.extend(proper_list(random));
+    bytes
+}
+
+// ---- calls
+
+/// Which identifiers a run uses, and how often it makes which call.
+pub struct Pools {
+    exporters: usize,
+    objects: usize,
+    ipids: usize,
+    /// How the number of an identifier becomes its bits.
+    style: usize,
+    /// How seldom time passes and what is there goes.
+    calm: usize,
+    /// Whether words and bytes are changed behind the calls.
+    pokes: bool,
+}
+
+impl Pools {
+    pub fn new(random: &mut Random, pokes: bool) -> Pools {
+        let (exporters, objects, ipids, calm) = random.pick(&[
+            (2, 4, 6, 1),
+            (5, 12, 30, 2),
+            (18, 60, 120, 6),
+            (17, 150, 320, 60),
+        ]);
+        Pools {
+            exporters,
+            objects,
+            ipids,
+            style: random.below(3),
+            calm,
+            pokes,
+        }
+    }
+
+    fn number(&self, random: &mut Random, among: usize) -> u64 {
+        if random.once_in(60) {
+            return 0;
+        }
+        let i = 1 + random.below(among) as u64;
+        match self.style {
+            0 => i,
+            1 => i << 40,
+            _ => u64::MAX - i,
+        }
+    }
+
+    fn oxid(&self, random: &mut Random) -> u64 {
+        self.number(random, self.exporters)
+    }
+
+    fn oid(&self, random: &mut Random) -> u64 {
+        self.number(random, self.objects)
+    }
+
+    /// GUIDs that differ in either half, or in both.
+    fn guid(&self, random: &mut Random) -> Guid {
+        if random.once_in(60) {
+            return [0; 16];
+        }
+        let i = 1 + random.below(self.ipids) as u128;
+        let number = match self.style {
+            0 => i,
+            1 => i << 64,
+            _ => (i % 5) | (i / 5 + 1) << 90,
+        };
+        number.to_le_bytes()
+    }
+
+    fn oids(&self, random: &mut Random, live: &[u64]) -> Vec<u64> {
+        if random.once_in(4000) {
+            let id = self.oid(random);
+            return vec![live.first().copied().unwrap_or(id); random.pick(&[65_535, 65_536])];
+        }
+        let n = random.pick(&[0, 1, 1, 2, 3, 5]);
+        (0..n)
+            .map(|_| {
+                if live.is_empty() || random.once_in(25) {
+                    self.oid(random)
+                } else {
+                    random.pick(live)
+                }
+            })
+            .collect()
+    }
+
+    fn set(&self, random: &mut Random, e: &Entries) -> u64 {
+        if e.sets.is_empty() || random.once_in(8) {
+            return random.pick(&[0, 1, e.next_set, e.next_set.wrapping_sub(1), u64::MAX]);
+        }
+        e.sets[random.below(e.sets.len())].number
+    }
+
+    /// A call on a table with these entries.
+    pub fn call(&self, random: &mut Random, e: &Entries) -> Op {
+        if random.once_in(80) {
+            let call = Box::new(self.plain_call(random, e));
+            let (words, store) = random.pick(&[
+                (0, 8192),
+                (1, 8192),
+                (8191, 8192),
+                (8193, 8192),
+                (8192, 0),
+                (8192, 8191),
+                (8192, 8193),
+                (0, 0),
+            ]);
+            return Op::Lent { words, store, call };
+        }
+        self.plain_call(random, e)
+    }
+
+    /// In a run over many identifiers: what is not full yet is filled, a step at a time.
+    fn filling_call(&self, random: &mut Random, e: &Entries) -> Option<Op> {
+        if self.calm < 60 || random.once_in(3) {
+            return None;
+        }
+        let free = |random: &mut Random, draw: &dyn Fn(&mut Random) -> u64, live: &[u64]| {
+            (0..20).map(|_| draw(random)).find(|id| !live.contains(id))
+        };
+        let free_ipid = |random: &mut Random| {
+            let taken = |g: &Guid| e.interfaces.iter().any(|i| i.ipid == *g);
+            (0..20).map(|_| self.guid(random)).find(|g| !taken(g))
+        };
+        let oxids: Vec<u64> = e.exporters.iter().map(|x| x.oxid).collect();
+        let oids: Vec<u64> = e.objects.iter().map(|o| o.oid).collect();
+        if oxids.len() < EXPORTERS {
+            return Some(Op::EnterExporter {
+                oxid: free(random, &|r| self.oxid(r), &oxids)?,
+                unknown: free_ipid(random)?,
+                list: list(random),
+            });
+        }
+        if oids.len() < OBJECTS {
+            return Some(Op::EnterObject {
+                oid: free(random, &|r| self.oid(r), &oids)?,
+                oxid: random.pick(&oxids),
+                ipid: free_ipid(random)?,
+                iid: self.guid(random),
+                public: 1 + random.below(3) as u32,
+                no_ping: random.once_in(3),
+            });
+        }
+        if e.interfaces.len() < INTERFACES {
+            return Some(Op::EnterInterface {
+                oid: random.pick(&oids),
+                ipid: free_ipid(random)?,
+                iid: self.guid(random),
+                public: 1 + random.below(3) as u32,
+            });
+        }
+        (e.sets.len() < SETS).then(|| Op::ComplexPing {
+            set: 0,
+            sequence: random.word() as u16,
+            adds: (0..20).map(|_| random.pick(&oids)).collect(),
+            deletes: vec![],
+        })
+    }
+
+    fn plain_call(&self, random: &mut Random, e: &Entries) -> Op {
+        if let Some(op) = self.filling_call(random, e) {
+            return op;
+        }
+        let counts = [0, 1, 1, 2, 2, 3, 5, u32::MAX, u32::MAX - 1, 1 << 31];
+        match random.below(100) {
+            0..=9 => Op::EnterExporter {
+                oxid: self.oxid(random),
+                unknown: self.guid(random),
+                list: list(random),
+            },
+            10 if random.once_in(self.calm) => Op::RemoveExporter(self.oxid(random)),
+            10..=27 => Op::EnterObject {
+                oid: self.oid(random),
+                oxid: self.oxid(random),
+                ipid: self.guid(random),
+                iid: self.guid(random),
+                public: random.pick(&counts),
+                no_ping: random.once_in(3),
+            },
+            28..=39 => Op::EnterInterface {
+                oid: self.oid(random),
+                ipid: self.guid(random),
+                iid: self.guid(random),
+                public: random.pick(&counts),
+            },
+            40..=47 => Op::Add {
+                ipid: self.guid(random),
+                public: random.pick(&counts),
+                private: random.pick(&counts),
+            },
+            48..=57 if random.once_in(1 + self.calm / 4) => Op::Release {
+                ipid: self.guid(random),
+                public: random.pick(&counts),
+                private: random.pick(&counts),
+            },
+            48..=60 => Op::SimplePing(self.set(random, e)),
+            61..=77 => {
+                let set = if random.once_in(4) {
+                    0
+                } else {
+                    self.set(random, e)
+                };
+                let last = e.sets.iter().find(|s| s.number == set);
+                let last = last.map_or(0, |s| s.sequence);
+                let step = random.pick(&[1, 1, 1, 1, 2, 0, 32_767, 32_768, 65_535, 40_000]);
+                let live: Vec<u64> = e.objects.iter().map(|o| o.oid).collect();
+                Op::ComplexPing {
+                    set,
+                    sequence: last.wrapping_add(step),
+                    adds: self.oids(random, &live),
+                    deletes: self.oids(random, &live),
+                }
+            }
+            78..=85 => Op::Clock(self.time(random, e.clock)),
+            86..=89 => {
+                let oxid = self.oxid(random);
+                let listed = e.exporters.iter().find(|x| x.oxid == oxid);
+                let length = listed.map_or(8, |x| x.list.len());
+                let room = random.pick(&[0, length - 1, length, length + 1, 600]);
+                Op::Resolve { oxid, room }
+            }
+            90..=92 => Op::Census,
+            93..=94 => Op::Members(self.set(random, e)),
+            95..=98 => {
+                let oxid = self.oxid(random);
+                let mut bytes = reference(random, oxid);
+                if random.once_in(5) {
+                    damage(random, &mut bytes);
+                }
+                Op::NextStop(bytes)
+            }
+            _ if random.once_in(10 * self.calm) => {
+                Op::Reset(random.pick(&[0, 1000, u64::MAX - 2000, e.clock / 2]))
+            }
+            _ => Op::Census,
+        }
+    }
+
+    fn time(&self, random: &mut Random, clock: u64) -> u64 {
+        if random.once_in(12) {
+            return clock.saturating_sub(1 + random.below(400) as u64);
+        }
+        let steps = [0, 1, 5, 30, 90, 119, 120, 121, 200, 359, 360, 361];
+        let step = if random.once_in(self.calm) {
+            random.pick(&steps)
+        } else {
+            random.pick(&steps[..3])
+        };
+        clock.saturating_add(step)
+    }
+
+    /// The next steps of a run: a call; or words and bytes changed behind it, some calls, and the changes undone.
+    pub fn steps(&self, random: &mut Random, e: &Entries, words: &[u64], store: &[u8]) -> Vec<Op> {
+        if random.once_in(4000) && e.sets.iter().all(|s| s.number < u64::MAX - 3) {
+            let value = u64::MAX - random.below(4) as u64;
+            return vec![Op::PokeWord { at: 1, value }];
+        }
+        if !self.pokes || !random.once_in(3) {
+            return vec![self.call(random, e)];
+        }
+        let mut steps: Vec<Op> = Vec::new();
+        let mut undo: Vec<Op> = Vec::new();
+        for _ in 0..random.pick(&[1, 1, 1, 2, 3]) {
+            let poke = self.poke(random, e, words, store);
+            match poke {
+                Op::PokeWord { at, .. } => undo.push(Op::PokeWord {
+                    at,
+                    value: words[at],
+                }),
+                Op::PokeByte { at, .. } => undo.push(Op::PokeByte {
+                    at,
+                    value: store[at],
+                }),
+                _ => {}
+            }
+            steps.push(poke);
+        }
+        for _ in 0..random.pick(&[1, 1, 2]) {
+            // of the calls, mostly those that look and change nothing, so that undoing gives the table before
+            let op = match random.below(4) {
+                0 => self.plain_call(random, e),
+                1 => Op::Clock(e.clock),
+                2 => Op::Members(self.set(random, e)),
+                _ => Op::Census,
+            };
+            steps.push(op);
+        }
+        undo.reverse();
+        steps.extend(undo);
+        steps
+    }
+
+    fn poke(&self, random: &mut Random, e: &Entries, words: &[u64], store: &[u8]) -> Op {
+        if random.once_in(8) {
+            let slot = random.below(e.exporters.len().max(1));
+            let within = 4 + random.below(64);
+            let at = 512 * slot + random.pick(&[0, 1, 2, 3, within, within]);
+            let value = random.pick(&[0, 1, store[at] ^ 1, store[at].wrapping_add(1), 0xFF]);
+            return Op::PokeByte { at, value };
+        }
+        // the first word of each column, and its live rows
+        let columns: [(usize, usize); 20] = [
+            (0, 1),
+            (1, 1),
+            (2, 4),
+            (16, e.exporters.len()),
+            (32, e.exporters.len()),
+            (48, e.exporters.len()),
+            (64, e.sets.len()),
+            (96, e.sets.len()),
+            (128, e.sets.len()),
+            (160, e.sets.len()),
+            (192, e.sets.len()),
+            (256, e.objects.len()),
+            (384, e.objects.len()),
+            (512, e.objects.len()),
+            (640, e.objects.len()),
+            (768, e.interfaces.len()),
+            (1024, e.interfaces.len()),
+            (1792, e.interfaces.len()),
+            (2048, e.interfaces.len()),
+            (2304, e.interfaces.len()),
+        ];
+        let (first, rows) = random.pick(&columns);
+        let at = first + random.below(rows.max(1));
+        let beside = words[first + random.below(rows.max(1))];
+        let flipped = words[at] ^ 1 << random.below(64);
+        let small = random.below(300) as u64;
+        let value = random.pick(&[
+            0,
+            1,
+            flipped,
+            words[at].wrapping_add(1),
+            words[at].wrapping_sub(1),
+            beside,
+            e.clock,
+            e.clock.wrapping_add(1),
+            e.clock.wrapping_sub(359),
+            e.clock.wrapping_sub(360),
+            1 << 32,
+            small,
+            u64::MAX,
+        ]);
+        Op::PokeWord { at, value }
+    }
+}

@@ -1,0 +1,274 @@
+//! References, binding lists and call headers.
+
+use crate::Guid;
+use std::ops::Range;
+
+fn u16_at(s: &[u8], at: usize) -> u16 {
+    u16::from_le_bytes(s[at..at + 2].try_into().unwrap())
+}
+
+fn u32_at(s: &[u8], at: usize) -> u32 {
+    u32::from_le_bytes(s[at..at + 4].try_into().unwrap())
+}
+
+fn u64_at(s: &[u8], at: usize) -> u64 {
+    u64::from_le_bytes(s[at..at + 8].try_into().unwrap())
+}
+
+fn guid_at(s: &[u8], at: usize) -> Guid {
+    s[at..at + 16].try_into().unwrap()
+}
+
+/// Writes `made` at the front of `buffer` and keeps the rest, or refuses with 15.
+fn put(made: &[u8], buffer: &mut [u8]) -> Result<usize, u32> {
+    if buffer.len() < made.len() {
+        return Err(15);
+    }
+    buffer[..made.len()].copy_from_slice(made);
+    Ok(made.len())
+}
+
+// ---- binding lists
+
+#[derive(Clone, Copy, Debug, PartialEq, Eq)]
+pub enum Part {
+    Strings,
+    Security,
+}
+
+/// The bindings of a list, as places among its bytes.
+#[derive(Clone, Debug, PartialEq, Eq)]
+pub struct List {
+    pub length: usize,
+    pub strings: Vec<Range<usize>>,
+    pub security: Vec<Range<usize>>,
+}
+
+/// The bindings of one part, in words: bindings in a row, then one zero word, which is the last. A binding has `head` words
+/// before its text, the first of them not zero; the text goes up to and with a zero word.
+fn part(words: &[u16], head: usize) -> Option<Vec<Range<usize>>> {
+    let mut found = Vec::new();
+    let mut at = 0;
+    while *words.get(at)? != 0 {
+        let mut end = at + head;
+        while *words.get(end)? != 0 {
+            end += 1;
+        }
+        found.push(at..end + 1);
+        at = end + 1;
+    }
+    (at + 1 == words.len()).then_some(found)
+}
+
+/// The list at the front of the bytes.
+pub fn front_list(s: &[u8]) -> Result<List, u32> {
+    if s.len() < 4 {
+        return Err(13);
+    }
+    let n = u16_at(s, 0) as usize;
+    let split = u16_at(s, 2) as usize;
+    let length = 4 + 2 * n;
+    if s.len() < length {
+        return Err(13);
+    }
+    if split > n {
+        return Err(14);
+    }
+    let words: Vec<u16> = (0..n).map(|i| u16_at(s, 4 + 2 * i)).collect();
+    let places = |found: Vec<Range<usize>>, first: usize| {
+        let byte = |word: usize| 4 + 2 * (first + word);
+        found
+            .into_iter()
+            .map(|r| byte(r.start)..byte(r.end))
+            .collect()
+    };
+    let strings = part(&words[..split], 1).ok_or(14u32)?;
+    let security = part(&words[split..], 2).ok_or(14u32)?;
+    Ok(List {
+        length,
+        strings: places(strings, 0),
+        security: places(security, split),
+    })
+}
+
+/// The bytes as one whole list.
+pub fn list(s: &[u8]) -> Result<List, u32> {
+    let found = front_list(s)?;
+    if found.length < s.len() {
+        return Err(14);
+    }
+    Ok(found)
+}
+
+impl List {
+    fn numbered(&self, part: Part, k: usize) -> Result<Range<usize>, u32> {
+        let bindings = match part {
+            Part::Strings => &self.strings,
+            Part::Security => &self.security,
+        };
+        bindings.get(k).cloned().ok_or(24)
+    }
+}
+
+/// Where binding `k` of a part of a whole list stands.
+pub fn list_binding(s: &[u8], part: Part, k: usize) -> Result<Range<usize>, u32> {
+    list(s)?.numbered(part, k)
+}
+
+// ---- references
+
+/// The fields of a reference; those that its form does not have are zero.
+#[derive(Clone, Copy, Debug, Default, PartialEq, Eq)]
+pub struct Reference {
+    pub flags: u32,
+    pub iid: Guid,
+    pub block_flags: u32,
+    pub public: u32,
+    pub oxid: u64,
+    pub oid: u64,
+    pub ipid: Guid,
+    pub clsid: Guid,
+    pub extension: u32,
+    pub size: u32,
+}
+
+/// The size of the fixed fields of the form that flags name.
+fn fixed_size(flags: u32) -> Option<usize> {
+    match flags {
+        1 => Some(24 + 40),
+        2 => Some(24 + 40 + 16),
+        4 => Some(24 + 16 + 4 + 4),
+        _ => None,
+    }
+}
+
+/// Reads a reference: its fields, and where its list or object data stands.
+pub fn read_reference(s: &[u8]) -> Result<(Reference, Range<usize>), u32> {
+    if s.len() < 24 {
+        return Err(13);
+    }
+    if s[..4] != *b"MEOW" {
+        return Err(14);
+    }
+    let flags = u32_at(s, 4);
+    let start = fixed_size(flags).ok_or(14u32)?;
+    if s.len() < start {
+        return Err(13);
+    }
+    if flags != 4 {
+        list(&s[start..])?;
+    }
+    let mut r = Reference {
+        flags,
+        iid: guid_at(s, 8),
+        ..Reference::default()
+    };
+    if flags == 4 {
+        r.clsid = guid_at(s, 24);
+        r.extension = u32_at(s, 40);
+        r.size = u32_at(s, 44);
+    } else {
+        r.block_flags = u32_at(s, 24);
+        r.public = u32_at(s, 28);
+        r.oxid = u64_at(s, 32);
+        r.oid = u64_at(s, 40);
+        r.ipid = guid_at(s, 48);
+    }
+    if flags == 2 {
+        r.clsid = guid_at(s, 64);
+    }
+    Ok((r, start..s.len()))
+}
+
+/// Where binding `k` of a part of a reference's list stands; a custom reference has no list.
+pub fn reference_binding(s: &[u8], part: Part, k: usize) -> Result<Range<usize>, u32> {
+    let (r, tail) = read_reference(s)?;
+    if r.flags == 4 {
+        return Err(24);
+    }
+    let place = list(&s[tail.clone()])?.numbered(part, k)?;
+    Ok(tail.start + place.start..tail.start + place.end)
+}
+
+/// Writes a reference with its list or object data.
+pub fn write_reference(r: &Reference, tail: &[u8], buffer: &mut [u8]) -> Result<usize, u32> {
+    fixed_size(r.flags).ok_or(14u32)?;
+    if r.flags != 4 {
+        list(tail)?;
+    }
+    let mut made = b"MEOW".to_vec();
+    made.extend(r.flags.to_le_bytes());
+    made.extend(r.iid);
+    if r.flags == 4 {
+        made.extend(r.clsid);
+        made.extend(r.extension.to_le_bytes());
+        made.extend(r.size.to_le_bytes());
+    } else {
+        made.extend(r.block_flags.to_le_bytes());
+        made.extend(r.public.to_le_bytes());
+        made.extend(r.oxid.to_le_bytes());
+        made.extend(r.oid.to_le_bytes());
+        made.extend(r.ipid);
+    }
+    if r.flags == 2 {
+        made.extend(r.clsid);
+    }
+    made.extend(tail);
+    put(&made, buffer)
+}
+
+// ---- call headers
+
+#[derive(Clone, Copy, Debug, PartialEq, Eq)]
+pub struct OrpcThis {
+    pub minor: u16,
+    pub flags: u32,
+    pub causality: Guid,
+}
+
+pub fn read_this(s: &[u8]) -> Result<OrpcThis, u32> {
+    if s.len() < 32 {
+        return Err(13);
+    }
+    if u16_at(s, 0) != 5 || u16_at(s, 2) > 7 {
+        return Err(16);
+    }
+    if u32_at(s, 28) != 0 {
+        return Err(17);
+    }
+    Ok(OrpcThis {
+        minor: u16_at(s, 2),
+        flags: u32_at(s, 4),
+        causality: guid_at(s, 12),
+    })
+}
+
+pub fn write_this(h: &OrpcThis, buffer: &mut [u8]) -> Result<usize, u32> {
+    if h.minor > 7 {
+        return Err(16);
+    }
+    let mut made = vec![5, 0];
+    made.extend(h.minor.to_le_bytes());
+    made.extend(h.flags.to_le_bytes());
+    made.extend([0; 4]);
+    made.extend(h.causality);
+    made.extend([0; 4]);
+    put(&made, buffer)
+}
+
+/// The flags of a reply's header.
+pub fn read_that(s: &[u8]) -> Result<u32, u32> {
+    if s.len() < 8 {
+        return Err(13);
+    }
+    if u32_at(s, 4) != 0 {
+        return Err(17);
+    }
+    Ok(u32_at(s, 0))
+}
+
+pub fn write_that(flags: u32, buffer: &mut [u8]) -> Result<usize, u32> {
+    let mut made = flags.to_le_bytes().to_vec();
+    made.extend([0; 4]);
+    put(&made, buffer)
+}

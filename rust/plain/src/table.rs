@@ -1,0 +1,565 @@
+//! The table's calls. The live rows of a kind are its first ones; a removed row is closed up.
+
+use crate::bytes::{judge_list, read_reference, stated_length};
+use crate::Guid;
+use std::ops::Range;
+
+pub const WORDS: usize = 8192;
+pub const BYTES: usize = 8192;
+const SLOT: usize = 512;
+const TIMEOUT: u64 = 360;
+
+const CLOCK: usize = 0;
+const NEXT_SET: usize = 1;
+
+/// Rows of a kind: where their count and their columns stand.
+struct Kind {
+    count: usize,
+    base: usize,
+    places: usize,
+    width: usize,
+}
+
+const EXPORTERS: Kind = Kind {
+    count: 2,
+    base: 16,
+    places: 16,
+    width: 3,
+};
+const OBJECTS: Kind = Kind {
+    count: 3,
+    base: 256,
+    places: 128,
+    width: 4,
+};
+const INTERFACES: Kind = Kind {
+    count: 4,
+    base: 768,
+    places: 256,
+    width: 7,
+};
+const SETS: Kind = Kind {
+    count: 5,
+    base: 64,
+    places: 32,
+    width: 5,
+};
+
+// the first column of exporters, objects and sets: their identifier
+const ID: usize = 0;
+// columns of exporters
+const UNKNOWN_LOW: usize = 1;
+const UNKNOWN_HIGH: usize = 2;
+// columns of objects
+const EXPORTER: usize = 1;
+const NO_PING: usize = 2;
+const HEARD: usize = 3;
+// columns of interfaces
+const IPID_LOW: usize = 0;
+const IPID_HIGH: usize = 1;
+const OBJECT: usize = 4;
+const PUBLIC: usize = 5;
+const PRIVATE: usize = 6;
+// columns of sets
+const SEQUENCE: usize = 1;
+const PINGED: usize = 2;
+const MEMBERS_LOW: usize = 3;
+const MEMBERS_HIGH: usize = 4;
+
+impl Kind {
+    fn live(&self, words: &[u64]) -> usize {
+        (words[self.count] as usize).min(self.places)
+    }
+
+    fn at(&self, column: usize, row: usize) -> usize {
+        self.base + column * self.places + row
+    }
+
+    /// The live words of a column.
+    fn column<'a>(&self, words: &'a [u64], column: usize) -> &'a [u64] {
+        &words[self.at(column, 0)..self.at(column, self.live(words))]
+    }
+
+    /// The live row whose first column is this id.
+    fn find(&self, words: &[u64], id: u64) -> Option<usize> {
+        self.column(words, ID).iter().position(|&x| x == id)
+    }
+
+    fn push(&self, words: &mut [u64], row: &[u64]) {
+        let n = self.live(words);
+        for (column, &x) in row.iter().enumerate() {
+            words[self.at(column, n)] = x;
+        }
+        words[self.count] = n as u64 + 1;
+    }
+
+    fn remove(&self, words: &mut [u64], row: usize) {
+        let n = self.live(words);
+        for column in 0..self.width {
+            let from = self.at(column, row + 1)..self.at(column, n);
+            words.copy_within(from, self.at(column, row));
+        }
+        words[self.count] = n as u64 - 1;
+    }
+}
+
+#[derive(Clone, Copy, Debug, Default, PartialEq, Eq)]
+pub struct Counts {
+    pub exporters: usize,
+    pub objects: usize,
+    pub interfaces: usize,
+    pub sets: usize,
+}
+
+#[derive(Clone, Copy, Debug, PartialEq, Eq)]
+pub struct Released {
+    pub public: u32,
+    pub private: u32,
+    pub interface_went: bool,
+    pub object_went: bool,
+}
+
+/// Where a next stop stands: in the store or in the reference.
+#[derive(Clone, Debug, PartialEq, Eq)]
+pub enum Stop {
+    Store(Range<usize>),
+    Reference(Range<usize>),
+}
+
+// ---- soundness
+
+fn sorted<T: Ord>(ids: impl Iterator<Item = T>) -> Vec<T> {
+    let mut ids: Vec<T> = ids.collect();
+    ids.sort_unstable();
+    ids
+}
+
+/// Whether sorted identifiers are distinct, and none of them is the nil one.
+fn proper<T: Ord + Default>(sorted: &[T]) -> bool {
+    sorted.first() != Some(&T::default()) && sorted.windows(2).all(|w| w[0] != w[1])
+}
+
+fn all_in(ids: &[u64], sorted: &[u64]) -> bool {
+    ids.iter().all(|id| sorted.binary_search(id).is_ok())
+}
+
+fn list_of(store: &[u8], row: usize) -> &[u8] {
+    let slot = &store[SLOT * row..SLOT * (row + 1)];
+    &slot[..stated_length(slot)]
+}
+
+fn members(words: &[u64], set: usize) -> u128 {
+    let low = words[SETS.at(MEMBERS_LOW, set)];
+    let high = words[SETS.at(MEMBERS_HIGH, set)];
+    low as u128 | (high as u128) << 64
+}
+
+fn put_members(words: &mut [u64], set: usize, bits: u128) {
+    words[SETS.at(MEMBERS_LOW, set)] = bits as u64;
+    words[SETS.at(MEMBERS_HIGH, set)] = (bits >> 64) as u64;
+}
+
+pub fn sound(words: &[u64], store: &[u8]) -> bool {
+    if words.len() != WORDS || store.len() != BYTES {
+        return false;
+    }
+    let clock = words[CLOCK];
+    let next = words[NEXT_SET];
+    let ids = |kind: &Kind| sorted(kind.column(words, ID).iter().copied());
+    let guids = |kind: &Kind, low, high| {
+        let halves = kind.column(words, low).iter().zip(kind.column(words, high));
+        halves
+            .map(|(&low, &high)| (low, high))
+            .collect::<Vec<(u64, u64)>>()
+    };
+    let (oxids, oids, numbers) = (ids(&EXPORTERS), ids(&OBJECTS), ids(&SETS));
+    let unknowns = guids(&EXPORTERS, UNKNOWN_LOW, UNKNOWN_HIGH);
+    let ipids = guids(&INTERFACES, IPID_LOW, IPID_HIGH);
+    let owners = INTERFACES.column(words, OBJECT);
+    let publics = INTERFACES.column(words, PUBLIC);
+    let privates = INTERFACES.column(words, PRIVATE);
+    let marks = OBJECTS.column(words, NO_PING);
+    let heard = OBJECTS.column(words, HEARD);
+    let free = u128::MAX.checked_shl(oids.len() as u32).unwrap_or(0);
+    let late = |t: u64| clock - t >= TIMEOUT;
+    next != 0
+        && proper(&oxids)
+        && proper(&oids)
+        && proper(&numbers)
+        && numbers.last().is_none_or(|&n| n < next)
+        && proper(&sorted(unknowns.into_iter().chain(ipids)))
+        && all_in(owners, &oids)
+        && all_in(OBJECTS.column(words, EXPORTER), &oxids)
+        && all_in(&oids, &sorted(owners.iter().copied()))
+        && (0..owners.len()).all(|i| publics[i] as u32 != 0 || privates[i] as u32 != 0)
+        && (0..oids.len()).all(|o| heard[o] <= clock && (marks[o] != 0 || !late(heard[o])))
+        && SETS
+            .column(words, PINGED)
+            .iter()
+            .all(|&t| t <= clock && !late(t))
+        && (0..numbers.len()).all(|s| members(words, s) & free == 0)
+        && (0..oxids.len()).all(|x| judge_list(list_of(store, x)).is_ok())
+}
+
+fn judged(words: &[u64], store: &[u8]) -> Result<(), u32> {
+    if sound(words, store) {
+        Ok(())
+    } else {
+        Err(1)
+    }
+}
+
+// ---- the calls
+
+pub fn reset(words: &mut [u64], store: &[u8], time: u64) -> Result<(), u32> {
+    if words.len() != WORDS || store.len() != BYTES {
+        return Err(1);
+    }
+    words[CLOCK] = time;
+    words[NEXT_SET] = 1;
+    for kind in [EXPORTERS, OBJECTS, INTERFACES, SETS] {
+        words[kind.count] = 0;
+    }
+    Ok(())
+}
+
+fn find_ipid(words: &[u64], ipid: Guid) -> Option<usize> {
+    let lows = INTERFACES.column(words, IPID_LOW);
+    let highs = INTERFACES.column(words, IPID_HIGH);
+    (0..lows.len()).find(|&i| lows[i] == ipid.low && highs[i] == ipid.high)
+}
+
+/// Whether an IPID can't be entered: it is nil, or a remote-unknown or interface IPID already.
+fn ipid_taken(words: &[u64], ipid: Guid) -> bool {
+    let lows = EXPORTERS.column(words, UNKNOWN_LOW);
+    let highs = EXPORTERS.column(words, UNKNOWN_HIGH);
+    ipid == Guid::default()
+        || (0..lows.len()).any(|i| lows[i] == ipid.low && highs[i] == ipid.high)
+        || find_ipid(words, ipid).is_some()
+}
+
+pub fn enter_exporter(
+    words: &mut [u64],
+    store: &mut [u8],
+    oxid: u64,
+    unknown: Guid,
+    list: &[u8],
+) -> Result<(), u32> {
+    judged(words, store)?;
+    if oxid == 0 || EXPORTERS.find(words, oxid).is_some() || ipid_taken(words, unknown) {
+        return Err(3);
+    }
+    judge_list(list)?;
+    if list.len() > SLOT {
+        return Err(19);
+    }
+    let n = EXPORTERS.live(words);
+    if n == EXPORTERS.places {
+        return Err(9);
+    }
+    store[SLOT * n..SLOT * n + list.len()].copy_from_slice(list);
+    EXPORTERS.push(words, &[oxid, unknown.low, unknown.high]);
+    Ok(())
+}
+
+/// Removes the objects that do not stay, with their interfaces and memberships.
+fn remove_objects(words: &mut [u64], stays: impl Fn(&[u64], usize) -> bool) {
+    for row in (0..OBJECTS.live(words)).rev() {
+        if !stays(words, row) {
+            remove_object(words, row);
+        }
+    }
+}
+
+fn remove_object(words: &mut [u64], row: usize) {
+    let oid = words[OBJECTS.at(ID, row)];
+    OBJECTS.remove(words, row);
+    for i in (0..INTERFACES.live(words)).rev() {
+        if words[INTERFACES.at(OBJECT, i)] == oid {
+            INTERFACES.remove(words, i);
+        }
+    }
+    for s in 0..SETS.live(words) {
+        let bits = members(words, s);
+        let below = bits & ((1 << row) - 1);
+        put_members(words, s, below | (bits >> row >> 1) << row);
+    }
+}
+
+pub fn remove_exporter(words: &mut [u64], store: &mut [u8], oxid: u64) -> Result<(), u32> {
+    judged(words, store)?;
+    let row = EXPORTERS.find(words, oxid).ok_or(4u32)?;
+    remove_objects(words, |w, o| w[OBJECTS.at(EXPORTER, o)] != oxid);
+    let end = SLOT * EXPORTERS.live(words);
+    store.copy_within(SLOT * (row + 1)..end, SLOT * row);
+    EXPORTERS.remove(words, row);
+    Ok(())
+}
+
+#[allow(clippy::too_many_arguments)]
+pub fn enter_object(
+    words: &mut [u64],
+    store: &[u8],
+    oid: u64,
+    oxid: u64,
+    ipid: Guid,
+    iid: Guid,
+    public: u32,
+    no_ping: bool,
+) -> Result<(), u32> {
+    judged(words, store)?;
+    if oid == 0 || OBJECTS.find(words, oid).is_some() || ipid_taken(words, ipid) {
+        return Err(3);
+    }
+    if EXPORTERS.find(words, oxid).is_none() {
+        return Err(4);
+    }
+    if public == 0 {
+        return Err(7);
+    }
+    if OBJECTS.live(words) == OBJECTS.places || INTERFACES.live(words) == INTERFACES.places {
+        return Err(9);
+    }
+    let clock = words[CLOCK];
+    OBJECTS.push(words, &[oid, oxid, no_ping as u64, clock]);
+    push_interface(words, oid, ipid, iid, public);
+    Ok(())
+}
+
+fn push_interface(words: &mut [u64], oid: u64, ipid: Guid, iid: Guid, public: u32) {
+    let row = [
+        ipid.low,
+        ipid.high,
+        iid.low,
+        iid.high,
+        oid,
+        public as u64,
+        0,
+    ];
+    INTERFACES.push(words, &row);
+}
+
+pub fn enter_interface(
+    words: &mut [u64],
+    store: &[u8],
+    oid: u64,
+    ipid: Guid,
+    iid: Guid,
+    public: u32,
+) -> Result<(), u32> {
+    judged(words, store)?;
+    if ipid_taken(words, ipid) {
+        return Err(3);
+    }
+    if OBJECTS.find(words, oid).is_none() {
+        return Err(5);
+    }
+    if public == 0 {
+        return Err(7);
+    }
+    if INTERFACES.live(words) == INTERFACES.places {
+        return Err(9);
+    }
+    push_interface(words, oid, ipid, iid, public);
+    Ok(())
+}
+
+pub fn add(
+    words: &mut [u64],
+    store: &[u8],
+    ipid: Guid,
+    public: u32,
+    private: u32,
+) -> Result<(), u32> {
+    judged(words, store)?;
+    let row = find_ipid(words, ipid).ok_or(6u32)?;
+    let (p, q) = (INTERFACES.at(PUBLIC, row), INTERFACES.at(PRIVATE, row));
+    let more_public = (words[p] as u32).checked_add(public).ok_or(8u32)?;
+    let more_private = (words[q] as u32).checked_add(private).ok_or(8u32)?;
+    words[p] = more_public as u64;
+    words[q] = more_private as u64;
+    Ok(())
+}
+
+pub fn release(
+    words: &mut [u64],
+    store: &[u8],
+    ipid: Guid,
+    public: u32,
+    private: u32,
+) -> Result<Released, u32> {
+    judged(words, store)?;
+    let row = find_ipid(words, ipid).ok_or(6u32)?;
+    let (p, q) = (INTERFACES.at(PUBLIC, row), INTERFACES.at(PRIVATE, row));
+    let public = public.min(words[p] as u32);
+    let private = private.min(words[q] as u32);
+    words[p] = (words[p] as u32 - public) as u64;
+    words[q] = (words[q] as u32 - private) as u64;
+    let interface_went = words[p] == 0 && words[q] == 0;
+    let mut object_went = false;
+    if interface_went {
+        let object = words[INTERFACES.at(OBJECT, row)];
+        INTERFACES.remove(words, row);
+        object_went = !INTERFACES.column(words, OBJECT).contains(&object);
+        if object_went {
+            remove_objects(words, |w, o| w[OBJECTS.at(ID, o)] != object);
+        }
+    }
+    Ok(Released {
+        public,
+        private,
+        interface_went,
+        object_went,
+    })
+}
+
+fn ping(words: &mut [u64], set: usize) {
+    let clock = words[CLOCK];
+    words[SETS.at(PINGED, set)] = clock;
+    let bits = members(words, set);
+    for row in 0..OBJECTS.live(words) {
+        if bits >> row & 1 != 0 {
+            words[OBJECTS.at(HEARD, row)] = clock;
+        }
+    }
+}
+
+pub fn simple_ping(words: &mut [u64], store: &[u8], set: u64) -> Result<(), u32> {
+    judged(words, store)?;
+    let row = SETS.find(words, set).ok_or(11u32)?;
+    ping(words, row);
+    Ok(())
+}
+
+pub fn complex_ping(
+    words: &mut [u64],
+    store: &[u8],
+    set: u64,
+    sequence: u16,
+    adds: &[u64],
+    deletes: &[u64],
+) -> Result<u64, u32> {
+    judged(words, store)?;
+    if adds.len() > 65_535 || deletes.len() > 65_535 {
+        return Err(10);
+    }
+    let old = match set {
+        0 => None,
+        _ => Some(SETS.find(words, set).ok_or(11u32)?),
+    };
+    if let Some(row) = old {
+        let step = sequence.wrapping_sub(words[SETS.at(SEQUENCE, row)] as u16);
+        if step == 0 || step > 32_767 {
+            return Err(12);
+        }
+    }
+    let mut added: u128 = 0;
+    for &id in adds {
+        added |= 1 << OBJECTS.find(words, id).ok_or(5u32)?;
+    }
+    let row = match old {
+        Some(row) => row,
+        None => {
+            if SETS.live(words) == SETS.places {
+                return Err(9);
+            }
+            if words[NEXT_SET] == u64::MAX {
+                return Err(18);
+            }
+            let number = words[NEXT_SET];
+            words[NEXT_SET] += 1;
+            SETS.push(words, &[number, 0, 0, 0, 0]);
+            SETS.live(words) - 1
+        }
+    };
+    let mut bits = members(words, row) | added;
+    for &id in deletes {
+        if let Some(o) = OBJECTS.find(words, id) {
+            bits &= !(1 << o);
+        }
+    }
+    put_members(words, row, bits);
+    words[SETS.at(SEQUENCE, row)] = sequence as u64;
+    ping(words, row);
+    Ok(words[SETS.at(ID, row)])
+}
+
+pub fn clock(words: &mut [u64], store: &[u8], time: u64) -> Result<Counts, u32> {
+    judged(words, store)?;
+    if time < words[CLOCK] {
+        return Err(2);
+    }
+    let before = counts(words);
+    words[CLOCK] = time;
+    for row in (0..SETS.live(words)).rev() {
+        if time - words[SETS.at(PINGED, row)] >= TIMEOUT {
+            SETS.remove(words, row);
+        }
+    }
+    remove_objects(words, |w, o| {
+        w[OBJECTS.at(NO_PING, o)] != 0 || time - w[OBJECTS.at(HEARD, o)] < TIMEOUT
+    });
+    let after = counts(words);
+    Ok(Counts {
+        exporters: 0,
+        objects: before.objects - after.objects,
+        interfaces: before.interfaces - after.interfaces,
+        sets: before.sets - after.sets,
+    })
+}
+
+/// Writes an exporter's list; answers its length and the remote-unknown IPID.
+pub fn resolve(
+    words: &[u64],
+    store: &[u8],
+    oxid: u64,
+    buffer: &mut [u8],
+) -> Result<(usize, Guid), u32> {
+    judged(words, store)?;
+    let row = EXPORTERS.find(words, oxid).ok_or(4u32)?;
+    let list = list_of(store, row);
+    if buffer.len() < list.len() {
+        return Err(15);
+    }
+    buffer[..list.len()].copy_from_slice(list);
+    let unknown = Guid {
+        low: words[EXPORTERS.at(UNKNOWN_LOW, row)],
+        high: words[EXPORTERS.at(UNKNOWN_HIGH, row)],
+    };
+    Ok((list.len(), unknown))
+}
+
+fn counts(words: &[u64]) -> Counts {
+    Counts {
+        exporters: EXPORTERS.live(words),
+        objects: OBJECTS.live(words),
+        interfaces: INTERFACES.live(words),
+        sets: SETS.live(words),
+    }
+}
+
+pub fn census(words: &[u64], store: &[u8]) -> Result<Counts, u32> {
+    judged(words, store)?;
+    Ok(counts(words))
+}
+
+pub fn member_count(words: &[u64], store: &[u8], set: u64) -> Result<usize, u32> {
+    judged(words, store)?;
+    let row = SETS.find(words, set).ok_or(11u32)?;
+    Ok(members(words, row).count_ones() as usize)
+}
+
+pub fn next_stop(words: &[u64], store: &[u8], reference: &[u8]) -> Result<Stop, u32> {
+    judged(words, store)?;
+    let (r, tail) = read_reference(reference)?;
+    if r.flags == 4 {
+        return Err(14);
+    }
+    Ok(match EXPORTERS.find(words, r.oxid) {
+        Some(row) => {
+            let from = SLOT * row;
+            Stop::Store(from..from + list_of(store, row).len())
+        }
+        None => Stop::Reference(tail),
+    })
+}

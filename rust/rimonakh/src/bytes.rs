@@ -1,0 +1,256 @@
+//! Call headers, binding lists and object references.
+
+use crate::error::answered;
+use crate::{ffi, Guid, Oid, Oxid, Result};
+use std::ops::Range;
+
+impl ffi::Place {
+    fn range(self) -> Result<Range<usize>> {
+        answered(self.answer, self.from..self.to)
+    }
+}
+
+/// The header of a call, without extensions. Its major version is 5.
+#[repr(C)]
+#[derive(Clone, Copy, Debug, PartialEq, Eq)]
+pub struct OrpcThis {
+    pub minor: u16,
+    pub flags: u32,
+    pub causality: Guid,
+}
+
+impl OrpcThis {
+    pub const SIZE: usize = 32;
+
+    /// Reads the header at the front of `bytes`; those after it are the call's own.
+    pub fn read(bytes: &[u8]) -> Result<OrpcThis> {
+        // SAFETY: pointer and length are of one slice.
+        let r = unsafe { ffi::rimonakh_this_read(bytes.as_ptr(), bytes.len()) };
+        answered(r.answer, r.header)
+    }
+
+    /// Writes the header at the front of `buffer` and keeps the rest.
+    pub fn write(&self, buffer: &mut [u8]) -> Result<()> {
+        let (low, high) = self.causality.halves();
+        let (at, len) = (buffer.as_mut_ptr(), buffer.len());
+        // SAFETY: pointer and length are of one slice.
+        let number =
+            unsafe { ffi::rimonakh_this_write(self.minor, self.flags, low, high, at, len) };
+        answered(number, ())
+    }
+}
+
+/// The header of a reply, without extensions.
+#[repr(C)]
+#[derive(Clone, Copy, Debug, PartialEq, Eq)]
+pub struct OrpcThat {
+    pub flags: u32,
+}
+
+impl OrpcThat {
+    pub const SIZE: usize = 8;
+
+    /// Reads the header at the front of `bytes`; those after it are the call's own.
+    pub fn read(bytes: &[u8]) -> Result<OrpcThat> {
+        // SAFETY: pointer and length are of one slice.
+        let r = unsafe { ffi::rimonakh_that_read(bytes.as_ptr(), bytes.len()) };
+        answered(r.answer, r.header)
+    }
+
+    /// Writes the header at the front of `buffer` and keeps the rest.
+    pub fn write(&self, buffer: &mut [u8]) -> Result<()> {
+        // SAFETY: pointer and length are of one slice.
+        let number =
+            unsafe { ffi::rimonakh_that_write(self.flags, buffer.as_mut_ptr(), buffer.len()) };
+        answered(number, ())
+    }
+}
+
+/// The two parts of a binding list.
+#[derive(Clone, Copy, Debug, PartialEq, Eq)]
+pub enum Part {
+    Strings,
+    Security,
+}
+
+/// Binding lists (DUALSTRINGARRAY).
+pub mod list {
+    use super::{ffi, Part, Range};
+    use crate::error::answered;
+    use crate::Result;
+
+    /// Whether the bytes are one whole list.
+    pub fn judge(bytes: &[u8]) -> Result<()> {
+        // SAFETY: pointer and length are of one slice.
+        let number = unsafe { ffi::rimonakh_list_answer(bytes.as_ptr(), bytes.len()) };
+        answered(number, ())
+    }
+
+    /// The list at the front of the bytes; those after it are not judged.
+    pub fn front(bytes: &[u8]) -> Result<&[u8]> {
+        let (at, len) = (bytes.as_ptr(), bytes.len());
+        // SAFETY: pointer and length are of one slice.
+        let (number, length) = unsafe {
+            (
+                ffi::rimonakh_list_front_answer(at, len),
+                ffi::rimonakh_list_front_length(at, len),
+            )
+        };
+        answered(number, &bytes[..length])
+    }
+
+    /// Where binding `k` of a part of a whole list stands, from its first word through its zero word.
+    pub fn locate(bytes: &[u8], part: Part, k: usize) -> Result<Range<usize>> {
+        let (at, len) = (bytes.as_ptr(), bytes.len());
+        // SAFETY: pointer and length are of one slice.
+        let place = unsafe {
+            match part {
+                Part::Strings => ffi::rimonakh_list_string_binding(at, len, k),
+                Part::Security => ffi::rimonakh_list_security_binding(at, len, k),
+            }
+        };
+        place.range()
+    }
+
+    /// Binding `k` of a part of a whole list.
+    pub fn binding(bytes: &[u8], part: Part, k: usize) -> Result<&[u8]> {
+        Ok(&bytes[locate(bytes, part, k)?])
+    }
+}
+
+/// The standard object block (STDOBJREF).
+#[repr(C)]
+#[derive(Clone, Copy, Debug, Default, PartialEq, Eq)]
+pub struct Block {
+    pub flags: u32,
+    pub public: u32,
+    pub oxid: Oxid,
+    pub oid: Oid,
+    pub ipid: Guid,
+}
+
+impl Block {
+    /// The bit of the flags that means no pinging.
+    pub const NO_PING: u32 = 0x1000;
+
+    pub fn no_ping(&self) -> bool {
+        self.flags & Block::NO_PING != 0
+    }
+}
+
+/// The fixed fields of an object reference (OBJREF). A field that its form does not have is zero when read, and not written.
+#[repr(C)]
+#[derive(Clone, Copy, Debug, Default, PartialEq, Eq)]
+pub struct Reference {
+    pub flags: u32,
+    pub iid: Guid,
+    pub block: Block,
+    pub clsid: Guid,
+    pub extension: u32,
+    pub size: u32,
+}
+
+impl Reference {
+    pub const STANDARD: u32 = 1;
+    pub const HANDLER: u32 = 2;
+    pub const CUSTOM: u32 = 4;
+
+    pub fn standard(iid: Guid, block: Block) -> Reference {
+        Reference {
+            flags: Reference::STANDARD,
+            iid,
+            block,
+            ..Reference::default()
+        }
+    }
+
+    pub fn handler(iid: Guid, block: Block, clsid: Guid) -> Reference {
+        Reference {
+            flags: Reference::HANDLER,
+            iid,
+            block,
+            clsid,
+            ..Reference::default()
+        }
+    }
+
+    pub fn custom(iid: Guid, clsid: Guid, extension: u32, size: u32) -> Reference {
+        Reference {
+            flags: Reference::CUSTOM,
+            iid,
+            clsid,
+            extension,
+            size,
+            ..Reference::default()
+        }
+    }
+
+    /// Whether the bytes are a reference.
+    pub fn judge(bytes: &[u8]) -> Result<()> {
+        // SAFETY: pointer and length are of one slice.
+        let number = unsafe { ffi::rimonakh_reference_answer(bytes.as_ptr(), bytes.len()) };
+        answered(number, ())
+    }
+
+    /// Reads the fixed fields of a reference.
+    pub fn read(bytes: &[u8]) -> Result<Reference> {
+        // SAFETY: pointer and length are of one slice.
+        let r = unsafe { ffi::rimonakh_reference_read(bytes.as_ptr(), bytes.len()) };
+        answered(r.answer, r.reference)
+    }
+
+    /// The binding list (of a custom reference the object data) of a reference.
+    pub fn tail(bytes: &[u8]) -> Result<&[u8]> {
+        // SAFETY: pointer and length are of one slice.
+        let place = unsafe { ffi::rimonakh_reference_tail(bytes.as_ptr(), bytes.len()) };
+        Ok(&bytes[place.range()?])
+    }
+
+    /// Where binding `k` of a part of a reference's list stands, from its first word through its zero word.
+    pub fn locate(bytes: &[u8], part: Part, k: usize) -> Result<Range<usize>> {
+        let (at, len) = (bytes.as_ptr(), bytes.len());
+        // SAFETY: pointer and length are of one slice.
+        let place = unsafe {
+            match part {
+                Part::Strings => ffi::rimonakh_reference_string_binding(at, len, k),
+                Part::Security => ffi::rimonakh_reference_security_binding(at, len, k),
+            }
+        };
+        place.range()
+    }
+
+    /// Binding `k` of a part of a reference's list.
+    pub fn binding(bytes: &[u8], part: Part, k: usize) -> Result<&[u8]> {
+        Ok(&bytes[Reference::locate(bytes, part, k)?])
+    }
+
+    /// Writes the reference with its list or object data at the front of `buffer` and keeps the rest. Answers the length.
+    pub fn write(&self, tail: &[u8], buffer: &mut [u8]) -> Result<usize> {
+        let (iid_low, iid_high) = self.iid.halves();
+        let (ipid_low, ipid_high) = self.block.ipid.halves();
+        let (clsid_low, clsid_high) = self.clsid.halves();
+        // SAFETY: each pointer and length are of one slice, and the two slices do not overlap.
+        let r = unsafe {
+            ffi::rimonakh_reference_write(
+                self.flags,
+                iid_low,
+                iid_high,
+                self.block.flags,
+                self.block.public,
+                self.block.oxid.0,
+                self.block.oid.0,
+                ipid_low,
+                ipid_high,
+                clsid_low,
+                clsid_high,
+                self.extension,
+                self.size,
+                tail.as_ptr(),
+                tail.len(),
+                buffer.as_mut_ptr(),
+                buffer.len(),
+            )
+        };
+        answered(r.answer, r.length)
+    }
+}

@@ -1,0 +1,263 @@
+//! The archive's functions, as `include/rimonakh.h` declares them. None has a condition on its numbers; a pointer with its
+//! length is a slice, and the slices of one call do not overlap. Types that are shared with the safe functions have the
+//! layout of the header's.
+
+use crate::{Counts, OrpcThat, OrpcThis, Pinged, Reference, Resolved};
+
+#[repr(C)]
+#[derive(Clone, Copy)]
+pub struct ReadThis {
+    pub answer: u32,
+    pub header: OrpcThis,
+}
+
+#[repr(C)]
+#[derive(Clone, Copy)]
+pub struct ReadThat {
+    pub answer: u32,
+    pub header: OrpcThat,
+}
+
+#[repr(C)]
+#[derive(Clone, Copy)]
+pub struct Place {
+    pub answer: u32,
+    pub from: usize,
+    pub to: usize,
+}
+
+#[repr(C)]
+#[derive(Clone, Copy)]
+pub struct ReadReference {
+    pub answer: u32,
+    pub reference: Reference,
+}
+
+#[repr(C)]
+#[derive(Clone, Copy)]
+pub struct Written {
+    pub answer: u32,
+    pub length: usize,
+}
+
+#[repr(C)]
+#[derive(Clone, Copy)]
+pub struct Counted {
+    pub answer: u32,
+    pub counts: Counts,
+}
+
+#[repr(C)]
+#[derive(Clone, Copy)]
+pub struct MemberCount {
+    pub answer: u32,
+    pub count: usize,
+}
+
+#[repr(C)]
+#[derive(Clone, Copy)]
+pub struct Released {
+    pub answer: u32,
+    pub public: u32,
+    pub private: u32,
+    pub interfaces: u32,
+    pub objects: u32,
+}
+
+#[repr(C)]
+#[derive(Clone, Copy)]
+pub struct PingedSet {
+    pub answer: u32,
+    pub pinged: Pinged,
+}
+
+#[repr(C)]
+#[derive(Clone, Copy)]
+pub struct ResolvedList {
+    pub answer: u32,
+    pub resolved: Resolved,
+}
+
+#[repr(C)]
+#[derive(Clone, Copy)]
+pub struct StopPlace {
+    pub answer: u32,
+    pub in_store: bool,
+    pub from: usize,
+    pub to: usize,
+}
+
+extern "C" {
+    pub fn rimonakh_wire_code(number: u32) -> u32;
+
+    pub fn rimonakh_this_read(bytes: *const u8, len: usize) -> ReadThis;
+    pub fn rimonakh_this_write(
+        minor: u16,
+        flags: u32,
+        causality_low: u64,
+        causality_high: u64,
+        buffer: *mut u8,
+        buffer_len: usize,
+    ) -> u32;
+    pub fn rimonakh_that_read(bytes: *const u8, len: usize) -> ReadThat;
+    pub fn rimonakh_that_write(flags: u32, buffer: *mut u8, buffer_len: usize) -> u32;
+
+    pub fn rimonakh_list_answer(bytes: *const u8, len: usize) -> u32;
+    pub fn rimonakh_list_front_answer(bytes: *const u8, len: usize) -> u32;
+    pub fn rimonakh_list_front_length(bytes: *const u8, len: usize) -> usize;
+    pub fn rimonakh_list_string_binding(bytes: *const u8, len: usize, k: usize) -> Place;
+    pub fn rimonakh_list_security_binding(bytes: *const u8, len: usize, k: usize) -> Place;
+
+    pub fn rimonakh_reference_answer(bytes: *const u8, len: usize) -> u32;
+    pub fn rimonakh_reference_read(bytes: *const u8, len: usize) -> ReadReference;
+    pub fn rimonakh_reference_tail(bytes: *const u8, len: usize) -> Place;
+    pub fn rimonakh_reference_string_binding(bytes: *const u8, len: usize, k: usize) -> Place;
+    pub fn rimonakh_reference_security_binding(bytes: *const u8, len: usize, k: usize) -> Place;
+    pub fn rimonakh_reference_write(
+        flags: u32,
+        iid_low: u64,
+        iid_high: u64,
+        block_flags: u32,
+        public: u32,
+        oxid: u64,
+        oid: u64,
+        ipid_low: u64,
+        ipid_high: u64,
+        clsid_low: u64,
+        clsid_high: u64,
+        extension: u32,
+        size: u32,
+        tail: *const u8,
+        tail_len: usize,
+        buffer: *mut u8,
+        buffer_len: usize,
+    ) -> Written;
+
+    pub fn rimonakh_reset(
+        words: *mut u64,
+        words_len: usize,
+        store: *const u8,
+        store_len: usize,
+        time: u64,
+    ) -> u32;
+    pub fn rimonakh_census(
+        words: *const u64,
+        words_len: usize,
+        store: *const u8,
+        store_len: usize,
+    ) -> Counted;
+    pub fn rimonakh_members(
+        words: *const u64,
+        words_len: usize,
+        store: *const u8,
+        store_len: usize,
+        set: u64,
+    ) -> MemberCount;
+    pub fn rimonakh_enter_exporter(
+        words: *mut u64,
+        words_len: usize,
+        store: *mut u8,
+        store_len: usize,
+        oxid: u64,
+        unknown_low: u64,
+        unknown_high: u64,
+        list: *const u8,
+        list_len: usize,
+    ) -> u32;
+    pub fn rimonakh_remove_exporter(
+        words: *mut u64,
+        words_len: usize,
+        store: *mut u8,
+        store_len: usize,
+        oxid: u64,
+    ) -> u32;
+    pub fn rimonakh_enter_object(
+        words: *mut u64,
+        words_len: usize,
+        store: *const u8,
+        store_len: usize,
+        oid: u64,
+        oxid: u64,
+        ipid_low: u64,
+        ipid_high: u64,
+        iid_low: u64,
+        iid_high: u64,
+        public: u32,
+        no_ping: bool,
+    ) -> u32;
+    pub fn rimonakh_enter_interface(
+        words: *mut u64,
+        words_len: usize,
+        store: *const u8,
+        store_len: usize,
+        oid: u64,
+        ipid_low: u64,
+        ipid_high: u64,
+        iid_low: u64,
+        iid_high: u64,
+        public: u32,
+    ) -> u32;
+    pub fn rimonakh_add(
+        words: *mut u64,
+        words_len: usize,
+        store: *const u8,
+        store_len: usize,
+        ipid_low: u64,
+        ipid_high: u64,
+        public: u32,
+        private: u32,
+    ) -> u32;
+    pub fn rimonakh_release(
+        words: *mut u64,
+        words_len: usize,
+        store: *const u8,
+        store_len: usize,
+        ipid_low: u64,
+        ipid_high: u64,
+        public: u32,
+        private: u32,
+    ) -> Released;
+    pub fn rimonakh_simple_ping(
+        words: *mut u64,
+        words_len: usize,
+        store: *const u8,
+        store_len: usize,
+        set: u64,
+    ) -> u32;
+    pub fn rimonakh_complex_ping(
+        words: *mut u64,
+        words_len: usize,
+        store: *const u8,
+        store_len: usize,
+        set: u64,
+        sequence: u16,
+        adds: *const u64,
+        adds_len: usize,
+        deletes: *const u64,
+        deletes_len: usize,
+    ) -> PingedSet;
+    pub fn rimonakh_clock(
+        words: *mut u64,
+        words_len: usize,
+        store: *const u8,
+        store_len: usize,
+        time: u64,
+    ) -> Counted;
+    pub fn rimonakh_resolve(
+        words: *const u64,
+        words_len: usize,
+        store: *const u8,
+        store_len: usize,
+        oxid: u64,
+        buffer: *mut u8,
+        buffer_len: usize,
+    ) -> ResolvedList;
+    pub fn rimonakh_next_stop(
+        words: *const u64,
+        words_len: usize,
+        store: *const u8,
+        store_len: usize,
+        reference: *const u8,
+        reference_len: usize,
+    ) -> StopPlace;
+}
