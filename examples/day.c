@@ -66,7 +66,7 @@ static void print_address(const uint8_t *list, size_t length) {
 /* The object is entered, and its reference is written. Answers the reference's length. */
 static size_t serve(const uint8_t *list, size_t list_len, uint8_t *reference, size_t room) {
     rimonakh_written written;
-    done("server: enters the group with 5 public references",
+    done("server: enters the tank level group with 5 public references",
          rimonakh_enter_object(TABLE, OID, OXID, IPID.low, IPID.high, IID.low, IID.high, 5, false));
     written = rimonakh_reference_write(RIMONAKH_STANDARD, IID.low, IID.high, 0, 5, OXID, OID, IPID.low, IPID.high, 0, 0,
                                        0, 0, list, list_len, reference, room);

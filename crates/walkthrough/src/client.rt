@@ -27,8 +27,9 @@ fn make_set<'a>(words: &'a mut [u64], store: &'a [u8], oid: Oid) -> SetId {
     let adds = [oid.0];
     let deletes = [0u64; 1];
     let r = resolver::complex_ping(words, store, SetId(0), 1, &adds, &deletes[0..0]);
-    say::step(r.answer, b"client: makes a ping set with the group");
+    say::step(r.answer, b"client: pings with the object in a new set");
     say::counted(b", set ", r.set.0);
+    say::counted(b", backoff ", r.backoff as u64);
     print::end_line();
     r.set
 }
@@ -65,20 +66,12 @@ fn resolve<'a>(words: &'a [u64], store: &'a [u8], oxid: Oxid) {
     let n = r.length;
     say::step(r.answer, b"client: resolves the exporter");
     if r.answer != answer::DONE {
-        ended(r.answer);
+        say::counted(b", code ", kinds::wire_code(r.answer) as u64);
+        print::text(b" on the wire");
     } else if n <= 512 {
         say::counted(b", ", n as u64);
         print::text(b" bytes, ");
         say::address(&list[0..n]);
-        print::end_line();
-    }
-}
-
-// The end of a step: of a refused one, what goes out on the wire.
-fn ended(number: u32) {
-    if number != answer::DONE {
-        say::counted(b", code ", kinds::wire_code(number) as u64);
-        print::text(b" on the wire");
     }
     print::end_line();
 }
@@ -102,15 +95,30 @@ fn give_back<'a>(words: &'a mut [u64], store: &'a [u8]) {
     );
     say::counted(b", took ", r.public as u64);
     say::counted(b" and ", r.private as u64);
-    say::counted(b"; interfaces that went: ", r.interfaces as u64);
-    say::counted(b", objects: ", r.objects as u64);
-    print::end_line();
+    if r.interfaces == 0 {
+        print::text(b", no interface went");
+    } else {
+        print::text(b", the interface went");
+    }
+    if r.objects == 0 {
+        print::text(b", no object went\n");
+    } else {
+        print::text(b", the object went\n");
+    }
 }
 
 fn ping<'a>(words: &'a mut [u64], store: &'a [u8], set: SetId) {
-    let r = resolver::simple_ping(words, store, set);
-    say::step(r, b"client: pings its set");
-    ended(r);
+    say::done(
+        resolver::simple_ping(words, store, set),
+        b"client: pings its set",
+    );
+}
+
+fn count_members<'a>(words: &'a [u64], store: &'a [u8], set: SetId) {
+    let r = table::members(words, store, set);
+    say::step(r.answer, b"client: counts the members of its set");
+    say::counted(b", ", r.count as u64);
+    print::end_line();
 }
 
 // The clock runs from after one period through another, and the client pings or not.
@@ -130,14 +138,15 @@ pub fn stay<'a>(words: &'a mut [u64], store: &'a [u8], reference: &'a [u8]) {
     let set = take_up(words, store, reference);
     wait(words, store, set, 0, 4, true);
     give_back(words, store);
+    count_members(words, store, set);
 }
 
 // Pings no more.
 pub fn fall_silent<'a>(words: &'a mut [u64], store: &'a [u8], reference: &'a [u8]) {
     let set = take_up(words, store, reference);
     wait(words, store, set, 4, 7, false);
-    ping(words, store, set);
     give_back(words, store);
+    ping(words, store, set);
 }
 
 // A reference is read after its exporter left.
