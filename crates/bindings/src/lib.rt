@@ -40,7 +40,7 @@ fn text_words(s: &[u8], at: usize, n: usize) -> usize
 {
     let mut i = 0;
     while i < n {
-        if fields::read_u16(s, at + 2 * i) == 0 {
+        if fields::word(s, at + 2 * i) == 0 {
             return i + 1;
         }
         i += 1;
@@ -78,7 +78,7 @@ fn is_part(s: &[u8], at: usize, n: usize, p: Part) -> bool
     let mut i = at;
     let mut left = n;
     while 0 < left {
-        if fields::read_u16(s, i) == 0 {
+        if fields::word(s, i) == 0 {
             return left == 1;
         }
         let m = binding_words(s, i, left, p);
@@ -162,7 +162,7 @@ fn find(s: &[u8], at: usize, n: usize, p: Part, k: usize) -> Place
     let mut left = n;
     let mut skip = k;
     while 0 < left {
-        if fields::read_u16(s, i) == 0 {
+        if fields::word(s, i) == 0 {
             return Place::refused(answer::NO_BINDING);
         }
         let m = binding_words(s, i, left, p);

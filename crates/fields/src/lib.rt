@@ -43,6 +43,14 @@ fn read(s: &[u8], at: usize, w: usize) -> u64
     }
 }
 
+// A number of two bytes that are there.
+pub fn word(s: &[u8], at: usize) -> u16
+    requires { ⌜ at + 2 ≤ length (now s) ⌝ }
+    ensures { λ r. ⌜ r ≡ field (now (s .entry)) at 2 ⌝ }
+{
+    number(s, at, 2) as u16
+}
+
 pub fn read_u16(s: &[u8], at: usize) -> u16
     ensures { λ r. ⌜ r ≡ field (now (s .entry)) at 2 ⌝ }
 {

@@ -164,11 +164,12 @@ impl Reference {
     {
         let f = fields::read_u32(s, 4);
         let iid = fields::read_guid(s, 8);
+        let block = Block::read(s);
         if f == Reference::STANDARD {
-            return Reference::standard(iid, Block::read(s));
+            return Reference::standard(iid, block);
         }
         if f == Reference::HANDLER {
-            return Reference::handler(iid, Block::read(s), fields::read_guid(s, 64));
+            return Reference::handler(iid, block, fields::read_guid(s, 64));
         }
         if f == Reference::CUSTOM {
             let clsid = fields::read_guid(s, 24);

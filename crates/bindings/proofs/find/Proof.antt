@@ -19,8 +19,8 @@ abbrev μ-loop : tie.MeasureT-loop
 loop-holds : tie.Need-loop-holds Inv-loop μ-loop
 loop-holds c = (c .before .pre, refl)
 
-read-u16-requires : tie.Need-read-u16-requires Inv-loop μ-loop
-read-u16-requires c κs = search needs
+word-requires : tie.Need-word-requires Inv-loop μ-loop
+word-requires c κs = omega arith
 
 refused-requires : tie.Need-refused-requires Inv-loop μ-loop
 refused-requires c κs = search needs
@@ -29,7 +29,7 @@ returns : tie.Need-returns Inv-loop μ-loop
 returns c =
     let a = c .before .before .before .before .before .before .args in
     let l = c .before .before .before .before .loop in
-    let z = sym (c .before .before .read-u16 .ensures) ∙ c .before .if1 .taken in
+    let z = sym (c .before .before .word .ensures) ∙ c .before .if1 .taken in
     c .refused .ensures ∙ sym (find-end (a .p) (a .s .now) (l .i) (l .left) (omega arith) z (l .skip)) ∙ l .inv .1
 
 binding-words-requires : tie.Need-binding-words-requires Inv-loop μ-loop
@@ -46,7 +46,7 @@ returns-2 c =
     let a = c .before .before .before .before .before .before .before .args in
     let l = c .before .before .before .before .before .loop in
     let b = c .before .binding-words .ensures in
-    let r = c .before .before .before .read-u16 .ensures in
+    let r = c .before .before .before .word .ensures in
     let e = find-here (a .p) (a .s .now) (l .i) (l .left) (omega arith) (λ z. c .before .before .if1 .left (r ∙ z)) (c .before .binding-words .result) (b .0) (omega arith) in
     sym e ∙ (rw (c .if2 .taken) at (l .inv .1))
 
@@ -70,7 +70,7 @@ loop-again c =
     let a = c .before .before .before .before .before .before .before .args in
     let l = c .before .before .before .before .before .loop in
     let b = c .before .binding-words .ensures in
-    let r = c .before .before .before .read-u16 .ensures in
+    let r = c .before .before .before .word .ensures in
     let k : l .skip ≡ suc (l .skip - 1) = omega arith in
     let e = find-later (a .p) (a .s .now) (l .i) (l .left) (omega arith) (λ z. c .before .before .if1 .left (r ∙ z)) (c .before .binding-words .result) (b .0) (omega arith) (l .skip - 1) in
     (omega arith, sym e ∙ (rw (← k) (l .inv .1)))
@@ -91,7 +91,7 @@ find-spec =
     Inv-loop
     μ-loop
     loop-holds
-    read-u16-requires
+    word-requires
     refused-requires
     returns
     binding-words-requires

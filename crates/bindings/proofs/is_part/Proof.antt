@@ -18,14 +18,14 @@ abbrev μ-loop : tie.MeasureT-loop
 loop-holds : tie.Need-loop-holds Inv-loop μ-loop
 loop-holds c = (c .before .pre, refl)
 
-read-u16-requires : tie.Need-read-u16-requires Inv-loop μ-loop
-read-u16-requires c κs = search needs
+word-requires : tie.Need-word-requires Inv-loop μ-loop
+word-requires c κs = omega arith
 
 returns : tie.Need-returns Inv-loop μ-loop
 returns c =
     let a = c .before .before .before .before .before .args in
     let l = c .before .before .before .loop in
-    let z = sym (c .before .read-u16 .ensures) ∙ c .if1 .taken in
+    let z = sym (c .before .word .ensures) ∙ c .if1 .taken in
     sym (is-part-end (a .p) (a .s .now) (l .i) (l .left) (omega arith) z) ∙ l .inv .1
 
 binding-words-requires : tie.Need-binding-words-requires Inv-loop μ-loop
@@ -48,7 +48,7 @@ loop-again c =
     let a = c .before .before .before .before .before .before .args in
     let l = c .before .before .before .before .loop in
     let b = c .binding-words .ensures in
-    let r = c .before .before .read-u16 .ensures in
+    let r = c .before .before .word .ensures in
     (omega arith, sym (is-part-more (a .p) (a .s .now) (l .i) (l .left) (omega arith) (λ z. c .before .if1 .left (r ∙ z)) (c .binding-words .result) (b .0) (omega arith)) ∙ l .inv .1)
 
 returns-2 : tie.Need-returns-2 Inv-loop μ-loop
@@ -64,7 +64,7 @@ is-part-spec =
     Inv-loop
     μ-loop
     loop-holds
-    read-u16-requires
+    word-requires
     returns
     binding-words-requires
     mul-i

@@ -23,14 +23,14 @@ loop-holds c =
     let y : a .n - 0 ≡ a .n = omega arith in
     (omega arith, rw (x, y, zero-add))
 
-mul-read-u16 : tie.Need-mul-read-u16 Inv-loop μ-loop
-mul-read-u16 c = omega arith
+mul-word : tie.Need-mul-word Inv-loop μ-loop
+mul-word c = omega arith
 
-add-read-u16 : tie.Need-add-read-u16 Inv-loop μ-loop
-add-read-u16 c = omega arith
+add-word : tie.Need-add-word Inv-loop μ-loop
+add-word c = omega arith
 
-read-u16-requires : tie.Need-read-u16-requires Inv-loop μ-loop
-read-u16-requires c κs = search needs
+word-requires : tie.Need-word-requires Inv-loop μ-loop
+word-requires c κs = omega arith
 
 add-result : tie.Need-add-result Inv-loop μ-loop
 add-result c = omega arith
@@ -39,7 +39,7 @@ returns : tie.Need-returns Inv-loop μ-loop
 returns c =
     let a = c .before .before .before .before .before .args in
     let l = c .before .before .before .loop in
-    let z = sym (c .before .read-u16 .ensures) ∙ c .if1 .taken in
+    let z = sym (c .before .word .ensures) ∙ c .if1 .taken in
     let e = text-end (a .s .now) (a .at + 2 * l .i) (a .n - l .i) (omega arith) z in
     omega arith
 
@@ -53,7 +53,7 @@ loop-again : tie.Need-loop-again Inv-loop μ-loop
 loop-again c =
     let a = c .before .before .before .before .before .args in
     let l = c .before .before .before .loop in
-    let r = c .before .read-u16 .ensures in
+    let r = c .before .word .ensures in
     let e = text-more (a .s .now) (a .at + 2 * l .i) (a .at + 2 * (l .i + 1)) (a .n - l .i) (a .n - (l .i + 1)) (omega arith) (omega arith) (λ z. c .if1 .left (r ∙ z)) in
     omega arith
 
@@ -71,9 +71,9 @@ text-words-spec =
     Inv-loop
     μ-loop
     loop-holds
-    mul-read-u16
-    add-read-u16
-    read-u16-requires
+    mul-word
+    add-word
+    word-requires
     add-result
     returns
     add-i

@@ -23,10 +23,7 @@ unfolding referenceAt
 returns c =
     let iid = c .before .before .before in
     let flags = iid .before .read-u32 .ensures in
-    rw (← flags, c .before .before .if1 .taken) (cc (c .standard .ensures, iid .read-guid .ensures, c .before .read .ensures))
-
-read-requires-2 : tie.Need-read-requires-2
-read-requires-2 c κs = search needs
+    rw (← flags, c .before .if1 .taken) (cc (c .standard .ensures, iid .read-guid .ensures, c .before .before .read .ensures))
 
 read-guid-requires-2 : tie.Need-read-guid-requires-2
 read-guid-requires-2 c κs = search needs
@@ -37,10 +34,11 @@ handler-requires c κs = search needs
 returns-2 : tie.Need-returns-2
 unfolding referenceAt
 returns-2 c =
-    let test = c .before .before .before in
-    let iid = test .before .before in
+    let test = c .before .before in
+    let block = test .before .before in
+    let iid = block .before in
     let flags = iid .before .read-u32 .ensures in
-    rw (← flags, test .if2 .taken) (cc (c .handler .ensures, iid .read-guid .ensures, c .before .before .read2 .ensures, c .before .read-guid2 .ensures))
+    rw (← flags, test .if2 .taken) (cc (c .handler .ensures, iid .read-guid .ensures, block .read .ensures, c .before .read-guid2 .ensures))
 
 read-guid-requires-3 : tie.Need-read-guid-requires-3
 read-guid-requires-3 c κs = search needs
@@ -58,7 +56,7 @@ returns-3 : tie.Need-returns-3
 unfolding referenceAt
 returns-3 c =
     let test = c .before .before .before .before in
-    let iid = test .before .before .before in
+    let iid = test .before .before .before .before in
     let flags = iid .before .read-u32 .ensures in
     rw (← flags, test .if3 .taken) (cc (c .custom .ensures, iid .read-guid .ensures, c .before .before .before .read-guid3 .ensures, c .before .before .read-u322 .ensures, c .before .read-u323 .ensures))
 
@@ -68,7 +66,7 @@ zero-requires c κs = search needs
 returns-4 : tie.Need-returns-4
 unfolding referenceAt
 returns-4 c =
-    let flags = c .before .before .before .before .before .read-u32 .ensures in
+    let flags = c .before .before .before .before .before .before .read-u32 .ensures in
     c .zero .ensures
     ∙ sym (by-other _ _ _ _ _ (λ z. c .before .before .before .if1 .left (flags ∙ z)) (λ z. c .before .before .if2 .left (flags ∙ z)) (λ z. c .before .if3 .left (flags ∙ z)))
 
@@ -81,7 +79,6 @@ fields-spec =
     read-requires
     standard-requires
     returns
-    read-requires-2
     read-guid-requires-2
     handler-requires
     returns-2
