@@ -123,6 +123,11 @@ pub flags-at : (s : List ℕ) → isForm (field s 4 4) ≡ true → referenceAt 
 unfolding referenceAt
 flags-at s h = by-form (field s 4 4) h (λ e. rw e) (λ e. rw e) (λ e. rw e)
 
+-- the OXID of a reference that is not custom
+pub oxid-at : (s : List ℕ) → isForm (field s 4 4) ≡ true → (field s 4 4 ≡ 4 → ⊥) → referenceAt s .block .oxid .0 ≡ field s 32 8
+unfolding referenceAt
+oxid-at s h other = by-form (field s 4 4) h (λ e. rw e) (λ e. rw e) (λ e. absurd (other e))
+
 -- ---- the tail
 
 pub tail-number : (s : List ℕ) → tailPlace s .answer ≡ referenceAnswer s

@@ -1,4 +1,4 @@
--- The next stop: the reference as it was read, the bytes of an exporter's list, and the place that each outcome gives.
+-- The next stop: the reference's number and OXID, the bytes of an exporter's list, and the place that each outcome gives.
 use Prim.Native.Nat.{ℕ, _+_, _-_, _*_, _<_, _≤_}
 use mathlib.Core.Path.{_≡_, refl, sym, ap, _∙_}
 use mathlib.Core.Bool.{Bool, true, false}
@@ -10,14 +10,13 @@ use lib.Dec.{eqb}
 use lib.ListN.{length, take, drop, getD, length-take, length-drop}
 use lib.Seq.{length-take-le, take-take}
 use Rattle.kinds.specs.Refusals.{order, _gives_, differ}
-use Rattle.kinds.proofs.Refusing.{by-test, eq-differ, ne-differ}
+use Rattle.kinds.proofs.Refusing.{eq-differ, ne-differ}
+use Rattle.fields.specs.Fields.{field}
 use Rattle.bindings.specs.Bindings.{listLength}
+use Rattle.bindings.specs.declared.Place.{Place}
 use Rattle.bindings.proofs.Laws.{front}
-use Rattle.references.specs.References.{isCustom, referenceAt, referenceAnswer, readReference, tailPlace}
-use Rattle.references.specs.declared.Reference.{Reference}
-use Rattle.references.specs.declared.ReadReference.{ReadReference}
-use Rattle.references.proofs.Laws.{accepted, flags-at, tail-number, tail-within, tail-bytes}
-use Rattle.references.proofs.RoundTrip.{same-reference}
+use Rattle.references.specs.References.{isCustom, referenceAnswer, tailPlace}
+use Rattle.references.proofs.Laws.{accepted, oxid-at, tail-number, tail-within, tail-bytes}
 use Rattle.rules.specs.Entries.{Entries}
 use Rattle.rules.specs.Calls.{Call, Reply}
 use Rattle.rules.specs.Sound.{listsKept}
@@ -33,37 +32,31 @@ use Rattle.resolver.specs.NextStop.{refusedStop, stopInStore, stopInRefe
 use Rattle.resolver.specs.declared.routing.StopPlace.{StopPlace}
 use Rattle.resolver.proofs.Calls.{performed, row-gives, row-passes, exporter-in-row}
 
--- ---- the reference as it was read
+-- ---- the reference, by the place of its list
 
-module _ (reference : List ℕ) {x : ReadReference} (read : x ≡ readReference reference) where
-  read-number : x .answer ≡ referenceAnswer reference
-  unfolding readReference
-  read-number =
-      ap (λ (r : ReadReference). r .answer) read
-      ∙ by-test (λ (r : ReadReference). r .answer ≡ referenceAnswer reference) (eqb (referenceAnswer reference) 0) _ _ (λ e. sym (eqb-true _ _ e)) (λ e. refl)
+module _ (reference : List ℕ) {x : Place} (own : x ≡ tailPlace reference) where
+  own-number : x .answer ≡ referenceAnswer reference
+  own-number = ap (λ (p : Place). p .answer) own ∙ tail-number reference
 
   -- its refusal is passed on
   pub reference-refused : (e : Entries) → (x .answer ≡ 0 → ⊥) → x .answer ≡ number (Call.nextStop reference) e
   unfolding number refusals
   reference-refused e bad =
       let n : ℕ = referenceAnswer reference in
-      read-number ∙ row-gives (differ n 0) n _ refl (ne-differ n 0 (λ z. bad (read-number ∙ z)))
+      own-number ∙ row-gives (differ n 0) n _ refl (ne-differ n 0 (λ z. bad (own-number ∙ z)))
 
   module _ (good : x .answer ≡ 0) where
-    -- it is accepted, with these fields
-    pub same-fields : (referenceAnswer reference ≡ 0) × (referenceAt reference ≡ x .reference)
-    same-fields = same-reference reference (x .reference) (sym read ∙ (λ u. record { answer = good u; reference = x .reference }))
-
-    pub same-oxid : x .reference .block .oxid .0 ≡ oxidOf reference
-    same-oxid = ap (λ (r : Reference). r .block .oxid .0) (sym (same-fields .1))
+    -- it is accepted
+    pub good-reference : referenceAnswer reference ≡ 0
+    good-reference = sym own-number ∙ good
 
     -- the row of the custom form is left
-    pub form-left : (e : Entries) → number (Call.nextStop reference) e ≡ order (isCustom (x .reference .flags) gives 14 ∷ [])
+    pub form-left : (e : Entries) → number (Call.nextStop reference) e ≡ order (isCustom (field reference 4 4) gives 14 ∷ [])
     unfolding number refusals
-    form-left e =
-        let n : ℕ = referenceAnswer reference in
-        row-passes (differ n 0) n _ refl (eq-differ n 0 (same-fields .0))
-        ∙ ap (λ (f : ℕ). order (isCustom f gives 14 ∷ [])) (sym (flags-at reference (accepted reference (same-fields .0) .form)) ∙ ap (λ (r : Reference). r .flags) (same-fields .1))
+    form-left e = row-passes (differ (referenceAnswer reference) 0) (referenceAnswer reference) _ refl (eq-differ (referenceAnswer reference) 0 good-reference)
+
+    pub same-oxid : (field reference 4 4 ≡ 4 → ⊥) → field reference 32 8 ≡ oxidOf reference
+    same-oxid other = sym (oxid-at reference (accepted reference good-reference .form) other)
 
 -- ---- the list of a live exporter, in the store
 

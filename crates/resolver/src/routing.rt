@@ -1,4 +1,5 @@
 // Where to go next with a reference: its exporter's list where that is live, else the reference's own list.
+use bindings::Place;
 use kinds::answer;
 use references::Reference;
 use table::find;
@@ -12,7 +13,6 @@ ghost use Rattle.rules.specs.Calls.{Call};
 ghost use Rattle.rules.specs.Sound.{listsKept};
 ghost use Rattle.rules.specs.Contract.{replyTo};
 ghost use Rattle.table.specs.View.{exporterCount, memory, view};
-ghost use Rattle.references.specs.References.{tailPlace};
 ghost use Rattle.resolver.specs.NextStop.{refusedStop, stopInStore, stopInReference, StopFound, StopPart};
 
 // Where a next stop stands, in the store or else in the reference.
@@ -52,15 +52,14 @@ fn in_store<'a>(words: &'a [u64], store: &'a [u8], i: usize) -> StopPlace
 }
 
 // The reference's own list.
-fn in_reference(reference: &[u8]) -> StopPlace
-    ensures { λ r. ⌜ r ≡ stopInReference (tailPlace (now (reference .entry))) ⌝ }
+fn in_reference(own: Place) -> StopPlace
+    ensures { λ r. ⌜ r ≡ stopInReference own ⌝ }
 {
-    let x = references::tail_place(reference);
     StopPlace {
-        answer: x.answer,
+        answer: own.answer,
         in_store: false,
-        from: x.from,
-        to: x.to,
+        from: own.from,
+        to: own.to,
     }
 }
 
@@ -71,18 +70,18 @@ pub fn next_stop_place<'a>(words: &'a [u64], store: &'a [u8], reference: &'a [u8
     if !judge::sound(words, store) {
         return refused(answer::UNSOUND);
     }
-    let read = Reference::read(reference);
-    if read.answer != answer::DONE {
-        return refused(read.answer);
+    let own = references::tail_place(reference);
+    if own.answer != answer::DONE {
+        return refused(own.answer);
     }
-    if read.reference.flags == Reference::CUSTOM {
+    if fields::read_u32(reference, 4) == Reference::CUSTOM {
         return refused(answer::LAYOUT);
     }
-    let i = find::exporter_row(words, read.reference.block.oxid.0);
+    let i = find::exporter_row(words, fields::read_u64(reference, 32));
     if i < layout::exporter_count(words) {
         return in_store(words, store, i);
     }
-    in_reference(reference)
+    in_reference(own)
 }
 
 // The number of the next stop, as above.
