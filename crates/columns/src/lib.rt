@@ -99,19 +99,6 @@ pub fn all_in(a: &[u64], b: &[u64]) -> bool
     true
 }
 
-pub fn all_below(col: &[u64], limit: u64) -> bool
-    ensures { λ r. ⌜ r ≡ every (λ x. ltb x limit) (now (col .entry)) ⌝ }
-{
-    let mut i = 0;
-    while i < col.len() {
-        if col[i] >= limit {
-            return false;
-        }
-        i += 1;
-    }
-    true
-}
-
 pub fn all_at_most(col: &[u64], limit: u64) -> bool
     ensures { λ r. ⌜ r ≡ every (λ x. leb x limit) (now (col .entry)) ⌝ }
 {
@@ -123,6 +110,15 @@ pub fn all_at_most(col: &[u64], limit: u64) -> bool
         i += 1;
     }
     true
+}
+
+pub fn all_below(col: &[u64], limit: u64) -> bool
+    ensures { λ r. ⌜ r ≡ every (λ x. ltb x limit) (now (col .entry)) ⌝ }
+{
+    if limit == 0 {
+        return col.len() == 0;
+    }
+    all_at_most(col, limit - 1)
 }
 
 // Less than limit has passed from t to clock; 0 where t is later than clock.

@@ -1,4 +1,4 @@
--- What a ping leaves, by the row of its set.
+-- What a ping leaves, by the row of its set: for the contracts of steps below the calls. The rule of a ping is in Rules.antt.
 use Prim.Native.Nat.{ℕ}
 use mathlib.Core.Bool.{cond}
 use mathlib.Core.List.{List, map}

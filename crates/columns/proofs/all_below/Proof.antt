@@ -1,60 +1,46 @@
--- `columns::all_below`: what is left from i on passes where the whole column does.
-use Prim.Native.Nat.{_-_}
-use mathlib.Core.Path.{_≡_, refl}
+-- `columns::all_below`: below a limit is at most the number before it, and nothing is below 0.
+use Prim.Native.Nat.{ℕ, _-_, _<_}
+use mathlib.Core.Path.{_≡_, refl, _∙_}
+use mathlib.Core.List.{List, [], _∷_}
+use mathlib.Core.Logic.{⊎-elim}
+use native.Mathlib.Omega.{arith}
 use borrow.Author.Needs.{needs}
-use borrow.Author.Tests.{lt-ltb, le-ltb}
-use lib.Dec.{ltb}
-use lib.ListN.{length, drop}
+use borrow.Author.Tests.{ne-eqb, lt-ltb, le-ltb, le-leb, lt-leb}
+use lib.Dec.{eqb, ltb, leb}
+use lib.ListN.{length}
 use Rattle.columns.specs.Lists.{every}
-use Rattle.columns.proofs.Loops.{column-step, column-end, every-passes, every-fails, every-end}
+use Rattle.columns.proofs.Tests.{below-or-not}
+use Rattle.columns.proofs.Lists.{every-ext}
 use Rattle.columns.proofs.all_below.Statement.{statement}
 use Rattle.columns.proofs.all_below.Tie as tie
 
-abbrev Inv-loop : tie.InvT-loop
-Inv-loop col limit i₀ i = every (λ x. ltb x limit) col ≡ every (λ x. ltb x limit) (drop i col)
+-- nothing is below 0
+below-zero : (col : List ℕ) → eqb (length col) 0 ≡ every (λ x. ltb x 0) col
+unfolding every
+below-zero [] = refl
+below-zero (x ∷ xs) = rw (le-ltb x 0 (omega arith)) (ne-eqb (length (x ∷ xs)) 0 (λ e. omega arith))
 
-abbrev μ-loop : tie.MeasureT-loop
-μ-loop col limit i₀ i = length col - i
+-- below a limit
+below-limit : (limit x : ℕ) → (limit ≡ 0 → ⊥) → leb x (limit - 1) ≡ ltb x limit
+below-limit limit x z =
+    ⊎-elim
+    (λ (h : x < limit). rw (lt-ltb x limit h) (le-leb x (limit - 1) (omega arith)))
+    (λ h. rw (le-ltb x limit h) (lt-leb x (limit - 1) (omega arith)))
+    (below-or-not x limit)
 
-loop-holds : tie.Need-loop-holds Inv-loop μ-loop
-loop-holds c = refl
+returns : tie.Need-returns
+returns c = rw (c .if1 .taken) (below-zero (c .before .before .args .col .now))
 
-mul-if1 : tie.Need-mul-if1 Inv-loop μ-loop
-mul-if1 c = search needs
+sub-all-at-most : tie.Need-sub-all-at-most
+sub-all-at-most c = search needs
 
-shared-slice-read-if1 : tie.Need-shared-slice-read-if1 Inv-loop μ-loop
-shared-slice-read-if1 c = search needs
+all-at-most-requires : tie.Need-all-at-most-requires
+all-at-most-requires c κs = search needs
 
-returns : tie.Need-returns Inv-loop μ-loop
-returns c =
-    let l = c .before .before .before .loop in
-    every-fails (column-step _ 0 (l .i) (search needs)) _ (l .inv) (le-ltb _ _ (c .if1 .taken))
-
-add-i : tie.Need-add-i Inv-loop μ-loop
-add-i c = search needs
-
-loop-less : tie.Need-loop-less Inv-loop μ-loop
-loop-less c = search needs
-
-loop-again : tie.Need-loop-again Inv-loop μ-loop
-loop-again c =
-    let l = c .before .before .before .loop in
-    every-passes (column-step _ 0 (l .i) (search needs)) _ (l .inv) (lt-ltb _ _ (c .if1 .left))
-
-returns-2 : tie.Need-returns-2 Inv-loop μ-loop
-returns-2 c = let l = c .before .loop in every-end (column-end _ (l .i) (search needs)) _ (l .inv)
+returns-2 : tie.Need-returns-2
+returns-2 c =
+    let a = c .before .before .before .args in
+    c .all-at-most .ensures ∙ every-ext (λ x. leb x (a .limit - 1)) (λ x. ltb x (a .limit)) (λ x. below-limit (a .limit) x (c .before .if1 .left)) (a .col .now)
 
 pub all-below-spec : {M : Type 1} → statement M
-all-below-spec =
-    tie.close
-    (tie.spec
-    Inv-loop
-    μ-loop
-    loop-holds
-    mul-if1
-    shared-slice-read-if1
-    returns
-    add-i
-    loop-less
-    loop-again
-    returns-2)
+all-below-spec = tie.close (tie.spec returns sub-all-at-most all-at-most-requires returns-2)
