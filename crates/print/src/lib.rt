@@ -19,19 +19,6 @@ pub fn hex(n: u64, width: usize) {
     io::print_hex(STDOUT_FILENO, n, width);
 }
 
-// Bytes in hex, two digits each.
-pub fn bytes(s: &[u8]) {
-    let mut i = 0;
-    while i < s.len() {
-        io::print_hex(STDOUT_FILENO, wide(s[i]), 2);
-        i += 1;
-    }
-}
-
-fn wide(x: u8) -> u64 {
-    x as u64
-}
-
 // A GUID in its usual text: {00112233-4455-6677-8899-aabbccddeeff}.
 pub fn guid(g: Guid) {
     let low = g.low;

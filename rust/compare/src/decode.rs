@@ -1,66 +1,229 @@
-//! The live entries that an array and a store hold (crates/table/specs/View.antt).
+//! Which word of the array and which byte of the store hold what (crates/table/specs/View.antt): the live entries are read from
+//! there, and put there. No other file here knows a word's number.
 
+use crate::op::halves;
 use model::entries::{Entries, Exporter, Interface, Object, PingSet};
 use model::Guid;
 
-fn guid(low: u64, high: u64) -> Guid {
+/// Bytes of the store for each exporter.
+pub const SLOT: usize = 512;
+
+/// The words before the rows: clock, next set number and the live numbers of the kinds.
+const HEAD: [&str; 6] = [
+    "clock",
+    "next_set",
+    "exporters",
+    "objects",
+    "interfaces",
+    "sets",
+];
+
+/// The rows of a kind: the word of their number, their first word, their places and their columns.
+pub struct Kind {
+    pub name: &'static str,
+    pub count: usize,
+    base: usize,
+    places: usize,
+    columns: &'static [&'static str],
+}
+
+pub const EXPORTERS: Kind = Kind {
+    name: "exporter",
+    count: 2,
+    base: 16,
+    places: 16,
+    columns: &["oxid", "unknown_low", "unknown_high"],
+};
+pub const SETS: Kind = Kind {
+    name: "set",
+    count: 5,
+    base: 64,
+    places: 32,
+    columns: &["set", "sequence", "pinged", "members_low", "members_high"],
+};
+pub const OBJECTS: Kind = Kind {
+    name: "object",
+    count: 3,
+    base: 256,
+    places: 128,
+    columns: &["oid", "exporter", "no_ping", "heard"],
+};
+pub const INTERFACES: Kind = Kind {
+    name: "interface",
+    count: 4,
+    base: 768,
+    places: 256,
+    columns: &[
+        "ipid_low",
+        "ipid_high",
+        "iid_low",
+        "iid_high",
+        "object",
+        "public",
+        "private",
+    ],
+};
+
+impl Kind {
+    /// How many rows are live.
+    pub fn live(&self, words: &[u64]) -> usize {
+        words[self.count].min(self.places as u64) as usize
+    }
+
+    pub fn row(&self, words: &[u64], i: usize) -> Vec<u64> {
+        let word = |j| words[self.base + j * self.places + i];
+        (0..self.columns.len()).map(word).collect()
+    }
+
+    pub fn put_row(&self, words: &mut [u64], i: usize, values: &[u64]) {
+        assert_eq!(values.len(), self.columns.len());
+        for (j, value) in values.iter().enumerate() {
+            words[self.base + j * self.places + i] = *value;
+        }
+    }
+
+    /// The live rows.
+    pub fn rows(&self, words: &[u64]) -> Vec<Vec<u64>> {
+        (0..self.live(words)).map(|i| self.row(words, i)).collect()
+    }
+}
+
+/// A column of the array: its name, its first word, its places, and the word that says how many are live.
+pub struct Column {
+    pub name: &'static str,
+    pub first: usize,
+    pub places: usize,
+    count: Option<usize>,
+}
+
+impl Column {
+    /// How many rows are live.
+    pub fn live(&self, words: &[u64]) -> usize {
+        let live = |count: usize| words[count].min(self.places as u64) as usize;
+        self.count.map_or(self.places, live)
+    }
+}
+
+/// Every column of the array, in the order of its words.
+pub fn columns() -> Vec<Column> {
+    let head = HEAD.iter().enumerate().map(|(first, name)| Column {
+        name,
+        first,
+        places: 1,
+        count: None,
+    });
+    let of = |kind: &Kind| {
+        let (base, places, count) = (kind.base, kind.places, kind.count);
+        let column = move |(j, name): (usize, &&'static str)| Column {
+            name,
+            first: base + j * places,
+            places,
+            count: Some(count),
+        };
+        kind.columns.iter().enumerate().map(column)
+    };
+    let kinds = [EXPORTERS, SETS, OBJECTS, INTERFACES];
+    head.chain(kinds.iter().flat_map(of)).collect()
+}
+
+pub fn guid(low: u64, high: u64) -> Guid {
     let mut g = [0; 16];
     g[..8].copy_from_slice(&low.to_le_bytes());
     g[8..].copy_from_slice(&high.to_le_bytes());
     g
 }
 
+/// The bytes of the list of an exporter's row, as long as its own N says.
+pub fn list(store: &[u8], row: usize) -> Vec<u8> {
+    let slot = &store[SLOT * row..SLOT * (row + 1)];
+    let n = u16::from_le_bytes([slot[0], slot[1]]) as usize;
+    slot[..slot.len().min(4 + 2 * n)].to_vec()
+}
+
 pub fn entries(words: &[u64], store: &[u8]) -> Entries {
-    let live = |word: usize, places: u64| words[word].min(places) as usize;
-    let objects: Vec<Object> = (0..live(3, 128))
-        .map(|i| Object {
-            oid: words[256 + i],
-            exporter: words[384 + i],
-            no_ping: words[512 + i] != 0,
-            heard: words[640 + i],
+    let objects: Vec<Object> = OBJECTS
+        .rows(words)
+        .iter()
+        .map(|r| Object {
+            oid: r[0],
+            exporter: r[1],
+            no_ping: r[2] != 0,
+            heard: r[3],
         })
         .collect();
-    let members = |i: usize| {
-        let bits = words[160 + i] as u128 | (words[192 + i] as u128) << 64;
+    let members = |low: u64, high: u64| {
+        let bits = low as u128 | (high as u128) << 64;
         let rows = (0..128).filter(move |row| bits >> row & 1 != 0);
         rows.map(|row| objects.get(row).map_or(0, |o| o.oid))
             .collect()
     };
+    let exporter = |(i, r): (usize, &Vec<u64>)| Exporter {
+        oxid: r[0],
+        unknown: guid(r[1], r[2]),
+        list: list(store, i),
+    };
+    let interface = |r: &Vec<u64>| Interface {
+        ipid: guid(r[0], r[1]),
+        iid: guid(r[2], r[3]),
+        object: r[4],
+        public: r[5] as u32,
+        private: r[6] as u32,
+    };
+    let set = |r: &Vec<u64>| PingSet {
+        number: r[0],
+        sequence: r[1] as u16,
+        pinged: r[2],
+        members: members(r[3], r[4]),
+    };
     Entries {
         clock: words[0],
         next_set: words[1],
-        exporters: (0..live(2, 16))
-            .map(|i| Exporter {
-                oxid: words[16 + i],
-                unknown: guid(words[32 + i], words[48 + i]),
-                list: list(&store[512 * i..512 * (i + 1)]),
-            })
+        exporters: EXPORTERS
+            .rows(words)
+            .iter()
+            .enumerate()
+            .map(exporter)
             .collect(),
-        interfaces: (0..live(4, 256))
-            .map(|i| Interface {
-                ipid: guid(words[768 + i], words[1024 + i]),
-                iid: guid(words[1280 + i], words[1536 + i]),
-                object: words[1792 + i],
-                public: words[2048 + i] as u32,
-                private: words[2304 + i] as u32,
-            })
-            .collect(),
-        sets: (0..live(5, 32))
-            .map(|i| PingSet {
-                number: words[64 + i],
-                sequence: words[96 + i] as u16,
-                pinged: words[128 + i],
-                members: members(i),
-            })
-            .collect(),
+        interfaces: INTERFACES.rows(words).iter().map(interface).collect(),
+        sets: SETS.rows(words).iter().map(set).collect(),
         objects,
     }
 }
 
-/// The list at the front of an exporter's bytes, as long as its own N says.
-fn list(slot: &[u8]) -> Vec<u8> {
-    let n = u16::from_le_bytes([slot[0], slot[1]]) as usize;
-    slot[..slot.len().min(4 + 2 * n)].to_vec()
+/// Puts live entries into their words and bytes, a kind's rows from its first on; the other words and bytes stay.
+pub fn encode(e: &Entries, words: &mut [u64], store: &mut [u8]) {
+    words[0] = e.clock;
+    words[1] = e.next_set;
+    words[EXPORTERS.count] = e.exporters.len() as u64;
+    words[OBJECTS.count] = e.objects.len() as u64;
+    words[INTERFACES.count] = e.interfaces.len() as u64;
+    words[SETS.count] = e.sets.len() as u64;
+    for (i, x) in e.exporters.iter().enumerate() {
+        let [low, high] = halves(x.unknown);
+        EXPORTERS.put_row(words, i, &[x.oxid, low, high]);
+        store[SLOT * i..SLOT * i + x.list.len()].copy_from_slice(&x.list);
+    }
+    for (i, s) in e.sets.iter().enumerate() {
+        let held = |bits: u128, (row, o): (usize, &Object)| {
+            bits | (s.members.contains(&o.oid) as u128) << row
+        };
+        let bits = e.objects.iter().enumerate().fold(0, held);
+        let (low, high) = (bits as u64, (bits >> 64) as u64);
+        SETS.put_row(
+            words,
+            i,
+            &[s.number, s.sequence.into(), s.pinged, low, high],
+        );
+    }
+    for (i, o) in e.objects.iter().enumerate() {
+        OBJECTS.put_row(words, i, &[o.oid, o.exporter, o.no_ping.into(), o.heard]);
+    }
+    for (i, x) in e.interfaces.iter().enumerate() {
+        let ([low, high], [iid_low, iid_high]) = (halves(x.ipid), halves(x.iid));
+        let (public, private) = (x.public.into(), x.private.into());
+        let row = [low, high, iid_low, iid_high, x.object, public, private];
+        INTERFACES.put_row(words, i, &row);
+    }
 }
 
 /// The same entries in the order of their identifiers.

@@ -1,5 +1,6 @@
 //! Random lists, references and calls.
 
+use crate::decode;
 use crate::op::Op;
 use crate::random::Random;
 use model::entries::{Entries, EXPORTERS, INTERFACES, OBJECTS, SETS};
@@ -396,34 +397,13 @@ impl Pools {
         if random.once_in(8) {
             let slot = random.below(e.exporters.len().max(1));
             let within = 4 + random.below(64);
-            let at = 512 * slot + random.pick(&[0, 1, 2, 3, within, within]);
+            let at = decode::SLOT * slot + random.pick(&[0, 1, 2, 3, within, within]);
             let value = random.pick(&[0, 1, store[at] ^ 1, store[at].wrapping_add(1), 0xFF]);
             return Op::PokeByte { at, value };
         }
-        // the first word of each column, and its live rows
-        let columns: [(usize, usize); 20] = [
-            (0, 1),
-            (1, 1),
-            (2, 4),
-            (16, e.exporters.len()),
-            (32, e.exporters.len()),
-            (48, e.exporters.len()),
-            (64, e.sets.len()),
-            (96, e.sets.len()),
-            (128, e.sets.len()),
-            (160, e.sets.len()),
-            (192, e.sets.len()),
-            (256, e.objects.len()),
-            (384, e.objects.len()),
-            (512, e.objects.len()),
-            (640, e.objects.len()),
-            (768, e.interfaces.len()),
-            (1024, e.interfaces.len()),
-            (1792, e.interfaces.len()),
-            (2048, e.interfaces.len()),
-            (2304, e.interfaces.len()),
-        ];
-        let (first, rows) = random.pick(&columns);
+        let columns = decode::columns();
+        let column = &columns[random.below(columns.len())];
+        let (first, rows) = (column.first, column.live(words));
         let at = first + random.below(rows.max(1));
         let beside = words[first + random.below(rows.max(1))];
         let flipped = words[at] ^ 1 << random.below(64);

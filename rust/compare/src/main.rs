@@ -1,12 +1,15 @@
 //! Drives the library and an independent model of document 01 with the same inputs, and says where they differ.
 //!
-//!     compare             a short comparison with a fixed seed
+//!     compare             the stored lines, then a short comparison with a fixed seed
 //!     compare full [SEED] more than a million calls and a million byte inputs, by default with a new seed
+//!     compare make        writes the outputs of the stored lines anew, from the model alone
 
 mod bytes;
 mod calls;
 mod decode;
 mod generate;
+mod lines;
+mod model_side;
 mod op;
 mod random;
 mod shrink;
@@ -40,6 +43,7 @@ fn compare(seed: u64, scale: &Scale) -> Result<(), Differs> {
     };
     let (calls, pokes) = (scale.calls, scale.pokes);
     bytes::wire_codes()?;
+    lines::compare()?;
     all.join(&part("references, lists and headers", &|| {
         bytes::compare(seed, scale.inputs)
     })?);
@@ -94,8 +98,12 @@ fn main() -> ExitCode {
                 },
             )
         }
+        ["make"] => {
+            lines::make();
+            return ExitCode::SUCCESS;
+        }
         _ => {
-            eprintln!("usage: compare [full [SEED]]");
+            eprintln!("usage: compare [full [SEED] | make]");
             return ExitCode::FAILURE;
         }
     };

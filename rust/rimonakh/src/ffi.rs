@@ -90,7 +90,7 @@ pub struct StopPlace {
 extern "C" {
     pub fn rimonakh_wire_code(number: u32) -> u32;
 
-    pub fn rimonakh_this_read(bytes: *const u8, len: usize) -> ReadThis;
+    pub fn rimonakh_this_read(bytes: *const u8, bytes_len: usize) -> ReadThis;
     pub fn rimonakh_this_write(
         minor: u16,
         flags: u32,
@@ -99,20 +99,25 @@ extern "C" {
         buffer: *mut u8,
         buffer_len: usize,
     ) -> u32;
-    pub fn rimonakh_that_read(bytes: *const u8, len: usize) -> ReadThat;
+    pub fn rimonakh_that_read(bytes: *const u8, bytes_len: usize) -> ReadThat;
     pub fn rimonakh_that_write(flags: u32, buffer: *mut u8, buffer_len: usize) -> u32;
 
-    pub fn rimonakh_list_answer(bytes: *const u8, len: usize) -> u32;
-    pub fn rimonakh_list_front_answer(bytes: *const u8, len: usize) -> u32;
-    pub fn rimonakh_list_front_length(bytes: *const u8, len: usize) -> usize;
-    pub fn rimonakh_list_string_binding(bytes: *const u8, len: usize, k: usize) -> Place;
-    pub fn rimonakh_list_security_binding(bytes: *const u8, len: usize, k: usize) -> Place;
+    pub fn rimonakh_list_answer(bytes: *const u8, bytes_len: usize) -> u32;
+    pub fn rimonakh_list_front_answer(bytes: *const u8, bytes_len: usize) -> u32;
+    pub fn rimonakh_list_front_length(bytes: *const u8, bytes_len: usize) -> usize;
+    pub fn rimonakh_list_string_binding(bytes: *const u8, bytes_len: usize, k: usize) -> Place;
+    pub fn rimonakh_list_security_binding(bytes: *const u8, bytes_len: usize, k: usize) -> Place;
 
-    pub fn rimonakh_reference_answer(bytes: *const u8, len: usize) -> u32;
-    pub fn rimonakh_reference_read(bytes: *const u8, len: usize) -> ReadReference;
-    pub fn rimonakh_reference_tail(bytes: *const u8, len: usize) -> Place;
-    pub fn rimonakh_reference_string_binding(bytes: *const u8, len: usize, k: usize) -> Place;
-    pub fn rimonakh_reference_security_binding(bytes: *const u8, len: usize, k: usize) -> Place;
+    pub fn rimonakh_reference_answer(bytes: *const u8, bytes_len: usize) -> u32;
+    pub fn rimonakh_reference_read(bytes: *const u8, bytes_len: usize) -> ReadReference;
+    pub fn rimonakh_reference_tail(bytes: *const u8, bytes_len: usize) -> Place;
+    pub fn rimonakh_reference_string_binding(bytes: *const u8, bytes_len: usize, k: usize)
+        -> Place;
+    pub fn rimonakh_reference_security_binding(
+        bytes: *const u8,
+        bytes_len: usize,
+        k: usize,
+    ) -> Place;
     pub fn rimonakh_reference_write(
         flags: u32,
         iid_low: u64,

@@ -1,0 +1,198 @@
+/* Calls every function of the header once, as C and as C++, and holds the structs to the layout that the archive has. With the
+ * argument "handler" or "custom" it writes such a reference to standard output instead. */
+#include "rimonakh.h"
+
+#include <assert.h>
+#include <stdio.h>
+#include <string.h>
+
+#define SIZE(type, size) static_assert(sizeof(type) == (size), #type " has another size")
+#define AT(type, field, place) static_assert(offsetof(type, field) == (place), #type "." #field " stands elsewhere")
+
+SIZE(rimonakh_guid, 16);
+AT(rimonakh_guid, high, 8);
+SIZE(rimonakh_orpc_this, 24);
+AT(rimonakh_orpc_this, flags, 4);
+AT(rimonakh_orpc_this, causality, 8);
+SIZE(rimonakh_read_this, 32);
+AT(rimonakh_read_this, header, 8);
+SIZE(rimonakh_orpc_that, 4);
+SIZE(rimonakh_read_that, 8);
+AT(rimonakh_read_that, header, 4);
+SIZE(rimonakh_place, 24);
+AT(rimonakh_place, from, 8);
+AT(rimonakh_place, to, 16);
+SIZE(rimonakh_block, 40);
+AT(rimonakh_block, public_refs, 4);
+AT(rimonakh_block, oxid, 8);
+AT(rimonakh_block, oid, 16);
+AT(rimonakh_block, ipid, 24);
+SIZE(rimonakh_reference, 88);
+AT(rimonakh_reference, iid, 8);
+AT(rimonakh_reference, block, 24);
+AT(rimonakh_reference, clsid, 64);
+AT(rimonakh_reference, extension, 80);
+AT(rimonakh_reference, size, 84);
+SIZE(rimonakh_read_reference, 96);
+AT(rimonakh_read_reference, reference, 8);
+SIZE(rimonakh_written, 16);
+AT(rimonakh_written, length, 8);
+SIZE(rimonakh_counts, 40);
+AT(rimonakh_counts, exporters, 8);
+AT(rimonakh_counts, objects, 16);
+AT(rimonakh_counts, interfaces, 24);
+AT(rimonakh_counts, sets, 32);
+SIZE(rimonakh_member_count, 16);
+AT(rimonakh_member_count, count, 8);
+SIZE(rimonakh_released, 20);
+AT(rimonakh_released, public_refs, 4);
+AT(rimonakh_released, private_refs, 8);
+AT(rimonakh_released, interfaces, 12);
+AT(rimonakh_released, objects, 16);
+SIZE(rimonakh_pinged, 24);
+AT(rimonakh_pinged, set, 8);
+AT(rimonakh_pinged, backoff, 16);
+SIZE(rimonakh_resolved, 32);
+AT(rimonakh_resolved, length, 8);
+AT(rimonakh_resolved, unknown, 16);
+SIZE(rimonakh_stop_place, 24);
+AT(rimonakh_stop_place, in_store, 4);
+AT(rimonakh_stop_place, from, 8);
+AT(rimonakh_stop_place, to, 16);
+
+static uint64_t words[RIMONAKH_WORDS];
+static uint8_t store[RIMONAKH_BYTES];
+#define TABLE words, RIMONAKH_WORDS, store, RIMONAKH_BYTES
+
+/* tower 7, an empty address; service 10, no name */
+static const uint8_t list[] = {7, 0, 3, 0, 7, 0, 0, 0, 0, 0, 10, 0, 0xFF, 0xFF, 0, 0, 0, 0};
+#define LIST list, sizeof list
+
+static int failed;
+
+static void expect(int line, uint64_t got, uint64_t wanted) {
+    if (got != wanted) {
+        printf("line %d: %llu, not %llu\n", line, (unsigned long long)got, (unsigned long long)wanted);
+        failed = 1;
+    }
+}
+#define IS(got, wanted) expect(__LINE__, got, wanted)
+
+static size_t write_reference(uint32_t flags, uint8_t *buffer, size_t room) {
+    static const uint8_t data[] = {1, 2, 3};
+    int custom = flags == RIMONAKH_CUSTOM;
+    rimonakh_written w =
+        rimonakh_reference_write(flags, 0x11, 0x12, RIMONAKH_NO_PING, 5, 0x51, 0x41, 0x71, 0x72, 0x31, 0x32, 8, 3,
+                                 custom ? data : list, custom ? sizeof data : sizeof list, buffer, room);
+    IS(w.answer, RIMONAKH_DONE);
+    return w.length;
+}
+
+static void bytes(void) {
+    uint8_t buffer[128];
+    IS(rimonakh_wire_code(RIMONAKH_NO_SET), 1912);
+    IS(rimonakh_this_write(7, 1, 2, 3, buffer, sizeof buffer), 0);
+    rimonakh_read_this call = rimonakh_this_read(buffer, sizeof buffer);
+    IS(call.answer, 0);
+    IS(call.header.minor, 7);
+    IS(call.header.flags, 1);
+    IS(call.header.causality.low, 2);
+    IS(call.header.causality.high, 3);
+    IS(rimonakh_that_write(9, buffer, sizeof buffer), 0);
+    rimonakh_read_that reply = rimonakh_that_read(buffer, sizeof buffer);
+    IS(reply.answer, 0);
+    IS(reply.header.flags, 9);
+    IS(rimonakh_list_answer(LIST), 0);
+    IS(rimonakh_list_front_answer(LIST), 0);
+    IS(rimonakh_list_front_length(LIST), 18);
+    rimonakh_place p = rimonakh_list_string_binding(LIST, 0);
+    IS(p.answer, 0);
+    IS(p.from, 4);
+    IS(p.to, 8);
+    p = rimonakh_list_security_binding(LIST, 0);
+    IS(p.from, 10);
+    IS(p.to, 16);
+    IS(rimonakh_list_security_binding(LIST, 1).answer, RIMONAKH_NO_BINDING);
+    size_t n = write_reference(RIMONAKH_HANDLER, buffer, sizeof buffer);
+    IS(n, 98);
+    IS(rimonakh_reference_answer(buffer, n), 0);
+    rimonakh_read_reference r = rimonakh_reference_read(buffer, n);
+    IS(r.answer, 0);
+    IS(r.reference.flags, RIMONAKH_HANDLER);
+    IS(r.reference.iid.low, 0x11);
+    IS(r.reference.iid.high, 0x12);
+    IS(r.reference.block.flags, RIMONAKH_NO_PING);
+    IS(r.reference.block.public_refs, 5);
+    IS(r.reference.block.oxid, 0x51);
+    IS(r.reference.block.oid, 0x41);
+    IS(r.reference.block.ipid.low, 0x71);
+    IS(r.reference.block.ipid.high, 0x72);
+    IS(r.reference.clsid.low, 0x31);
+    IS(r.reference.clsid.high, 0x32);
+    IS(rimonakh_reference_tail(buffer, n).from, 80);
+    IS(rimonakh_reference_string_binding(buffer, n, 0).from, 84);
+    IS(rimonakh_reference_security_binding(buffer, n, 0).to, 96);
+    n = write_reference(RIMONAKH_CUSTOM, buffer, sizeof buffer);
+    r = rimonakh_reference_read(buffer, n);
+    IS(r.reference.extension, 8);
+    IS(r.reference.size, 3);
+}
+
+static void calls(void) {
+    uint8_t reference[128], buffer[64];
+    const uint64_t oids[] = {0x41};
+    size_t n = write_reference(RIMONAKH_STANDARD, reference, sizeof reference);
+    IS(rimonakh_reset(TABLE, 1000), 0);
+    IS(rimonakh_enter_exporter(TABLE, 0x51, 0x61, 0x62, LIST), 0);
+    IS(rimonakh_enter_object(TABLE, 0x41, 0x51, 0x71, 0x72, 0x11, 0x12, 5, false), 0);
+    IS(rimonakh_enter_interface(TABLE, 0x41, 0x73, 0x74, 0x11, 0x12, 1), 0);
+    IS(rimonakh_add(TABLE, 0x71, 0x72, 1, 2), 0);
+    rimonakh_pinged ping = rimonakh_complex_ping(TABLE, 0, 1, oids, 1, oids, 0);
+    IS(ping.answer, 0);
+    IS(ping.set, 1);
+    IS(ping.backoff, 0);
+    IS(rimonakh_simple_ping(TABLE, 1), 0);
+    IS(rimonakh_members(TABLE, 1).count, 1);
+    rimonakh_stop_place stop = rimonakh_next_stop(TABLE, reference, n);
+    IS(stop.answer, 0);
+    IS(stop.in_store, true);
+    IS(stop.from, 0);
+    IS(stop.to, sizeof list);
+    rimonakh_resolved found = rimonakh_resolve(TABLE, 0x51, buffer, sizeof buffer);
+    IS(found.answer, 0);
+    IS(found.length, sizeof list);
+    IS(found.unknown.low, 0x61);
+    IS(found.unknown.high, 0x62);
+    IS(memcmp(buffer, list, sizeof list), 0);
+    rimonakh_released gone = rimonakh_release(TABLE, 0x71, 0x72, 9, 2);
+    IS(gone.answer, 0);
+    IS(gone.public_refs, 6);
+    IS(gone.private_refs, 2);
+    IS(gone.interfaces, 1);
+    IS(gone.objects, 0);
+    rimonakh_counts c = rimonakh_census(TABLE);
+    IS(c.answer, 0);
+    IS(c.exporters, 1);
+    IS(c.objects, 1);
+    IS(c.interfaces, 1);
+    IS(c.sets, 1);
+    c = rimonakh_clock(TABLE, 1360);
+    IS(c.exporters, 0);
+    IS(c.objects, 1);
+    IS(c.interfaces, 1);
+    IS(c.sets, 1);
+    IS(rimonakh_remove_exporter(TABLE, 0x51), 0);
+    IS(rimonakh_remove_exporter(TABLE, 0x51), RIMONAKH_NO_EXPORTER);
+}
+
+int main(int argc, char **argv) {
+    if (argc == 2) {
+        uint8_t buffer[128];
+        uint32_t flags = strcmp(argv[1], "handler") == 0 ? RIMONAKH_HANDLER : RIMONAKH_CUSTOM;
+        fwrite(buffer, 1, write_reference(flags, buffer, sizeof buffer), stdout);
+    } else {
+        bytes();
+        calls();
+    }
+    return failed;
+}

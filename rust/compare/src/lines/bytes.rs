@@ -1,0 +1,349 @@
+//! Lines of bytes in hex.
+//!
+//!     # a comment, printed as it stands
+//!     H bytes     a call header (ORPCTHIS), and what is written of it into 34 bytes
+//!     R bytes     a reply header (ORPCTHAT), and what is written of it into 10 bytes
+//!     L bytes     a binding list: its answer, the length of the list at the front, bindings 0, 1 and 2 of each part
+//!     O bytes     a reference: its fields, its tail, binding 0 of each part, and whether it is written back the same
+//!     W bytes     a reference to be written: flags, the size of the buffer, then the list or the object data
+//!     M minor room    an ORPCTHIS of this minor version, and T room an ORPCTHAT, into a buffer of so many bytes
+//!     B           a list of N = 65,535 words, and the same one word short
+
+use super::{all_seen, hex, text, Answers, Arguments, Seen};
+use crate::decode::guid;
+use crate::model_side::Model;
+use crate::subject::Library;
+use model::bytes::{self as m, OrpcThis, Part, Reference};
+use rimonakh as r;
+use std::fmt::Write;
+use std::ops::Range;
+
+type Answer<T> = Result<T, u32>;
+
+/// Readers and writers of bytes.
+pub trait Codec {
+    fn read_this(s: &[u8]) -> Answer<OrpcThis>;
+    fn write_this(h: &OrpcThis, buffer: &mut [u8]) -> Answer<()>;
+    fn read_that(s: &[u8]) -> Answer<u32>;
+    fn write_that(flags: u32, buffer: &mut [u8]) -> Answer<()>;
+    fn list(s: &[u8]) -> Answer<()>;
+    fn front_length(s: &[u8]) -> usize;
+    fn list_binding(s: &[u8], part: Part, k: usize) -> Answer<Range<usize>>;
+    fn read_reference(s: &[u8]) -> Answer<(Reference, Range<usize>)>;
+    fn reference_binding(s: &[u8], part: Part, k: usize) -> Answer<Range<usize>>;
+    fn write_reference(r: &Reference, tail: &[u8], buffer: &mut [u8]) -> Answer<usize>;
+}
+
+impl Codec for Model {
+    fn read_this(s: &[u8]) -> Answer<OrpcThis> {
+        m::read_this(s)
+    }
+    fn write_this(h: &OrpcThis, buffer: &mut [u8]) -> Answer<()> {
+        m::write_this(h, buffer).map(|_| ())
+    }
+    fn read_that(s: &[u8]) -> Answer<u32> {
+        m::read_that(s)
+    }
+    fn write_that(flags: u32, buffer: &mut [u8]) -> Answer<()> {
+        m::write_that(flags, buffer).map(|_| ())
+    }
+    fn list(s: &[u8]) -> Answer<()> {
+        m::list(s).map(|_| ())
+    }
+    fn front_length(s: &[u8]) -> usize {
+        m::front_list(s).map_or(0, |l| l.length)
+    }
+    fn list_binding(s: &[u8], part: Part, k: usize) -> Answer<Range<usize>> {
+        m::list_binding(s, part, k)
+    }
+    fn read_reference(s: &[u8]) -> Answer<(Reference, Range<usize>)> {
+        m::read_reference(s)
+    }
+    fn reference_binding(s: &[u8], part: Part, k: usize) -> Answer<Range<usize>> {
+        m::reference_binding(s, part, k)
+    }
+    fn write_reference(r: &Reference, tail: &[u8], buffer: &mut [u8]) -> Answer<usize> {
+        m::write_reference(r, tail, buffer)
+    }
+}
+
+fn part(p: Part) -> r::Part {
+    match p {
+        Part::Strings => r::Part::Strings,
+        Part::Security => r::Part::Security,
+    }
+}
+
+/// Where a part of bytes stands in them.
+fn place(whole: &[u8], part: &[u8]) -> Range<usize> {
+    let from = part.as_ptr() as usize - whole.as_ptr() as usize;
+    from..from + part.len()
+}
+
+impl Codec for Library {
+    fn read_this(s: &[u8]) -> Answer<OrpcThis> {
+        let made = |h: r::OrpcThis| OrpcThis {
+            minor: h.minor,
+            flags: h.flags,
+            causality: h.causality.0,
+        };
+        r::OrpcThis::read(s).map(made).map_err(r::Error::number)
+    }
+    fn write_this(h: &OrpcThis, buffer: &mut [u8]) -> Answer<()> {
+        let header = r::OrpcThis {
+            minor: h.minor,
+            flags: h.flags,
+            causality: r::Guid(h.causality),
+        };
+        header.write(buffer).map_err(r::Error::number)
+    }
+    fn read_that(s: &[u8]) -> Answer<u32> {
+        r::OrpcThat::read(s)
+            .map(|h| h.flags)
+            .map_err(r::Error::number)
+    }
+    fn write_that(flags: u32, buffer: &mut [u8]) -> Answer<()> {
+        r::OrpcThat { flags }
+            .write(buffer)
+            .map_err(r::Error::number)
+    }
+    fn list(s: &[u8]) -> Answer<()> {
+        r::list::judge(s).map_err(r::Error::number)
+    }
+    fn front_length(s: &[u8]) -> usize {
+        r::list::front(s).map_or(0, <[u8]>::len)
+    }
+    fn list_binding(s: &[u8], p: Part, k: usize) -> Answer<Range<usize>> {
+        r::list::locate(s, part(p), k).map_err(r::Error::number)
+    }
+    fn read_reference(s: &[u8]) -> Answer<(Reference, Range<usize>)> {
+        let x = r::Reference::read(s).map_err(r::Error::number)?;
+        let tail = r::Reference::tail(s).map_err(r::Error::number)?;
+        let made = Reference {
+            flags: x.flags,
+            iid: x.iid.0,
+            block_flags: x.block.flags,
+            public: x.block.public,
+            oxid: x.block.oxid.0,
+            oid: x.block.oid.0,
+            ipid: x.block.ipid.0,
+            clsid: x.clsid.0,
+            extension: x.extension,
+            size: x.size,
+        };
+        Ok((made, place(s, tail)))
+    }
+    fn reference_binding(s: &[u8], p: Part, k: usize) -> Answer<Range<usize>> {
+        r::Reference::locate(s, part(p), k).map_err(r::Error::number)
+    }
+    fn write_reference(x: &Reference, tail: &[u8], buffer: &mut [u8]) -> Answer<usize> {
+        let block = r::Block {
+            flags: x.block_flags,
+            public: x.public,
+            oxid: r::Oxid(x.oxid),
+            oid: r::Oid(x.oid),
+            ipid: r::Guid(x.ipid),
+        };
+        let made = r::Reference {
+            flags: x.flags,
+            iid: r::Guid(x.iid),
+            block,
+            clsid: r::Guid(x.clsid),
+            extension: x.extension,
+            size: x.size,
+        };
+        made.write(tail, buffer).map_err(r::Error::number)
+    }
+}
+
+/// The answers of each reader and writer, as document 01 lists them: each occurs in the lines. `k` is binding k of a list, `K` of a
+/// reference.
+const ANSWERS: Answers = &[
+    (b'H', &[0, 13, 16, 17]),
+    (b'R', &[0, 13, 17]),
+    (b'L', &[0, 13, 14]),
+    (b'k', &[0, 13, 14, 24]),
+    (b'O', &[0, 13, 14]),
+    (b'K', &[0, 13, 14, 24]),
+    (b'W', &[0, 14, 13, 15]),
+    (b'M', &[0, 16, 15]),
+    (b'T', &[0, 15]),
+];
+
+/// The answer number, and the results: zeros where it is refused.
+fn zeroed<T: Default>(answer: Answer<T>) -> (u32, T) {
+    match answer {
+        Ok(value) => (0, value),
+        Err(number) => (number, T::default()),
+    }
+}
+
+pub fn run<C: Codec>(input: &[u8]) -> String {
+    let mut seen = Seen::new();
+    let mut out = String::new();
+    for line in input.split(|b| *b == b'\n').filter(|line| !line.is_empty()) {
+        let mut a = Arguments { rest: &line[1..] };
+        match line[0] {
+            b'H' => out += &call::<C>(&a.bytes(), &mut seen),
+            b'R' => out += &reply::<C>(&a.bytes(), &mut seen),
+            b'L' => out += &list::<C>(&a.bytes(), [0, 1, 2], &[0, 1, 2], &mut seen),
+            b'O' => out += &reference::<C>(&a.bytes(), &mut seen),
+            b'W' => out += &written::<C>(&a.bytes(), &mut seen),
+            b'M' => {
+                let (minor, mut buffer) = (a.number() as u16, vec![0xee; a.number() as usize]);
+                let mut causality = [0; 16];
+                (causality[0], causality[8]) = (1, 2);
+                let header = OrpcThis {
+                    minor,
+                    flags: 0,
+                    causality,
+                };
+                let (number, ()) = zeroed(C::write_this(&header, &mut buffer));
+                seen.insert((b'M', number));
+                out += &format!("{number} {}", hex(&buffer));
+            }
+            b'T' => {
+                let mut buffer = vec![0xee; a.number() as usize];
+                let (number, ()) = zeroed(C::write_that(1, &mut buffer));
+                seen.insert((b'T', number));
+                out += &format!("{number} {}", hex(&buffer));
+            }
+            b'B' => {
+                let largest = largest();
+                out += &list::<C>(&largest, [0, 32764, 32765], &[0, 1], &mut seen);
+                out.push('\n');
+                let short = &largest[..largest.len() - 2];
+                out += &list::<C>(short, [0, 32764, 32765], &[0, 1], &mut seen);
+            }
+            _ => out += &String::from_utf8_lossy(line),
+        }
+        out.push('\n');
+    }
+    all_seen(ANSWERS, &seen);
+    out
+}
+
+fn call<C: Codec>(s: &[u8], seen: &mut Seen) -> String {
+    let answer = C::read_this(s);
+    let none = OrpcThis {
+        minor: 0,
+        flags: 0,
+        causality: [0; 16],
+    };
+    let (number, h) = (answer.err().unwrap_or(0), answer.unwrap_or(none));
+    seen.insert((b'H', number));
+    let mut out = format!(
+        "{number} minor {} flags {:08x} causality {}",
+        h.minor,
+        h.flags,
+        text(&h.causality)
+    );
+    if number == 0 {
+        let mut buffer = [0xee; 34];
+        C::write_this(&h, &mut buffer).expect("room");
+        out += &format!(" written {}", hex(&buffer));
+    }
+    out
+}
+
+fn reply<C: Codec>(s: &[u8], seen: &mut Seen) -> String {
+    let (number, flags) = zeroed(C::read_that(s));
+    seen.insert((b'R', number));
+    let mut out = format!("{number} flags {flags:08x}");
+    if number == 0 {
+        let mut buffer = [0xee; 10];
+        C::write_that(flags, &mut buffer).expect("room");
+        out += &format!(" written {}", hex(&buffer));
+    }
+    out
+}
+
+fn list<C: Codec>(s: &[u8], strings: [usize; 3], security: &[usize], seen: &mut Seen) -> String {
+    let (number, ()) = zeroed(C::list(s));
+    seen.insert((b'L', number));
+    let mut out = format!("{number} length {}", C::front_length(s));
+    for (name, part, numbers) in [
+        ("strings", Part::Strings, &strings[..]),
+        ("security", Part::Security, security),
+    ] {
+        write!(out, " {name}").unwrap();
+        for k in numbers {
+            let (number, place) = zeroed(C::list_binding(s, part, *k));
+            seen.insert((b'k', number));
+            write!(out, " {number}:{}-{}", place.start, place.end).unwrap();
+        }
+    }
+    out
+}
+
+/// A list of N = 65,535 words: 32,765 string bindings with empty addresses and one security binding.
+fn largest() -> Vec<u8> {
+    let mut words: Vec<u16> = vec![65535, 65531];
+    words.extend([7, 0].repeat(32765));
+    words.extend([0, 10, 0xFFFF, 0, 0]);
+    words.iter().flat_map(|w| w.to_le_bytes()).collect()
+}
+
+fn reference<C: Codec>(s: &[u8], seen: &mut Seen) -> String {
+    let (number, (x, tail)) = zeroed(C::read_reference(s));
+    seen.insert((b'O', number));
+    let mut out = format!(
+        "{number} flags {:08x} iid {} block {:08x}",
+        x.flags,
+        text(&x.iid),
+        x.block_flags
+    );
+    if x.block_flags & 0x1000 != 0 {
+        out += " no-ping";
+    }
+    write!(
+        out,
+        " public {} oxid {:016x} oid {:016x}",
+        x.public, x.oxid, x.oid
+    )
+    .unwrap();
+    write!(out, " ipid {} clsid {}", text(&x.ipid), text(&x.clsid)).unwrap();
+    write!(out, " extension {} size {} tail", x.extension, x.size).unwrap();
+    write!(out, " {number}:{}-{}", tail.start, tail.end).unwrap();
+    for (name, part) in [("string", Part::Strings), ("security", Part::Security)] {
+        let (number, place) = zeroed(C::reference_binding(s, part, 0));
+        seen.insert((b'K', number));
+        write!(out, " {name} {number}:{}", hex(&s[place])).unwrap();
+    }
+    if number == 0 {
+        let mut buffer = vec![0xee; s.len() + 2];
+        let (number, length) = zeroed(C::write_reference(&x, &s[tail], &mut buffer));
+        let same = if &buffer[..s.len()] == s {
+            "same"
+        } else {
+            "differs"
+        };
+        write!(
+            out,
+            " written {number} length {length} {same} after it {}",
+            hex(&buffer[s.len()..])
+        )
+        .unwrap();
+    }
+    out
+}
+
+/// A reference with flags `s[0]` and the tail `s[2..]`, written into `s[1]` bytes.
+fn written<C: Codec>(s: &[u8], seen: &mut Seen) -> String {
+    let made = Reference {
+        flags: s[0].into(),
+        iid: guid(0x131, 0x4600_0000_0000_00C0),
+        block_flags: 0x1000,
+        public: 5,
+        oxid: 0x0102_0304_0506_0708,
+        oid: 0x1112_1314_1516_1718,
+        ipid: guid(0x4E60_2D7B_1C5A_3E8F, 0xAB89_6745_2301_F9A1),
+        clsid: guid(0x11CE_A5D6_0000_0303, 0x4600_0000_0000_00C0),
+        extension: 0,
+        size: 24,
+    };
+    let mut buffer = vec![0xee; s[1].into()];
+    let (number, length) = zeroed(C::write_reference(&made, &s[2..], &mut buffer));
+    seen.insert((b'W', number));
+    format!("{number} length {length} {}", hex(&buffer))
+}

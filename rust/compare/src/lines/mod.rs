@@ -1,0 +1,161 @@
+//! The stored lines, `rust/compare/lines`: in `*.in` one call or byte input to a line, a section for each edge of document 01; in
+//! `*.out` what the model prints of them. Every comparison demands that model and library still print that; `compare make`
+//! writes the outputs anew, from the model alone.
+
+mod bytes;
+mod table;
+
+use crate::decode::guid;
+use crate::model_side::Model;
+use crate::subject::Library;
+use crate::Differs;
+use std::collections::BTreeSet;
+use std::fs;
+use std::path::PathBuf;
+
+/// What the line after its letter holds.
+struct Arguments<'a> {
+    rest: &'a [u8],
+}
+
+impl<'a> Arguments<'a> {
+    /// The next decimal number; 0 where there is none, the largest where it is larger.
+    fn number(&mut self) -> u64 {
+        let spaces = self.rest.iter().take_while(|b| **b == b' ').count();
+        let rest = &self.rest[spaces..];
+        let digits = rest.iter().take_while(|b| b.is_ascii_digit()).count();
+        self.rest = &rest[digits..];
+        rest[..digits].iter().fold(0u64, |n, d| {
+            let grown = n
+                .checked_mul(10)
+                .and_then(|n| n.checked_add((d - b'0') as u64));
+            grown.unwrap_or(u64::MAX)
+        })
+    }
+
+    /// The next word of letters, digits and `_`.
+    fn name(&mut self) -> &'a [u8] {
+        let spaces = self.rest.iter().take_while(|b| **b == b' ').count();
+        let rest = &self.rest[spaces..];
+        let length = rest.iter().take_while(|b| **b != b' ').count();
+        self.rest = &rest[length..];
+        &rest[..length]
+    }
+
+    fn narrow(&mut self) -> u32 {
+        self.number() as u32
+    }
+
+    /// A GUID by its two halves.
+    fn guid(&mut self) -> model::Guid {
+        let (low, high) = (self.number(), self.number());
+        guid(low, high)
+    }
+
+    /// So many numbers, of which the first number is how many.
+    fn numbers(&mut self) -> Vec<u64> {
+        (0..self.number()).map(|_| self.number()).collect()
+    }
+
+    /// The hex digits that are left, as bytes.
+    fn bytes(&self) -> Vec<u8> {
+        let digits: Vec<u8> = self
+            .rest
+            .iter()
+            .filter_map(|b| {
+                (*b as char)
+                    .to_digit(16)
+                    .filter(|_| !b.is_ascii_uppercase())
+            })
+            .map(|d| d as u8)
+            .collect();
+        digits.chunks_exact(2).map(|d| d[0] * 16 + d[1]).collect()
+    }
+}
+
+/// What a line asks, by its letter, and an answer to it.
+type Seen = BTreeSet<(u8, u32)>;
+
+/// The answers that the documents list for each letter.
+type Answers = &'static [(u8, &'static [u32])];
+
+/// Demands that every listed answer occurred.
+fn all_seen(answers: Answers, seen: &Seen) {
+    for (letter, numbers) in answers {
+        for number in *numbers {
+            let (letter, number) = (*letter, *number);
+            assert!(
+                seen.contains(&(letter, number)),
+                "no line {} is answered by {number}",
+                letter as char
+            );
+        }
+    }
+}
+
+fn hex(bytes: &[u8]) -> String {
+    bytes.iter().map(|b| format!("{b:02x}")).collect()
+}
+
+/// A GUID in its usual text.
+fn text(g: &model::Guid) -> String {
+    let mut front = [g[3], g[2], g[1], g[0], g[5], g[4], g[7], g[6]].map(|b| format!("{b:02x}"));
+    front[4].insert(0, '-');
+    front[6].insert(0, '-');
+    format!(
+        "{{{}-{}-{}}}",
+        front.concat(),
+        hex(&g[8..10]),
+        hex(&g[10..])
+    )
+}
+
+fn stored(name: &str) -> PathBuf {
+    PathBuf::from(env!("CARGO_MANIFEST_DIR"))
+        .join("lines")
+        .join(name)
+}
+
+const INPUTS: [&str; 2] = ["table", "bytes"];
+
+fn printed(name: &str, input: &[u8], library: bool) -> String {
+    match (name, library) {
+        ("table", false) => table::run::<Model>(input),
+        ("table", true) => table::run::<Library>(input),
+        (_, false) => bytes::run::<Model>(input),
+        (_, true) => bytes::run::<Library>(input),
+    }
+}
+
+/// Runs the stored inputs through the library and compares with the stored outputs.
+pub fn compare() -> Result<(), Differs> {
+    for name in INPUTS {
+        let input = fs::read(stored(&format!("{name}.in"))).expect("the stored input");
+        let demanded =
+            fs::read_to_string(stored(&format!("{name}.out"))).expect("the stored output");
+        for (side, library) in [("model", false), ("library", true)] {
+            let answered = printed(name, &input, library);
+            if answered != demanded {
+                let same = answered
+                    .lines()
+                    .zip(demanded.lines())
+                    .take_while(|(a, b)| a == b)
+                    .count();
+                println!("FAILED: {side}, {name}.out, line {}", same + 1);
+                println!("  answered {:?}", answered.lines().nth(same));
+                println!("  demanded {:?}", demanded.lines().nth(same));
+                return Err(Differs);
+            }
+        }
+        println!("{name}.in: {} lines", demanded.lines().count());
+    }
+    Ok(())
+}
+
+/// Writes the stored outputs anew.
+pub fn make() {
+    for name in INPUTS {
+        let input = fs::read(stored(&format!("{name}.in"))).expect("the stored input");
+        fs::write(stored(&format!("{name}.out")), printed(name, &input, false)).expect("written");
+    }
+}
