@@ -195,7 +195,7 @@ uint32_t rimonakh_that_write(uint32_t flags, uint8_t *buffer, size_t buffer_len)
 
 /* ---- binding lists */
 
-/* Whether bytes are one whole binding list: 0; 13; 14, also for bytes left over. */
+/* Whether bytes are one whole binding list: 0; 13; 14, also for bytes left over. Four zero bytes are one, with two empty parts. */
 uint32_t rimonakh_list_answer(const uint8_t *bytes, size_t bytes_len);
 
 /* The same of the list at the front of bytes; the bytes after it are not judged. */

@@ -1,7 +1,8 @@
 -- Laws of an answer 0, of where a binding stands, and of a list that stands before other bytes.
 use Prim.Native.Nat.{ℕ, suc, zero, _+_, _-_, _*_, _≤_}
 use mathlib.Core.Path.{_≡_, refl, sym, ap, _∙_}
-use mathlib.Core.Bool.{Bool, true, false, not, _&&_}
+use mathlib.Core.Bool.{Bool, true, false, not, _&&_, _||_}
+use mathlib.Core.Logic.{_⊎_, inl, inr, ⊎-elim}
 use mathlib.Core.List.{List, [], _∷_, _++_}
 use native.Mathlib.Omega.{arith}
 use borrow.Author.Tests.{eqb-true, ltb-false, le-ltb, leb-true, not-false}
@@ -11,7 +12,7 @@ use lib.Seq.{length-take-le, take-append-seam}
 use Rattle.kinds.specs.Refusals.{order}
 use Rattle.kinds.proofs.Refusing.{true-false, by-test, passed, passed-on}
 use Rattle.fields.proofs.Laws.{field-front}
-use Rattle.bindings.specs.Bindings.{words, firstBinding, bindingsUpTo, bindingsOf, isPart, count, split, partStart, partSize, partWords, twoParts, listLength, frontAnswer, listAnswer, place, bindingAt}
+use Rattle.bindings.specs.Bindings.{words, firstBinding, bindingsUpTo, bindingsOf, isPart, count, split, partStart, partSize, partWords, isBare, twoParts, listLength, frontAnswer, listAnswer, place, bindingAt}
 use Rattle.bindings.specs.declared.Part.{Part}
 use Rattle.bindings.specs.declared.Part.the-variants.{Strings, Security}
 use Rattle.bindings.specs.declared.Place.{Place}
@@ -23,28 +24,56 @@ and-true : (a b : Bool) → (a && b) ≡ true → (a ≡ true) × (b ≡ true)
 and-true true b e = (refl, e)
 and-true false b e = absurd (true-false (sym e))
 
+-- N and S of a list without words
+pub bare : (s : List ℕ) → isBare s ≡ true → (count s ≡ 0) × (split s ≡ 0)
+bare s e = let a = and-true _ _ e in (eqb-true (count s) 0 (a .0), eqb-true (split s) 0 (a .1))
+
+refuted : (b : Bool) → (b ≡ true → ⊥) → b ≡ false
+refuted true h = absurd (h refl)
+refuted false h = refl
+
+-- a list with words, or with an S
+pub not-bare : (s : List ℕ) → (count s ≡ 0 → split s ≡ 0 → ⊥) → isBare s ≡ false
+not-bare s h = refuted (isBare s) (λ e. let z = bare s e in h (z .0) (z .1))
+
 -- the list at the front of s is accepted
 pub record Front (s : List ℕ) : Type 0 where
   pub enough : listLength s ≤ length s
   pub parts : twoParts s ≡ true
   pub below : split s ≤ count s
-  pub part : (p : Part) → isPart p (partWords s p) ≡ true
+  pub part : isBare s ≡ false → (p : Part) → isPart p (partWords s p) ≡ true
 
 each-part : (s : List ℕ) → isPart Strings (partWords s Strings) ≡ true → isPart Security (partWords s Security) ≡ true → (p : Part) → isPart p (partWords s p) ≡ true
 each-part s f g Strings = f
 each-part s f g Security = g
 
+-- a list has no words, or two parts
+or-cases : (a b : Bool) → (a || b) ≡ true → (a ≡ true) ⊎ (b ≡ true)
+or-cases true b e = inl refl
+or-cases false b e = inr e
+
 front-held : (s : List ℕ) → listLength s ≤ length s → twoParts s ≡ true → Front s
 unfolding twoParts
 front-held s h e =
-    let a = and-true _ _ e in
+    ⊎-elim
+    (λ n.
+    let z = bare s n in
+    record {
+      enough = h;
+      parts = e;
+      below = omega arith;
+      part = λ w. absurd (true-false (sym n ∙ w));
+    })
+    (λ t.
+    let a = and-true _ _ t in
     let b = and-true _ _ (a .1) in
     record {
       enough = h;
       parts = e;
       below = leb-true _ _ (a .0);
-      part = each-part s (b .0) (b .1);
-    }
+      part = λ w. each-part s (b .0) (b .1);
+    })
+    (or-cases (isBare s) _ e)
 
 pub front : (s : List ℕ) → frontAnswer s ≡ 0 → Front s
 unfolding frontAnswer

@@ -1,7 +1,7 @@
 -- The binding list, DUALSTRINGARRAY (document 01, "Reference bytes"; 000, section 2.2.19): N and S, then N words, of which the first S
 -- are the string part and the others the security part.
 use Prim.Native.Nat.{ℕ, suc, zero, _+_, _*_, _-_}
-use mathlib.Core.Bool.{Bool, true, false, cond, not, _&&_}
+use mathlib.Core.Bool.{Bool, true, false, cond, not, _&&_, _||_}
 use mathlib.Core.List.{List, [], _∷_, _++_}
 use lib.ListN.{length, take, drop}
 use lib.Dec.{eqb, ltb, leb}
@@ -78,9 +78,13 @@ partSize s Security = count s - split s
 abbrev pub partWords : List ℕ → Part → List ℕ
 partWords s p = words s (partStart s p) (partSize s p)
 
--- both parts are parts; S is not above N
+-- N and S are 0: two empty parts without a word, four bytes in all (document 02, request 2)
+abbrev pub isBare : List ℕ → Bool
+isBare s = eqb (count s) 0 && eqb (split s) 0
+
+-- both parts are parts, and S is not above N; or there is no word at all
 unfoldable pub twoParts : List ℕ → Bool
-twoParts s = leb (split s) (count s) && (isPart Strings (partWords s Strings) && isPart Security (partWords s Security))
+twoParts s = isBare s || (leb (split s) (count s) && (isPart Strings (partWords s Strings) && isPart Security (partWords s Security)))
 
 -- the length of the list at the front of s, in bytes
 unfoldable pub listLength : List ℕ → ℕ

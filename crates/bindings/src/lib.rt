@@ -88,7 +88,7 @@ fn is_part(s: &[u8], at: usize, n: usize, p: Part) -> bool
     false
 }
 
-// Whether both parts are parts, where the list's words are all there.
+// Whether both parts are parts, where the list's words are all there. Without words, N and S are 0.
 fn two_parts(s: &[u8]) -> bool
     requires { ⌜ listLength (now s) ≤ length (now s) ⌝ }
     ensures { λ r. ⌜ r ≡ twoParts (now (s .entry)) ⌝ }
@@ -97,6 +97,9 @@ fn two_parts(s: &[u8]) -> bool
     let k = fields::read_u16(s, 2) as usize;
     if n < k {
         return false;
+    }
+    if n == 0 {
+        return true;
     }
     if !is_part(s, 4, k, Part::Strings) {
         return false;

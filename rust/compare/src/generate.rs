@@ -8,8 +8,11 @@ use model::Guid;
 
 // ---- bytes
 
-/// A binding list that keeps the rules.
+/// A binding list that keeps the rules; often the one without words.
 fn proper_list(random: &mut Random) -> Vec<u8> {
+    if random.once_in(5) {
+        return vec![0; 4];
+    }
     let mut strings: Vec<u16> = Vec::new();
     let mut security: Vec<u16> = Vec::new();
     for _ in 0..random.below(4) {

@@ -71,6 +71,14 @@ pub fn front_list(s: &[u8]) -> Result<List, u32> {
     if s.len() < length {
         return Err(13);
     }
+    if n == 0 && split == 0 {
+        // two empty parts without a word
+        return Ok(List {
+            length,
+            strings: vec![],
+            security: vec![],
+        });
+    }
     if split > n {
         return Err(14);
     }

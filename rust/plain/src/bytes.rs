@@ -78,7 +78,9 @@ pub fn judge_list(s: &[u8]) -> Result<(), u32> {
     if s.len() < end {
         return Err(13);
     }
-    if end < split || !is_part(&s[4..split], 1) || !is_part(&s[split..end], 2) || end < s.len() {
+    let bare = end == 4 && split == 4;
+    let parted = |s: &[u8]| is_part(&s[4..split], 1) && is_part(&s[split..end], 2);
+    if end < split || !(bare || parted(s)) || end < s.len() {
         return Err(14);
     }
     Ok(())
