@@ -55,6 +55,7 @@ enum {
     RIMONAKH_EXTENSIONS = 17, /* extensions present */
     RIMONAKH_SETS_USED_UP = 18, /* the set numbers are used up */
     RIMONAKH_LONG_LIST = 19, /* a binding list of more than 512 bytes */
+    RIMONAKH_NIL_IDENTIFIER = 22, /* the OXID, OID or IPID of a reference is zero */
     RIMONAKH_NO_BINDING = 24 /* the list has no binding of this number */
 };
 
@@ -212,13 +213,13 @@ rimonakh_place rimonakh_list_security_binding(const uint8_t *bytes, size_t bytes
 
 /* ---- references */
 
-/* Whether bytes are a reference: 0; 13; 14. */
+/* Whether bytes are a reference: 0; 13; 14; 22. */
 uint32_t rimonakh_reference_answer(const uint8_t *bytes, size_t bytes_len);
 
-/* Reads the fixed fields of a reference. 13; 14. */
+/* Reads the fixed fields of a reference. 13; 14; 22. */
 rimonakh_read_reference rimonakh_reference_read(const uint8_t *bytes, size_t bytes_len);
 
-/* Where the binding list of a reference stands in bytes, or the object data of a custom one. 13; 14. */
+/* Where the binding list of a reference stands in bytes, or the object data of a custom one. 13; 14; 22. */
 rimonakh_place rimonakh_reference_tail(const uint8_t *bytes, size_t bytes_len);
 
 /* Where string binding k, from 0, of a reference stands in bytes. The reference's refusals; 24, also for a custom one. */
@@ -230,7 +231,7 @@ rimonakh_place rimonakh_reference_security_binding(const uint8_t *bytes, size_t 
 /* Writes a reference at the front of buffer, keeps the rest, and answers its length. Flags (the form); IID; the block's flags,
  * public references, OXID, OID and IPID; CLSID; extension size and size; then tail, which is read: the binding list, or the
  * object data of a custom reference. Numbers that the form does not have are not written. buffer is written. 14 for the flags;
- * the list's refusals; 15. */
+ * the list's refusals; 22; 15. */
 rimonakh_written rimonakh_reference_write(uint32_t flags, uint64_t iid_low, uint64_t iid_high, uint32_t block_flags,
                                           uint32_t public_refs, uint64_t oxid, uint64_t oid, uint64_t ipid_low,
                                           uint64_t ipid_high, uint64_t clsid_low, uint64_t clsid_high,

@@ -3,12 +3,12 @@ use mathlib.Core.Path.{refl}
 use Rattle.kinds.specs.Refusals.{order}
 use Rattle.fields.specs.Fields.{number as bytesNumber, field}
 use Rattle.bindings.specs.Bindings.{words, throughZero, firstBinding, bindingsUpTo, bindingsOf, joined, sameWords, isPart, twoParts, listLength, frontAnswer, listAnswer}
-use Rattle.references.specs.References.{fixedSize, tailAnswer, referenceAnswer}
+use Rattle.references.specs.References.{fixedSize, namesNil, tailAnswer, layoutAnswer, referenceAnswer}
 use Rattle.columns.specs.Lists.{keep, some, every, firstOr, distinct, holding}
 use Rattle.rules.specs.Sound.{sound}
 use Rattle.rules.specs.Rules.{refusals, number, next, results, refused, done, reply}
 use Rattle.history.specs.Cases.{emptyList, signed, oneOfEach, cases, CasesHold}
 
 pub cases-hold : CasesHold
-unfolding cases emptyList signed oneOfEach order bytesNumber field words throughZero firstBinding bindingsUpTo bindingsOf joined sameWords isPart twoParts listLength frontAnswer listAnswer fixedSize tailAnswer referenceAnswer keep some every firstOr distinct holding sound refusals number next results refused done reply
+unfolding cases emptyList signed oneOfEach order bytesNumber field words throughZero firstBinding bindingsUpTo bindingsOf joined sameWords isPart twoParts listLength frontAnswer listAnswer fixedSize namesNil tailAnswer layoutAnswer referenceAnswer keep some every firstOr distinct holding sound refusals number next results refused done reply
 cases-hold = refl

@@ -12,7 +12,7 @@ use Rattle.kinds.specs.Refusals.{Row, _gives_, passes, differ, order}
 use Rattle.kinds.proofs.Refusing.{by-test}
 use Rattle.bindings.specs.Bindings.{frontAnswer, listAnswer}
 use Rattle.fields.specs.Fields.{field}
-use Rattle.references.specs.References.{isCustom, tailAnswer, referenceAnswer}
+use Rattle.references.specs.References.{isCustom, tailAnswer, layoutAnswer, referenceAnswer}
 use Rattle.columns.proofs.Tests.{below-or-not}
 use Rattle.rules.specs.Entries.{Entries}
 use Rattle.rules.specs.Calls.{Call, reset, enterExporter, removeExporter, enterObject, enterInterface, add, release, simplePing, complexPing, clock, resolve, census, members, nextStop}
@@ -79,10 +79,15 @@ tail-answer : (f : ℕ) (s : List ℕ) → tailAnswer f s ≡ 9 → ⊥
 unfolding tailAnswer
 tail-answer f s = by-test (λ (n : ℕ). n ≡ 9 → ⊥) (isCustom f) 0 (listAnswer s) (λ t. omega arith) (λ t. list-answer s)
 
+-- of the layout of a reference
+layout-answer : (s : List ℕ) → layoutAnswer s ≡ 9 → ⊥
+unfolding layoutAnswer
+layout-answer s = not-nine (other refl refl (other refl refl (other refl refl (other refl refl (passing _ (tail-answer (field s 4 4) _) none)))))
+
 -- of a reference
 reference-answer : (s : List ℕ) → referenceAnswer s ≡ 9 → ⊥
 unfolding referenceAnswer
-reference-answer s = not-nine (other refl refl (other refl refl (other refl refl (other refl refl (passing _ (tail-answer (field s 4 4) _) none)))))
+reference-answer s = not-nine (passing (layoutAnswer s) (layout-answer s) (other refl refl none))
 
 -- ---- the calls
 

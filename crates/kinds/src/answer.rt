@@ -55,5 +55,8 @@ pub const SETS_USED_UP: u32 = 18;
 // A binding list of more than 512 bytes.
 pub const LONG_LIST: u32 = 19;
 
+// An OXID, OID or IPID of a reference is zero.
+pub const NIL_IDENTIFIER: u32 = 22;
+
 // A list has no binding of the number asked for.
 pub const NO_BINDING: u32 = 24;

@@ -39,6 +39,8 @@ fn refused(number: u32) {
         print::text(b": the bytes end before a field does");
     } else if number == answer::LAYOUT {
         print::text(b": a layout rule is broken");
+    } else if number == answer::NIL_IDENTIFIER {
+        print::text(b": its OXID, OID or IPID is zero");
     }
     print::end_line();
 }

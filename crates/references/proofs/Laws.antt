@@ -15,7 +15,7 @@ use Rattle.bindings.specs.Bindings.{listAnswer, bindingAt, refusal, bytesAt}
 use Rattle.bindings.specs.declared.Part.{Part}
 use Rattle.bindings.specs.declared.Place.{Place}
 use Rattle.bindings.proofs.Laws.{Within, within-binding}
-use Rattle.references.specs.References.{signature, byForm, isForm, isCustom, fixedSize, blockBytes, headerBytes, bodyBytes, referenceBytes, tailAnswer, referenceAnswer, referenceAt, tailPlace, tailOf, moved, referenceBinding, writeAnswer}
+use Rattle.references.specs.References.{signature, byForm, isForm, isCustom, fixedSize, blockBytes, headerBytes, bodyBytes, referenceBytes, blockAt, namesNil, tailAnswer, layoutAnswer, referenceAnswer, referenceAt, tailPlace, tailOf, moved, referenceBinding, writeAnswer}
 use Rattle.references.specs.declared.Block.{Block}
 use Rattle.references.specs.declared.Reference.{Reference}
 
@@ -80,12 +80,14 @@ pub record Accepted (s : List ℕ) : Type 0 where
   pub form : isForm (field s 4 4) ≡ true
   pub fixed : fixedSize (field s 4 4) ≤ length s
   pub tail : tailAnswer (field s 4 4) (drop (fixedSize (field s 4 4)) s) ≡ 0
+  pub named : namesNil (field s 4 4) (blockAt s 24) ≡ false
 
 pub accepted : (s : List ℕ) → referenceAnswer s ≡ 0 → Accepted s
-unfolding referenceAnswer
+unfolding referenceAnswer layoutAnswer
 accepted s done =
     let f = field s 4 4 in
-    let long = passed (ltb (length s) 24) 13 _ (omega arith) done in
+    let layout = passed-on (layoutAnswer s) _ done in
+    let long = passed (ltb (length s) 24) 13 _ (omega arith) (layout .0) in
     let signed = passed (differ (field s 0 4) signature) 14 _ (omega arith) (long .1) in
     let form = passed (not (isForm f)) 14 _ (omega arith) (signed .1) in
     let fixed = passed (ltb (length s) (fixedSize f)) 13 _ (omega arith) (form .1) in
@@ -96,6 +98,7 @@ accepted s done =
       form = not-false _ (form .0);
       fixed = ltb-false _ _ (fixed .0);
       tail = tail .0;
+      named = passed (namesNil f (blockAt s 24)) 22 _ (omega arith) (layout .1) .0;
     }
 
 -- r can be written with the tail t into n bytes
@@ -103,6 +106,7 @@ pub record Writable (r : Reference) (t : List ℕ) (n : ℕ) : Type 0 where
   pub form : isForm (r .flags) ≡ true
   pub least : 48 ≤ fixedSize (r .flags)
   pub tail : tailAnswer (r .flags) t ≡ 0
+  pub named : namesNil (r .flags) (r .block) ≡ false
   pub room : fixedSize (r .flags) + length t ≤ n
 
 pub writable : (r : Reference) (t : List ℕ) (n : ℕ) → writeAnswer r t n ≡ 0 → Writable r t n
@@ -110,11 +114,13 @@ unfolding writeAnswer
 writable r t n done =
     let form = passed (not (isForm (r .flags))) 14 _ (omega arith) done in
     let tail = passed-on (tailAnswer (r .flags) t) _ (form .1) in
-    let room = passed (ltb n (fixedSize (r .flags) + length t)) 15 _ (omega arith) (tail .1) in
+    let named = passed (namesNil (r .flags) (r .block)) 22 _ (omega arith) (tail .1) in
+    let room = passed (ltb n (fixedSize (r .flags) + length t)) 15 _ (omega arith) (named .1) in
     record {
       form = not-false _ (form .0);
       least = size-least _ (not-false _ (form .0));
       tail = tail .0;
+      named = named .0;
       room = ltb-false _ _ (room .0);
     }
 
@@ -122,6 +128,11 @@ writable r t n done =
 pub flags-at : (s : List ℕ) → isForm (field s 4 4) ≡ true → referenceAt s .flags ≡ field s 4 4
 unfolding referenceAt
 flags-at s h = by-form (field s 4 4) h (λ e. rw e) (λ e. rw e) (λ e. rw e)
+
+-- and nil identifiers where the bytes do
+pub named-at : (s : List ℕ) → isForm (field s 4 4) ≡ true → namesNil (referenceAt s .flags) (referenceAt s .block) ≡ namesNil (field s 4 4) (blockAt s 24)
+unfolding referenceAt namesNil
+named-at s h = by-form (field s 4 4) h (λ e. rw e) (λ e. rw e) (λ e. rw e)
 
 -- the OXID of a reference that is not custom
 pub oxid-at : (s : List ℕ) → isForm (field s 4 4) ≡ true → (field s 4 4 ≡ 4 → ⊥) → referenceAt s .block .oxid .0 ≡ field s 32 8

@@ -2,7 +2,7 @@
 -- reference are its bytes. One pair of statements covers the forms.
 use Prim.Native.Nat.{ℕ, _+_, _-_, _^_, _<_, _≤_}
 use mathlib.Core.Path.{_≡_, refl, sym, ap, _∙_}
-use mathlib.Core.Bool.{true}
+use mathlib.Core.Bool.{true, false}
 use mathlib.Core.List.{List, _++_, append-assoc}
 use native.Mathlib.Omega.{arith}
 use native.Mathlib.Nat.{add-zero}
@@ -13,11 +13,11 @@ use Rattle.kinds.specs.Refusals.{order}
 use Rattle.kinds.proofs.Refusing.{eq-differ, accepted-by}
 use Rattle.fields.specs.Fields.{field, encode, guidAt, guidBytes, stored, Bytes}
 use Rattle.fields.proofs.Laws.{GuidFits, part-of, field-part, guid-part, field-then, field-next, guid-then, written-front}
-use Rattle.references.specs.References.{signature, isForm, fixedSize, blockBytes, headerBytes, bodyBytes, referenceBytes, formed, blockAt, referenceAt, tailAnswer, referenceAnswer, refused, readReference, tailOf, writeAnswer}
+use Rattle.references.specs.References.{signature, isForm, fixedSize, blockBytes, headerBytes, bodyBytes, referenceBytes, formed, blockAt, referenceAt, namesNil, tailAnswer, layoutAnswer, referenceAnswer, refused, readReference, tailOf, writeAnswer}
 use Rattle.references.specs.declared.Block.{Block}
 use Rattle.references.specs.declared.Reference.{Reference}
 use Rattle.references.specs.declared.ReadReference.{ReadReference}
-use Rattle.references.proofs.Laws.{by-form, length-header, length-body, length-reference, Accepted, accepted, writable, flags-at, tail-accepted, tail-length}
+use Rattle.references.proofs.Laws.{by-form, length-header, length-body, length-reference, Accepted, accepted, writable, flags-at, named-at, tail-accepted, tail-length}
 
 -- ---- fields that fit their widths, as the machine's numbers do
 
@@ -143,20 +143,30 @@ module _ (s : List ℕ) (r : Reference) (t : List ℕ) (f : Fits r) (form : isFo
         field-part s x 24 24 body room 20 4 (r .size) (omega arith) refl (f .size),
       ))
 
-  laid-answer : tailAnswer (r .flags) t ≡ 0 → referenceAnswer s ≡ 0
-  unfolding referenceAnswer order
-  laid-answer tail =
+  laid-named : namesNil (r .flags) (r .block) ≡ false → namesNil (r .flags) (blockAt s 24) ≡ false
+  unfolding namesNil referenceAt formed
+  laid-named named =
       let h = headed in
-      simp (le-ltb _ _ (l .long), eq-differ _ _ (h .signed), h .flags, form, le-ltb _ _ (l .room), l .rest, tail)
+      let block = ap (λ (x : Reference). x .block) laid-value in
+      by-form (r .flags) form
+      (λ e. let b : blockAt s 24 ≡ r .block = rw (h .flags, e) at block in ap (namesNil (r .flags)) b ∙ named)
+      (λ e. let b : blockAt s 24 ≡ r .block = rw (h .flags, e) at block in ap (namesNil (r .flags)) b ∙ named)
+      (λ e. rw e)
+
+  laid-answer : tailAnswer (r .flags) t ≡ 0 → namesNil (r .flags) (r .block) ≡ false → referenceAnswer s ≡ 0
+  unfolding referenceAnswer layoutAnswer order
+  laid-answer tail named =
+      let h = headed in
+      simp (laid-named named, le-ltb _ _ (l .long), eq-differ _ _ (h .signed), h .flags, form, le-ltb _ _ (l .room), l .rest, tail)
 
 -- the bytes of a reference and its tail are read as the two
-pub reference-read-back : (r : Reference) (t : List ℕ) → Fits r → isForm (r .flags) ≡ true → tailAnswer (r .flags) t ≡ 0
+pub reference-read-back : (r : Reference) (t : List ℕ) → Fits r → isForm (r .flags) ≡ true → tailAnswer (r .flags) t ≡ 0 → namesNil (r .flags) (r .block) ≡ false
     → (readReference (referenceBytes r t) ≡ record { answer = 0; reference = formed r }) × (tailOf (referenceBytes r t) ≡ t)
 unfolding readReference
-reference-read-back r t f form tail =
+reference-read-back r t f form tail named =
     let s = referenceBytes r t in
     let l = laid r t form in
-    let done = laid-answer s r t f form l tail in
+    let done = laid-answer s r t f form l tail named in
     (simp (eq-eqb _ _ done, laid-value s r t f form l), tail-accepted s done ∙ (rw (headed s r t f form l .flags) (l .rest)))
 
 -- ---- from the reader to the layout
@@ -215,7 +225,7 @@ write-then-read r t b f done =
     let size = length-reference r t (w .form) in
     let x = referenceBytes r t in
     let l : length x ≤ length b = omega arith in
-    rw (written-front b x l, take-at x (drop (length x) b) _ size) (reference-read-back r t f (w .form) (w .tail))
+    rw (written-front b x l, take-at x (drop (length x) b) _ size) (reference-read-back r t f (w .form) (w .tail) (w .named))
 
 -- what was read is accepted by the writer, and written as the same bytes
 pub read-then-write : (s b : List ℕ) (r : Reference) → Bytes s → readReference s ≡ record { answer = 0; reference = r } → length s ≤ length b
@@ -226,5 +236,6 @@ read-then-write s b r bytes e l =
     let a = accepted s (read .0) in
     let flags : r .flags ≡ field s 4 4 = ap (λ (x : Reference). x .flags) (sym (read .1)) ∙ flags-at s (a .form) in
     let tail : tailAnswer (field s 4 4) (tailOf s) ≡ 0 = rw (tail-accepted s (read .0)) (a .tail) in
+    let named : namesNil (field s 4 4) (r .block) ≡ false = rw (← flags, ← read .1) (named-at s (a .form) ∙ a .named) in
     let room : fixedSize (field s 4 4) + length (tailOf s) ≤ length b = rw (tail-length s (read .0)) l in
-    (simp (flags, a .form, tail, le-ltb _ _ room), rw (← reference-bytes-back s r bytes e) (written-front b s l))
+    (simp (named, flags, a .form, tail, le-ltb _ _ room), rw (← reference-bytes-back s r bytes e) (written-front b s l))

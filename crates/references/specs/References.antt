@@ -1,6 +1,6 @@
 -- Object references, OBJREF, in the standard, handler and custom forms (document 01, "Reference bytes"; 000, section 2.2.18).
 use Prim.Native.Nat.{ℕ, _+_, _/_, _%_}
-use mathlib.Core.Bool.{Bool, cond, not, _||_}
+use mathlib.Core.Bool.{Bool, cond, not, _&&_, _||_}
 use mathlib.Core.List.{List, [], _∷_, _++_}
 use lib.ListN.{length, drop}
 use lib.Dec.{eqb, ltb}
@@ -108,6 +108,16 @@ referenceAt s =
     (custom (guidAt s 8) (guidAt s 24) (field s 40 4) (field s 44 4))
     noReference
 
+-- ---- nil identifiers (document 02, request 7)
+
+-- an OXID, OID or IPID of zero
+abbrev pub hasNil : Block → Bool
+hasNil b = eqb (b .oxid .0) 0 || (eqb (b .oid .0) 0 || (eqb (b .ipid .low) 0 && eqb (b .ipid .high) 0))
+
+-- a reference of these flags with this block names a nil identifier; the custom form has no block
+unfoldable pub namesNil : ℕ → Block → Bool
+namesNil f b = not (isCustom f) && hasNil b
+
 -- ---- reading
 
 -- the list's refusals; object data has none
@@ -115,8 +125,8 @@ unfoldable pub tailAnswer : ℕ → List ℕ → ℕ
 tailAnswer f t = cond (isCustom f) 0 (listAnswer t)
 
 -- under 24 bytes 13; signature 14; flags 14; fixed fields short 13; then the list: short 13, layout 14, bytes left over 14
-unfoldable pub referenceAnswer : List ℕ → ℕ
-referenceAnswer s =
+unfoldable pub layoutAnswer : List ℕ → ℕ
+layoutAnswer s =
     order
     (ltb (length s) 24 gives 13
     ∷ differ (field s 0 4) signature gives 14
@@ -124,6 +134,10 @@ referenceAnswer s =
     ∷ ltb (length s) (fixedSize (field s 4 4)) gives 13
     ∷ passes (tailAnswer (field s 4 4) (drop (fixedSize (field s 4 4)) s))
     ∷ [])
+
+-- then a nil identifier 22
+unfoldable pub referenceAnswer : List ℕ → ℕ
+referenceAnswer s = order (passes (layoutAnswer s) ∷ namesNil (field s 4 4) (blockAt s 24) gives 22 ∷ [])
 
 abbrev pub refused : ℕ → ReadReference
 refused n = record { answer = n; reference = noReference }
@@ -155,12 +169,13 @@ referenceBinding s p k =
 
 -- ---- writing a reference and its tail into a buffer of n bytes
 
--- bad flags 14; the list's refusals; 15
+-- bad flags 14; the list's refusals; a nil identifier 22; 15
 unfoldable pub writeAnswer : Reference → List ℕ → ℕ → ℕ
 writeAnswer r t n =
     order
     (not (isForm (r .flags)) gives 14
     ∷ passes (tailAnswer (r .flags) t)
+    ∷ namesNil (r .flags) (r .block) gives 22
     ∷ ltb n (fixedSize (r .flags) + length t) gives 15
     ∷ [])
 

@@ -10,7 +10,7 @@ ghost use Prim.Native.Nat.{_≤_};
 ghost use lib.ListN.{length};
 ghost use Rattle.bindings.specs.Bindings.{bytesAt};
 ghost use Rattle.fields.specs.Fields.{written, stored};
-ghost use Rattle.references.specs.References.{fixedSize, isNoPing, isForm, blockAt, blockBytes, headerBytes, bodyBytes, referenceBytes, noBlock, noReference, standard, handler, custom, referenceAt, tailAnswer, referenceAnswer, readReference, tailPlace, tailOf, referenceBinding, writeAnswer, writeReference};
+ghost use Rattle.references.specs.References.{fixedSize, isNoPing, isForm, hasNil, namesNil, blockAt, blockBytes, headerBytes, bodyBytes, referenceBytes, noBlock, noReference, standard, handler, custom, referenceAt, tailAnswer, layoutAnswer, referenceAnswer, readReference, tailPlace, tailOf, referenceBinding, writeAnswer, writeReference};
 
 // The standard object block (STDOBJREF).
 #[repr(C)]
@@ -75,6 +75,25 @@ impl Block {
         ensures { λ r. ⌜ r ≡ isNoPing self ⌝ }
     {
         self.flags / Block::NOPING % 2 == 1
+    }
+
+    // Whether the OXID, OID or IPID is zero.
+    fn has_nil(self) -> bool
+        ensures { λ r. ⌜ r ≡ hasNil self ⌝ }
+    {
+        let oxid = self.oxid;
+        if oxid.0 == 0 {
+            return true;
+        }
+        let oid = self.oid;
+        if oid.0 == 0 {
+            return true;
+        }
+        let ipid = self.ipid;
+        if ipid.low != 0 {
+            return false;
+        }
+        ipid.high == 0
     }
 
     // The block of a standard or handler reference, after the header.
@@ -178,7 +197,7 @@ impl Reference {
         Reference::zero()
     }
 
-    // Reads a reference: its fields, or 13 or 14 with zeros.
+    // Reads a reference: its fields, or 13, 14 or 22 with zeros.
     pub fn read(s: &[u8]) -> ReadReference
         ensures { λ r. ⌜ r ≡ readReference (now (s .entry)) ⌝ }
     {
@@ -235,9 +254,19 @@ fn tail_answer(f: u32, tail: &[u8]) -> u32
     bindings::list_answer(tail)
 }
 
-// Whether the bytes are a reference: 0, 13 or 14.
-pub fn reference_answer(s: &[u8]) -> u32
-    ensures { λ r. ⌜ r ≡ referenceAnswer (now (s .entry)) ⌝ }
+// Whether a reference of these flags names a nil identifier; the custom form has no block.
+fn names_nil(f: u32, block: Block) -> bool
+    ensures { λ r. ⌜ r ≡ namesNil f block ⌝ }
+{
+    if f == Reference::CUSTOM {
+        return false;
+    }
+    block.has_nil()
+}
+
+// Whether the bytes are laid out as a reference: 0, 13 or 14.
+fn layout_answer(s: &[u8]) -> u32
+    ensures { λ r. ⌜ r ≡ layoutAnswer (now (s .entry)) ⌝ }
 {
     if s.len() < 24 {
         return answer::SHORT;
@@ -254,6 +283,20 @@ pub fn reference_answer(s: &[u8]) -> u32
         return answer::SHORT;
     }
     tail_answer(f, &s[start..])
+}
+
+// Whether the bytes are a reference: 0, 13, 14, or 22 for a nil identifier.
+pub fn reference_answer(s: &[u8]) -> u32
+    ensures { λ r. ⌜ r ≡ referenceAnswer (now (s .entry)) ⌝ }
+{
+    let number = layout_answer(s);
+    if number != answer::DONE {
+        return number;
+    }
+    if names_nil(fields::read_u32(s, 4), Block::read(s)) {
+        return answer::NIL_IDENTIFIER;
+    }
+    answer::DONE
 }
 
 // Where the binding list or the object data of a reference stands.
@@ -348,7 +391,7 @@ impl Block {
 }
 
 impl Reference {
-    // Whether the reference can be written with a tail into n bytes: 0, 13, 14 or 15.
+    // Whether the reference can be written with a tail into n bytes: 0, 13, 14, 22 or 15.
     fn judge(self, tail: &[u8], n: usize) -> u32
         ensures { λ r. ⌜ r ≡ writeAnswer self (now (tail .entry)) n ⌝ }
     {
@@ -359,6 +402,9 @@ impl Reference {
         let number = tail_answer(f, tail);
         if number != answer::DONE {
             return number;
+        }
+        if names_nil(f, self.block) {
+            return answer::NIL_IDENTIFIER;
         }
         if n < fixed_size(f) + tail.len() {
             return answer::NO_ROOM;

@@ -92,7 +92,7 @@ fn check(kind: Kind, s: &[u8], seed: u64, tally: &mut Tally) -> Result<(), Strin
         Kind::This => check_this(s, &mut random, tally),
         Kind::That => check_that(s, &mut random, tally),
         Kind::Written => {
-            let fields = m::Reference {
+            let mut fields = m::Reference {
                 flags: random.pick(&[0, 1, 1, 2, 2, 3, 4, 4, 5, 8]),
                 iid: guid(&mut random),
                 block_flags: random.word() as u32,
@@ -104,6 +104,14 @@ fn check(kind: Kind, s: &[u8], seed: u64, tally: &mut Tally) -> Result<(), Strin
                 extension: random.word() as u32,
                 size: random.word() as u32,
             };
+            match random.below(20) {
+                0 => fields.oxid = 0,
+                1 => fields.oid = 0,
+                2 => fields.ipid = [0; 16],
+                3 => fields.ipid[..8].fill(0),
+                4 => fields.ipid[8..].fill(0),
+                _ => {}
+            }
             check_written(&fields, s, &mut random, tally)
         }
     }

@@ -5,6 +5,7 @@ use crate::op::Op;
 use crate::random::Random;
 use model::entries::{Entries, EXPORTERS, INTERFACES, OBJECTS, SETS};
 use model::Guid;
+use std::ops::Range;
 
 // ---- bytes
 
@@ -86,7 +87,10 @@ pub fn damage(random: &mut Random, bytes: &mut Vec<u8>) {
     }
 }
 
-/// A reference to an object of an exporter, which keeps the rules.
+/// Bytes of the block's identifiers in a reference: OXID, OID, IPID and its halves.
+const IDENTIFIERS: [Range<usize>; 5] = [32..40, 40..48, 48..64, 48..56, 56..64];
+
+/// A reference to an object of an exporter, which keeps the rules but that now and then an identifier, or half an IPID, is zero.
 pub fn reference(random: &mut Random, oxid: u64) -> Vec<u8> {
     let flags = random.pick(&[1u32, 1, 2, 4]);
     let mut bytes = b"MEOW".to_vec();
@@ -103,6 +107,10 @@ pub fn reference(random: &mut Random, oxid: u64) -> Vec<u8> {
     bytes.extend(oxid.to_le_bytes());
     bytes.extend(random.bytes(if flags == 2 { 40 } else { 24 }));
     bytes.extend(proper_list(random));
+    if random.once_in(6) {
+        let zeros = &IDENTIFIERS[random.below(IDENTIFIERS.len())];
+        bytes[zeros.clone()].fill(0);
+    }
     bytes
 }
 

@@ -140,6 +140,17 @@ pub struct Reference {
     pub size: u32,
 }
 
+impl Reference {
+    /// Refuses a standard or handler reference with a nil OXID, OID or IPID.
+    fn named(&self) -> Result<(), u32> {
+        let nil = self.oxid == 0 || self.oid == 0 || self.ipid == [0; 16];
+        if self.flags != 4 && nil {
+            return Err(22);
+        }
+        Ok(())
+    }
+}
+
 /// The size of the fixed fields of the form that flags name.
 fn fixed_size(flags: u32) -> Option<usize> {
     match flags {
@@ -185,6 +196,7 @@ pub fn read_reference(s: &[u8]) -> Result<(Reference, Range<usize>), u32> {
     if flags == 2 {
         r.clsid = guid_at(s, 64);
     }
+    r.named()?;
     Ok((r, start..s.len()))
 }
 
@@ -204,6 +216,7 @@ pub fn write_reference(r: &Reference, tail: &[u8], buffer: &mut [u8]) -> Result<
     if r.flags != 4 {
         list(tail)?;
     }
+    r.named()?;
     let mut made = b"MEOW".to_vec();
     made.extend(r.flags.to_le_bytes());
     made.extend(r.iid);

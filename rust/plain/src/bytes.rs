@@ -17,6 +17,12 @@ pub struct Reference {
     pub size: u32,
 }
 
+impl Reference {
+    fn names_nil(&self) -> bool {
+        self.oxid == 0 || self.oid == 0 || self.ipid == Guid::default()
+    }
+}
+
 const SIGNATURE: u32 = 0x574F_454D;
 
 fn u16_at(s: &[u8], at: usize) -> u16 {
@@ -133,6 +139,9 @@ pub fn read_reference(s: &[u8]) -> Result<(Reference, Range<usize>), u32> {
     if flags == 2 {
         r.clsid = guid_at(s, 64);
     }
+    if r.names_nil() {
+        return Err(22);
+    }
     Ok((r, start..s.len()))
 }
 
@@ -141,6 +150,9 @@ pub fn write_reference(r: &Reference, tail: &[u8], buffer: &mut [u8]) -> Result<
     let start = fixed_size(r.flags)?;
     if r.flags != 4 {
         judge_list(tail)?;
+        if r.names_nil() {
+            return Err(22);
+        }
     }
     let length = start + tail.len();
     if buffer.len() < length {

@@ -26,11 +26,12 @@ pub enum Error {
     Extensions = 17,
     SetsUsedUp = 18,
     LongList = 19,
+    NilIdentifier = 22,
     NoBinding = 24,
 }
 
 impl Error {
-    const ALL: [Error; 20] = [
+    const ALL: [Error; 21] = [
         Error::Unsound,
         Error::ClockBack,
         Error::BadIdentifier,
@@ -50,6 +51,7 @@ impl Error {
         Error::Extensions,
         Error::SetsUsedUp,
         Error::LongList,
+        Error::NilIdentifier,
         Error::NoBinding,
     ];
 
@@ -84,6 +86,7 @@ impl Error {
             Error::Extensions => "extensions present",
             Error::SetsUsedUp => "set numbers used up",
             Error::LongList => "a binding list of more than 512 bytes",
+            Error::NilIdentifier => "the OXID, OID or IPID of a reference is zero",
             Error::NoBinding => "the list has no binding of this number",
         }
     }

@@ -1,104 +1,51 @@
--- `reference_answer`: the rows of `referenceAnswer`, in their order.
-use Prim.Native.Nat.{_<_, _≤_}
+-- `reference_answer`: the layout's refusals, then nil identifiers.
 use mathlib.Core.Path.{_≡_, sym, ap, _∙_}
-use mathlib.Core.Bool.{true, false}
-use native.Mathlib.Omega.{arith}
-use borrow.Author.Tests.{not-true, not-false, lt-ltb, le-ltb}
-use lib.ListN.{length}
+use mathlib.Core.Bool.{Bool}
 use Rattle.kinds.specs.Refusals.{order}
 use Rattle.kinds.proofs.Refusing.{ne-differ, eq-differ}
 use Rattle.fields.specs.Fields.{field}
-use Rattle.fields.proofs.Laws.{take-rest}
-use Rattle.references.specs.References.{signature, isForm, fixedSize, referenceAnswer}
-use Rattle.references.proofs.Laws.{last-row}
+use Rattle.references.specs.References.{blockAt, namesNil, layoutAnswer, referenceAnswer}
 use borrow.Author.Needs.{needs}
 use Rattle.references.proofs.reference_answer.Statement.{statement}
 use Rattle.references.proofs.reference_answer.Tie as tie
 
+layout-answer-requires : tie.Need-layout-answer-requires
+layout-answer-requires c κs = search needs
+
 returns : tie.Need-returns
 unfolding referenceAnswer order
-returns c = simp (lt-ltb _ _ (c .if1 .taken))
+returns c =
+    let layout = c .before .layout-answer .ensures in
+    simp (ne-differ _ _ (λ z. c .if1 .taken (layout ∙ z))) layout
 
 read-u32-requires : tie.Need-read-u32-requires
 read-u32-requires c κs = search needs
 
+read-requires : tie.Need-read-requires
+read-requires c κs = search needs
+
+names-nil-requires : tie.Need-names-nil-requires
+names-nil-requires c κs = search needs
+
+-- past the layout's refusals
+done : (c : tie.Else1) → layoutAnswer (c .before .before .before .args .s .now) ≡ 0
+done c = sym (c .before .layout-answer .ensures) ∙ c .if1 .left
+
+-- what was judged
+named : (c : tie.After-names-nil) → let s = c .before .before .before .before .before .before .args .s .now in c .names-nil .result ≡ namesNil (field s 4 4) (blockAt s 24)
+named c = rw (← c .before .before .read-u32 .ensures, ← c .before .read .ensures) (c .names-nil .ensures)
+
 returns-2 : tie.Need-returns-2
 unfolding referenceAnswer order
 returns-2 c =
-    let signed = c .before .read-u32 .ensures in
-    simp (le-ltb _ _ (c .before .before .if1 .left), ne-differ _ _ (λ z. c .if2 .taken (signed ∙ z)))
-
-signed : (c : tie.Else2) → field (c .before .before .before .before .args .s .now) 0 4 ≡ signature
-signed c = sym (c .before .read-u32 .ensures) ∙ c .if2 .left
-
-read-u32-requires-2 : tie.Need-read-u32-requires-2
-read-u32-requires-2 c κs = search needs
-
-is-form-requires : tie.Need-is-form-requires
-is-form-requires c κs = search needs
+    simp (eq-differ _ _ (done (c .before .before .before .before)), sym (named (c .before)) ∙ c .if2 .taken)
 
 returns-3 : tie.Need-returns-3
 unfolding referenceAnswer order
 returns-3 c =
-    let form : isForm (field (c .before .before .before .before .before .before .before .args .s .now) 4 4) ≡ false = ap isForm (sym (c .before .before .read-u322 .ensures)) ∙ sym (c .before .is-form .ensures) ∙ not-true _ (c .if3 .taken) in
-    simp (le-ltb _ _ (c .before .before .before .before .before .if1 .left), eq-differ _ _ (signed (c .before .before .before)), form)
-
-form : (c : tie.Else3) → isForm (field (c .before .before .before .before .before .before .before .args .s .now) 4 4) ≡ true
-form c = ap isForm (sym (c .before .before .read-u322 .ensures)) ∙ sym (c .before .is-form .ensures) ∙ not-false _ (c .if3 .left)
-
-fixed-size-requires : tie.Need-fixed-size-requires
-fixed-size-requires c κs = search needs
-
-start : (c : tie.After-fixed-size) → c .fixed-size .result ≡ fixedSize (field (c .before .before .before .before .before .before .before .before .args .s .now) 4 4)
-start c = c .fixed-size .ensures ∙ ap fixedSize (c .before .before .before .read-u322 .ensures)
-
-returns-4 : tie.Need-returns-4
-unfolding referenceAnswer order
-returns-4 c =
-    let test = c .before .before in
-    let s = test .before .before .before .before .before .before .before .args .s .now in
-    let size = start (c .before) in
-    let short : length s < fixedSize (field s 4 4) = omega arith in
-    simp (le-ltb _ _ (test .before .before .before .before .before .if1 .left), eq-differ _ _ (signed (test .before .before .before)), form test, lt-ltb _ _ short)
-
-sub-tail-answer : tie.Need-sub-tail-answer
-sub-tail-answer c = search needs
-
-part-tail-answer-start : tie.Need-part-tail-answer-start
-part-tail-answer-start c = search needs
-
-part-tail-answer-end : tie.Need-part-tail-answer-end
-part-tail-answer-end c = search needs
-
-tail-answer-requires : tie.Need-tail-answer-requires
-tail-answer-requires c κs = search needs
-
-returns-5 : tie.Need-returns-5
-unfolding referenceAnswer order
-returns-5 c =
-    let test = c .before .before .before .before in
-    let s = test .before .before .before .before .before .before .before .args .s .now in
-    let size = start (c .before .before .before) in
-    let flags = test .before .before .read-u322 .ensures in
-    let long : fixedSize (field s 4 4) ≤ length s = omega arith in
-    let tail = rw (take-rest s (c .before .before .before .fixed-size .result), size, flags) at (c .tail-answer .ensures) in
-    simp (le-ltb _ _ (test .before .before .before .before .before .if1 .left), eq-differ _ _ (signed (test .before .before .before)), form test, le-ltb _ _ long)
-    (tail ∙ sym (last-row _))
+    simp (eq-differ _ _ (done (c .before .before .before .before)), sym (named (c .before)) ∙ c .if2 .left)
 
 pub reference-answer-spec : {M : Type 1} → statement M
 reference-answer-spec =
     tie.close
-    (tie.spec
-    returns
-    read-u32-requires
-    returns-2
-    read-u32-requires-2
-    is-form-requires
-    returns-3
-    fixed-size-requires
-    returns-4
-    sub-tail-answer
-    part-tail-answer-start
-    part-tail-answer-end
-    tail-answer-requires
-    returns-5)
+    (tie.spec layout-answer-requires returns read-u32-requires read-requires names-nil-requires returns-2 returns-3)

@@ -6,6 +6,7 @@
 //!     L bytes     a binding list: its answer, the length of the list at the front, bindings 0, 1 and 2 of each part
 //!     O bytes     a reference: its fields, its tail, binding 0 of each part, and whether it is written back the same
 //!     W bytes     a reference to be written: flags, the size of the buffer, then the list or the object data
+//!     I bytes     the same, before it which identifiers are zero: OXID 1, OID 2, the halves of the IPID 4 and 8, added
 //!     M minor room    an ORPCTHIS of this minor version, and T room an ORPCTHAT, into a buffer of so many bytes
 //!     B           a list of N = 65,535 words, and the same one word short
 
@@ -156,16 +157,16 @@ impl Codec for Library {
     }
 }
 
-/// The answers of each reader and writer, as document 01 lists them: each occurs in the lines. `k` is binding k of a list, `K` of a
+/// The answers of each reader and writer, as documents 01 and 02 list them: each occurs in the lines. `k` is binding k of a list, `K` of a
 /// reference.
 const ANSWERS: Answers = &[
     (b'H', &[0, 13, 16, 17]),
     (b'R', &[0, 13, 17]),
     (b'L', &[0, 13, 14]),
     (b'k', &[0, 13, 14, 24]),
-    (b'O', &[0, 13, 14]),
-    (b'K', &[0, 13, 14, 24]),
-    (b'W', &[0, 14, 13, 15]),
+    (b'O', &[0, 13, 14, 22]),
+    (b'K', &[0, 13, 14, 22, 24]),
+    (b'W', &[0, 14, 13, 22, 15]),
     (b'M', &[0, 16, 15]),
     (b'T', &[0, 15]),
 ];
@@ -188,7 +189,11 @@ pub fn run<C: Codec>(input: &[u8]) -> String {
             b'R' => out += &reply::<C>(&a.bytes(), &mut seen),
             b'L' => out += &list::<C>(&a.bytes(), [0, 1, 2], &[0, 1, 2], &mut seen),
             b'O' => out += &reference::<C>(&a.bytes(), &mut seen),
-            b'W' => out += &written::<C>(&a.bytes(), &mut seen),
+            b'W' => out += &written::<C>(0, &a.bytes(), &mut seen),
+            b'I' => {
+                let bytes = a.bytes();
+                out += &written::<C>(bytes[0], &bytes[1..], &mut seen);
+            }
             b'M' => {
                 let (minor, mut buffer) = (a.number() as u16, vec![0xee; a.number() as usize]);
                 let mut causality = [0; 16];
@@ -328,16 +333,21 @@ fn reference<C: Codec>(s: &[u8], seen: &mut Seen) -> String {
     out
 }
 
-/// A reference with flags `s[0]` and the tail `s[2..]`, written into `s[1]` bytes.
-fn written<C: Codec>(s: &[u8], seen: &mut Seen) -> String {
+/// A reference with flags `s[0]` and the tail `s[2..]`, written into `s[1]` bytes. The identifiers whose bits are set in `zeros`
+/// are zero.
+fn written<C: Codec>(zeros: u8, s: &[u8], seen: &mut Seen) -> String {
+    let unless = |bit: u8, id: u64| if zeros & bit != 0 { 0 } else { id };
     let made = Reference {
         flags: s[0].into(),
         iid: guid(0x131, 0x4600_0000_0000_00C0),
         block_flags: 0x1000,
         public: 5,
-        oxid: 0x0102_0304_0506_0708,
-        oid: 0x1112_1314_1516_1718,
-        ipid: guid(0x4E60_2D7B_1C5A_3E8F, 0xAB89_6745_2301_F9A1),
+        oxid: unless(1, 0x0102_0304_0506_0708),
+        oid: unless(2, 0x1112_1314_1516_1718),
+        ipid: guid(
+            unless(4, 0x4E60_2D7B_1C5A_3E8F),
+            unless(8, 0xAB89_6745_2301_F9A1),
+        ),
         clsid: guid(0x11CE_A5D6_0000_0303, 0x4600_0000_0000_00C0),
         extension: 0,
         size: 24,

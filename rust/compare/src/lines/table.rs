@@ -60,7 +60,7 @@ impl Stops for Model {
     }
 }
 
-/// The answers of each call, as document 01 lists them: each occurs in the lines.
+/// The answers of each call, as documents 01 and 02 list them: each occurs in the lines.
 const ANSWERS: Answers = &[
     (b'R', &[0, 1]),
     (b'X', &[0, 1, 3, 13, 14, 19, 9]),
@@ -75,7 +75,7 @@ const ANSWERS: Answers = &[
     (b'V', &[0, 1, 4, 15]),
     (b'C', &[0, 1]),
     (b'M', &[0, 1, 11]),
-    (b'T', &[0, 1, 13, 14]),
+    (b'T', &[0, 1, 13, 14, 22]),
 ];
 
 pub fn run<S: Stops>(input: &[u8]) -> String {

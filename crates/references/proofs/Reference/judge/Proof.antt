@@ -7,7 +7,7 @@ use borrow.Author.Tests.{not-true, not-false, lt-ltb, le-ltb}
 use lib.ListN.{length}
 use Rattle.kinds.specs.Refusals.{order}
 use Rattle.kinds.proofs.Refusing.{ne-differ, eq-differ}
-use Rattle.references.specs.References.{isForm, fixedSize, writeAnswer}
+use Rattle.references.specs.References.{isForm, fixedSize, namesNil, tailAnswer, writeAnswer}
 use Rattle.references.proofs.Laws.{size-most}
 use borrow.Author.Needs.{needs}
 use Rattle.references.proofs.Reference.judge.Statement.{statement}
@@ -34,29 +34,44 @@ returns-2 c =
     let tail = c .before .tail-answer .ensures in
     simp (form (c .before .before), ne-differ _ _ (λ z. c .if2 .taken (tail ∙ z))) tail
 
-fixed-size-requires : tie.Need-fixed-size-requires
-fixed-size-requires c κs = search needs
+names-nil-requires : tie.Need-names-nil-requires
+names-nil-requires c κs = search needs
 
-add-if3 : tie.Need-add-if3
-add-if3 c = omega (arith, size-most (c .before .before .before .before .before .before .args .self .flags), c .fixed-size .ensures)
+-- past the list's refusals
+done : (c : tie.Else2) → tailAnswer (c .before .before .before .before .before .args .self .flags) (c .before .before .before .before .before .args .tail .now) ≡ 0
+done c = sym (c .before .tail-answer .ensures) ∙ c .if2 .left
 
 returns-3 : tie.Need-returns-3
 unfolding writeAnswer order
 returns-3 c =
-    let tail = c .before .before .before .tail-answer .ensures in
-    let size = c .before .fixed-size .ensures in
-    let a = c .before .before .before .before .before .before .before .args in
-    let short : a .n < fixedSize (a .self .flags) + length (a .tail .now) = omega arith in
-    simp (form (c .before .before .before .before), eq-differ _ _ (sym tail ∙ c .before .before .if2 .left), lt-ltb _ _ short)
+    simp (form (c .before .before .before .before), eq-differ _ _ (done (c .before .before)), sym (c .before .names-nil .ensures) ∙ c .if3 .taken)
+
+named : (c : tie.Else3) → let r = c .before .before .before .before .before .before .before .args .self in namesNil (r .flags) (r .block) ≡ false
+named c = sym (c .before .names-nil .ensures) ∙ c .if3 .left
+
+fixed-size-requires : tie.Need-fixed-size-requires
+fixed-size-requires c κs = search needs
+
+add-if4 : tie.Need-add-if4
+add-if4 c = omega (arith, size-most (c .before .before .before .before .before .before .before .before .args .self .flags), c .fixed-size .ensures)
 
 returns-4 : tie.Need-returns-4
 unfolding writeAnswer order
 returns-4 c =
-    let tail = c .before .before .before .tail-answer .ensures in
+    let n = c .before .before in
     let size = c .before .fixed-size .ensures in
-    let a = c .before .before .before .before .before .before .before .args in
+    let a = n .before .before .before .before .before .before .before .args in
+    let short : a .n < fixedSize (a .self .flags) + length (a .tail .now) = omega arith in
+    simp (form (n .before .before .before .before), eq-differ _ _ (done (n .before .before)), named n, lt-ltb _ _ short)
+
+returns-5 : tie.Need-returns-5
+unfolding writeAnswer order
+returns-5 c =
+    let n = c .before .before in
+    let size = c .before .fixed-size .ensures in
+    let a = n .before .before .before .before .before .before .before .args in
     let room : fixedSize (a .self .flags) + length (a .tail .now) ≤ a .n = omega arith in
-    simp (form (c .before .before .before .before), eq-differ _ _ (sym tail ∙ c .before .before .if2 .left), le-ltb _ _ room)
+    simp (form (n .before .before .before .before), eq-differ _ _ (done (n .before .before)), named n, le-ltb _ _ room)
 
 pub judge-spec : {M : Type 1} → statement M
 judge-spec =
@@ -66,7 +81,9 @@ judge-spec =
     returns
     tail-answer-requires
     returns-2
-    fixed-size-requires
-    add-if3
+    names-nil-requires
     returns-3
-    returns-4)
+    fixed-size-requires
+    add-if4
+    returns-4
+    returns-5)
