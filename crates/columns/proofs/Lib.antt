@@ -12,3 +12,4 @@ pub mod WordBits
 pub mod Bits
 pub mod Making
 pub mod Elements
+pub mod Ones

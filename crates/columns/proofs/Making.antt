@@ -2,21 +2,19 @@
 use Prim.Native.Nat.{ℕ, suc, _+_, _-_, _*_, _/_, _%_, _^_, _<_, _≤_}
 use mathlib.Core.Path.{_≡_, refl, sym, ap, _∙_}
 use mathlib.Core.Bool.{Bool, true, false, not, cond, _&&_, _||_}
-use mathlib.Core.List.{[]}
 use mathlib.Core.Logic.{⊎-elim}
 use native.Mathlib.Omega.{arith}
 use native.Mathlib.Nat.{lt-of-le-of-lt}
 use borrow.Author.Tests.{lt-ltb, le-ltb, eq-eqb, ne-eqb}
-use lib.ListN.{length, length-append}
 use lib.Pow.{high, low, shr-le}
 use lib.Dec.{eqb, ltb}
-use Rattle.columns.specs.Lists.{keep, every, tabulate, skip}
+use Rattle.columns.specs.Lists.{every, skip}
 use Rattle.columns.specs.Members.{bitOf, isMember, memberRows, putBit, cutBit, InWords, BitPut, Added, Dropped, Cut}
 use Rattle.columns.specs.declared.members.Members.{Members}
 use Rattle.columns.proofs.Tests.{same-or-not, below-or-not}
-use Rattle.columns.proofs.Lists.{keep-yes, keep-no, keep-nil, skip-below, skip-from}
+use Rattle.columns.proofs.Lists.{skip-below, skip-from}
 use Rattle.columns.proofs.WordBits.{bit-shifted, low-bit, bit-zero, none-from, some-bit, some-bit-from, cut-lt, cut-below, cut-from, put-lt, put-here, put-other}
-use Rattle.columns.proofs.Bits.{member-low, member-high, member-past, member-from, member-same, keep-next, below-holds, below-fails}
+use Rattle.columns.proofs.Bits.{member-low, member-high, member-past, member-from, member-same, below-holds, below-fails}
 
 -- ---- no member
 
@@ -223,20 +221,3 @@ module _ (n : ℕ) (m : Members) (fits : InWords m) where
       let r = some-bit 64 (m .high) (fits .1) d in
       let q : 64 + r .0 - 64 ≡ r .0 = omega arith in
       sym (below-fails n m (64 + r .0) (omega arith) (member-from m (fits .1) (64 + r .0) (omega arith) ∙ ap (bitOf (m .high)) q ∙ r .2))
-
--- ---- the number of members
-
-module _ (m : Members) where
-  -- no row is counted
-  pub count-none : 0 ≡ length (keep (isMember m) (tabulate 0 (λ i. i)))
-  unfolding tabulate keep
-  count-none = refl
-
-  module _ (n j : ℕ) (e : n ≡ length (keep (isMember m) (tabulate j (λ i. i)))) where
-    -- a member is counted
-    pub count-yes : isMember m j ≡ true → n + 1 ≡ length (keep (isMember m) (tabulate (j + 1) (λ i. i)))
-    count-yes t = rw (keep-next (isMember m) j, keep-yes (isMember m) j [] t, keep-nil (isMember m)) (simp length-append (omega arith))
-
-    -- another row is not
-    pub count-no : isMember m j ≡ false → n ≡ length (keep (isMember m) (tabulate (j + 1) (λ i. i)))
-    count-no t = rw (keep-next (isMember m) j, keep-no (isMember m) j [] t, keep-nil (isMember m)) (simp length-append (omega arith))

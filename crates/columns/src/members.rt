@@ -1,8 +1,9 @@
 // Members of a set of rows: a bit for each of 128 rows, in two words.
 ghost use mathlib.Core.Path.{_≡_};
 ghost use mathlib.Core.Bool.{false};
-ghost use Prim.Native.Nat.{ℕ, _^_, _<_};
+ghost use Prim.Native.Nat.{ℕ, _^_, _<_, _≤_};
 ghost use lib.ListN.{length};
+ghost use lib.Count.{ones};
 ghost use lib.Dec.{ltb};
 ghost use Rattle.columns.specs.Lists.{every};
 ghost use Rattle.columns.specs.Members.{isMember, memberRows, putBit, cutBit, BitPut, Added, Dropped, Cut};
@@ -29,6 +30,13 @@ fn cut_bit(w: u64, k: usize) -> u64
 {
     let unit = 1u64 << k;
     (w >> k) / 2 * unit + w % unit
+}
+
+// The number of ones of a word.
+fn ones_in(w: u64) -> usize
+    ensures { λ r. ⌜ (r ≡ ones w) × (r ≤ 64) ⌝ }
+{
+    u64::count_ones(w) as usize
 }
 
 impl Members {
@@ -121,18 +129,10 @@ impl Members {
         true
     }
 
-    // The number of members.
+    // The number of members: the ones of both words.
     pub fn size(self) -> usize
         ensures { λ r. ⌜ r ≡ length (memberRows self) ⌝ }
     {
-        let mut n = 0;
-        let mut j = 0;
-        while j < 128 {
-            if self.has(j) {
-                n += 1;
-            }
-            j += 1;
-        }
-        n
+        ones_in(self.low) + ones_in(self.high)
     }
 }

@@ -12,3 +12,4 @@ pub mod EditMembers
 pub mod EditLists
 pub mod EditCuts
 pub mod EditBelow
+pub mod Sizes

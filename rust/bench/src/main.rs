@@ -59,7 +59,7 @@ fn guid(g: plain::Guid) -> Guid {
     Guid((g.low as u128 | (g.high as u128) << 64).to_le_bytes())
 }
 
-/// A table with every place taken and lists of the longest kind. Each set has 20 members.
+/// A table with every place taken and lists of the longest kind. Each set has 20 members, the last one every object.
 fn full_table() -> (Vec<u64>, Vec<u8>) {
     let mut w = vec![0; pt::WORDS];
     let mut s = vec![0; pt::BYTES];
@@ -85,7 +85,8 @@ fn full_table() -> (Vec<u64>, Vec<u8>) {
         pt::enter_interface(&mut w, &s, spread(i % 128), ipid(i), iid, 5).unwrap();
     }
     for k in 0..32 {
-        let members: Vec<u64> = (0..20).map(|i| spread((5 * k + 3 * i) % 128)).collect();
+        let some = if k < 31 { 20 } else { 128 };
+        let members: Vec<u64> = (0..some).map(|i| spread((5 * k + 3 * i) % 128)).collect();
         pt::complex_ping(&mut w, &s, 0, 1, &members, &[]).unwrap();
     }
     (w, s)
@@ -146,6 +147,19 @@ fn tables() {
         200,
         || keep(black_box(&table).census()),
         || keep(pt::census(black_box(&w), black_box(&s))),
+    );
+    assert_eq!(table.members(SetId(32)), Ok(128));
+    measure(
+        "members of a set of 128 objects",
+        200,
+        || keep(black_box(&table).members(black_box(SetId(32)))),
+        || {
+            keep(pt::member_count(
+                black_box(&w),
+                black_box(&s),
+                black_box(32),
+            ))
+        },
     );
     let i = ipid(200);
     measure(
