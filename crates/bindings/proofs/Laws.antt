@@ -5,7 +5,7 @@ use mathlib.Core.Bool.{Bool, true, false, not, _&&_, _||_}
 use mathlib.Core.Logic.{_⊎_, inl, inr, ⊎-elim}
 use mathlib.Core.List.{List, [], _∷_, _++_}
 use native.Mathlib.Omega.{arith}
-use borrow.Author.Tests.{eqb-true, ltb-false, le-ltb, leb-true, not-false}
+use borrow.Author.Tests.{eqb-true, ltb-false, le-ltb, leb-true, le-leb, not-false}
 use lib.Dec.{eqb, ltb}
 use lib.ListN.{length, take, drop, length-append, take-append-drop}
 use lib.Seq.{length-take-le, take-append-seam}
@@ -74,6 +74,15 @@ front-held s h e =
       part = λ w. each-part s (b .0) (b .1);
     })
     (or-cases (isBare s) _ e)
+
+or-right : (a : Bool) → (a || true) ≡ true
+or-right true = refl
+or-right false = refl
+
+-- conversely: two parts
+pub parts-held : (s : List ℕ) → split s ≤ count s → isPart Strings (partWords s Strings) ≡ true → isPart Security (partWords s Security) ≡ true → twoParts s ≡ true
+unfolding twoParts
+parts-held s h f g = rw (le-leb (split s) (count s) h, f, g) (or-right (isBare s))
 
 pub front : (s : List ℕ) → frontAnswer s ≡ 0 → Front s
 unfolding frontAnswer

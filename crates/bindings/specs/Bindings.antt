@@ -1,6 +1,7 @@
 -- The binding list, DUALSTRINGARRAY (document 01, "Reference bytes"; 000, section 2.2.19): N and S, then N words, of which the first S
 -- are the string part and the others the security part.
 use Prim.Native.Nat.{ℕ, suc, zero, _+_, _*_, _-_}
+use mathlib.Core.Path.{_≡_}
 use mathlib.Core.Bool.{Bool, true, false, cond, not, _&&_, _||_}
 use mathlib.Core.List.{List, [], _∷_, _++_}
 use lib.ListN.{length, take, drop}
@@ -116,3 +117,8 @@ bindingAt s p k = cond (eqb (listAnswer s) 0) (place (bindingsOf p (partWords s 
 -- the bytes of a place
 abbrev pub bytesAt : List ℕ → Place → List ℕ
 bytesAt s x = take (x .to - x .from) (drop (x .from) s)
+
+-- a place of the bytes s, which begin in memory at start (a block and an offset), answered as a part: its bytes, and where it begins
+pub record PartOf (s : List ℕ) (start : ℕ × ℕ) (x : Place) (begin : ℕ × ℕ) (part : List ℕ) : Type 0 where
+  pub bytes : part ≡ bytesAt s x
+  pub begins : begin ≡ (start .0, x .from + start .1)

@@ -1,2 +1,3 @@
 pub mod Bindings
 pub mod Layout
+pub mod ListBytes

@@ -5,7 +5,7 @@ ghost use mathlib.Core.Bool.{cond};
 ghost use Prim.Native.Nat.{_+_, _*_, _<_, _≤_};
 ghost use lib.Dec.{eqb};
 ghost use lib.ListN.{length};
-ghost use Rattle.bindings.specs.Bindings.{words, throughZero, headWords, firstBinding, bindingsOf, isPart, twoParts, listLength, frontAnswer, listAnswer, refusal, place, bindingAt, bytesAt};
+ghost use Rattle.bindings.specs.Bindings.{words, throughZero, headWords, firstBinding, bindingsOf, isPart, twoParts, listLength, frontAnswer, listAnswer, refusal, place, bindingAt, PartOf};
 
 // The two parts of a list.
 pub enum Part {
@@ -209,7 +209,7 @@ pub fn binding_answer(s: &[u8], p: Part, k: usize) -> u32
 
 // Binding number k, from its first word through its zero word; no bytes where it is refused.
 pub fn binding(s: &[u8], p: Part, k: usize) -> &[u8]
-    ensures { λ r. ⌜ now r ≡ bytesAt (now (s .entry)) (bindingAt (now (s .entry)) p k) ⌝ }
+    ensures { λ r. ⌜ PartOf (now (s .entry)) (s .entry .ptr) (bindingAt (now (s .entry)) p k) (r .ptr) (now r) ⌝ }
 {
     let x = locate(s, p, k);
     let from = x.from;

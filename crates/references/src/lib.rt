@@ -8,9 +8,9 @@ use kinds::answer;
 ghost use mathlib.Core.Path.{_≡_};
 ghost use Prim.Native.Nat.{_≤_};
 ghost use lib.ListN.{length};
-ghost use Rattle.bindings.specs.Bindings.{bytesAt};
+ghost use Rattle.bindings.specs.Bindings.{PartOf};
 ghost use Rattle.fields.specs.Fields.{written, stored};
-ghost use Rattle.references.specs.References.{fixedSize, isNoPing, isForm, hasNil, namesNil, blockAt, blockBytes, headerBytes, bodyBytes, referenceBytes, noBlock, noReference, standard, handler, custom, referenceAt, tailAnswer, layoutAnswer, referenceAnswer, readReference, tailPlace, tailOf, referenceBinding, writeAnswer, writeReference};
+ghost use Rattle.references.specs.References.{fixedSize, isNoPing, isForm, hasNil, namesNil, blockAt, blockBytes, headerBytes, bodyBytes, referenceBytes, noBlock, noReference, standard, handler, custom, referenceAt, tailAnswer, layoutAnswer, referenceAnswer, readReference, tailPlace, referenceBinding, writeAnswer, writeReference};
 
 // The standard object block (STDOBJREF).
 #[repr(C)]
@@ -320,7 +320,7 @@ pub fn tail_place(s: &[u8]) -> Place
 
 // The binding list or the object data of a reference; no bytes where it is refused.
 pub fn tail(s: &[u8]) -> &[u8]
-    ensures { λ r. ⌜ now r ≡ tailOf (now (s .entry)) ⌝ }
+    ensures { λ r. ⌜ PartOf (now (s .entry)) (s .entry .ptr) (tailPlace (now (s .entry))) (r .ptr) (now r) ⌝ }
 {
     let x = tail_place(s);
     let from = x.from;
@@ -365,7 +365,7 @@ pub fn binding_answer(s: &[u8], p: Part, k: usize) -> u32
 
 // Binding k, from its first word through its zero word; no bytes where it is refused.
 pub fn binding(s: &[u8], p: Part, k: usize) -> &[u8]
-    ensures { λ r. ⌜ now r ≡ bytesAt (now (s .entry)) (referenceBinding (now (s .entry)) p k) ⌝ }
+    ensures { λ r. ⌜ PartOf (now (s .entry)) (s .entry .ptr) (referenceBinding (now (s .entry)) p k) (r .ptr) (now r) ⌝ }
 {
     let x = locate(s, p, k);
     let from = x.from;

@@ -1,7 +1,9 @@
 -- `binding`: a binding lies within its reference.
+use Prim.Native.Nat.{_+_}
 use mathlib.Core.Path.{ap}
 use lib.ListN.{length}
 use Rattle.bindings.specs.Bindings.{bytesAt}
+use Rattle.bindings.specs.declared.Place.{Place}
 use Rattle.bindings.proofs.Laws.{Within}
 use Rattle.references.proofs.Laws.{within-reference}
 use borrow.Author.Needs.{needs}
@@ -24,7 +26,10 @@ part-result-end : tie.Need-part-result-end
 part-result-end c = within c .1
 
 returns : tie.Need-returns
-returns c = ap (bytesAt (c .before .before .before .args .s .now)) (c .before .locate .ensures)
+returns c =
+    let s = c .before .before .before .args .s in
+    let e = c .before .locate .ensures in
+    record { bytes = ap (bytesAt (s .now)) e; begins = ap (λ (x : Place). (s .ptr .0, x .from + s .ptr .1)) e }
 
 pub binding-spec : {M : Type 1} → statement M
 binding-spec =

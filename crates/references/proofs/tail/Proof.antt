@@ -1,9 +1,11 @@
 -- `tail`: the tail lies within its reference.
-use mathlib.Core.Path.{ap, _∙_}
+use Prim.Native.Nat.{_+_}
+use mathlib.Core.Path.{ap}
 use lib.ListN.{length}
 use Rattle.bindings.specs.Bindings.{bytesAt}
+use Rattle.bindings.specs.declared.Place.{Place}
 use Rattle.bindings.proofs.Laws.{Within}
-use Rattle.references.proofs.Laws.{tail-within, tail-bytes}
+use Rattle.references.proofs.Laws.{tail-within}
 use borrow.Author.Needs.{needs}
 use Rattle.references.proofs.tail.Statement.{statement}
 use Rattle.references.proofs.tail.Tie as tie
@@ -25,8 +27,9 @@ part-result-end c = within c .1
 
 returns : tie.Need-returns
 returns c =
-    let s = c .before .before .before .args .s .now in
-    ap (bytesAt s) (c .before .tail-place .ensures) ∙ tail-bytes s
+    let s = c .before .before .before .args .s in
+    let e = c .before .tail-place .ensures in
+    record { bytes = ap (bytesAt (s .now)) e; begins = ap (λ (x : Place). (s .ptr .0, x .from + s .ptr .1)) e }
 
 pub tail-spec : {M : Type 1} → statement M
 tail-spec =
