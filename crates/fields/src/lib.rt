@@ -1,5 +1,5 @@
-// Little-endian numbers and GUIDs in byte slices. Each function is total: bytes that are not all there read as 0, and
-// bytes that do not fit are not written.
+// Little-endian numbers and GUIDs in byte slices. Each public function but `word` takes any place: bytes that are not all there
+// read as 0, and bytes that do not fit are not written.
 use kinds::Guid;
 ghost use mathlib.Core.Path.{_≡_};
 ghost use Prim.Native.Nat.{_+_, _^_, _<_, _≤_};
@@ -43,7 +43,7 @@ fn read(s: &[u8], at: usize, w: usize) -> u64
     }
 }
 
-// A number of two bytes that are there.
+// A number of two bytes that are there, for the walk of a list, whose length has been tested.
 pub fn word(s: &[u8], at: usize) -> u16
     requires { ⌜ at + 2 ≤ length (now s) ⌝ }
     ensures { λ r. ⌜ r ≡ field (now (s .entry)) at 2 ⌝ }

@@ -180,7 +180,7 @@ module _ (h : History) (k : Kept h) (i iid : Guid) (n : ℕ) (z : eqb n 0 ≡ fa
       }
 
 -- what its refusals leave
-interface-accepted : (e : Entries) (o : ℕ) (i iid : Guid) (n : ℕ) → number (enterInterface o i iid n) e ≡ 0 → (isLiveObject e o ≡ true) × (eqb n 0 ≡ false)
+pub interface-accepted : (e : Entries) (o : ℕ) (i iid : Guid) (n : ℕ) → number (enterInterface o i iid n) e ≡ 0 → (isLiveObject e o ≡ true) × (eqb n 0 ≡ false)
 unfolding number refusals
 interface-accepted e o i iid n a =
     let r = passed _ 3 _ (omega arith) a in

@@ -7,7 +7,8 @@ use Rattle.kinds.proofs.Refusing.{by-test}
 use Rattle.rules.specs.Calls.{Call, reset, enterExporter, removeExporter, enterObject, enterInterface, add, release, simplePing, complexPing, clock, resolve, census, members, nextStop}
 use Rattle.rules.specs.Rules.{number, next}
 use Rattle.history.specs.History.{History, live, lived, feed}
-use Rattle.history.proofs.Lives.{Kept, live-begin, kept-begin}
+use Rattle.history.proofs.Lives.{Kept}
+use Rattle.history.proofs.Beginning.{live-fresh, kept-fresh}
 use Rattle.history.proofs.Steps.{Step}
 use Rattle.history.proofs.Entering.{exporter-step, object-step, interface-step}
 use Rattle.history.proofs.Leaving.{removal-step, clock-step}
@@ -17,7 +18,7 @@ use Rattle.history.proofs.Pinging.{simple-step, complex-step}
 -- each accepted call
 pub step : (c : Call) (h : History) → Kept h → number c (live h) ≡ 0 → Step c h
 unfolding lived next
-step (reset t) h k a = record { entries = live-begin t; kept = kept-begin t }
+step (reset t) h k a = record { entries = live-fresh t; kept = kept-fresh t }
 step (enterExporter x u b) h k a = exporter-step h k x u b a
 step (removeExporter x) h k a = removal-step h k x a
 step (enterObject o x i iid n np) h k a = object-step h k o x i iid n np a

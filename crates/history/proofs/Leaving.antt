@@ -161,7 +161,7 @@ module _ (h : History) (k : Kept h) (t : ℕ) (later : h .clock ≤ t) where
       (λ o m. Memᴰ·map still (keep-in (λ p. staysAt t (objectEntry h p)) (liveObjects h) (rw clock-objects at m) .0)) s
 
 -- what its refusal leaves
-clock-accepted : (e : Entries) (t : ℕ) → number (clock t) e ≡ 0 → e .clock ≤ t
+pub clock-accepted : (e : Entries) (t : ℕ) → number (clock t) e ≡ 0 → e .clock ≤ t
 unfolding number refusals
 clock-accepted e t a = ltb-false t (e .clock) (passed _ 2 _ (omega arith) a .0)
 

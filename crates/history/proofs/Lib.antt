@@ -1,4 +1,5 @@
 pub mod Lives
+pub mod Beginning
 pub mod Identities
 pub mod Steps
 pub mod Entering
@@ -6,7 +7,7 @@ pub mod Leaving
 pub mod Counting
 pub mod Pinging
 pub mod Feeding
+pub mod Staying
 pub mod Room
 pub mod Demands
 pub mod Runs
-pub mod Cases

@@ -1,20 +1,18 @@
 -- What holds of every history, and what of it a call that enters nothing keeps.
 use Prim.Native.Nat.{ℕ, _+_, _<_, _≤_}
-use mathlib.Core.Path.{_≡_, refl, sym, ap, _∙_}
+use mathlib.Core.Path.{_≡_, sym, ap, _∙_}
 use mathlib.Core.Bool.{true}
-use mathlib.Core.List.{List, [], _∷_, _++_, map, Memᴰ·append-left, List·Memᴰ·not-nil, Memᴰ·map}
+use mathlib.Core.List.{List, [], _∷_, _++_, map, Memᴰ·append-left, Memᴰ·map}
 use mathlib.Core.Logic.{⊎-elim}
 use native.Mathlib.Omega.{arith}
 use borrow.Author.Tests.{ne-eqb}
 use lib.ListN.{length, length-map, length-append}
 use lib.Dec.{eqb}
-use Rattle.columns.specs.Lists.{keep, firstOr, distinct}
+use Rattle.columns.specs.Lists.{firstOr, distinct}
 use Rattle.columns.proofs.Lists.{map-append, map-map}
 use Rattle.columns.proofs.Distinct.{eqb-decides, distinct-snoc}
-use Rattle.rules.specs.Entries.{fresh}
 use Rattle.rules.specs.Sound.{sound}
-use Rattle.rules.proofs.Keeps.{fresh-sound}
-use Rattle.history.specs.History.{ExporterLife, ObjectLife, InterfaceLife, SetLife, History, begin, liveObjects, live, heardLife}
+use Rattle.history.specs.History.{ExporterLife, ObjectLife, InterfaceLife, SetLife, History, liveObjects, live, heardLife}
 use Rattle.columns.proofs.Elements.{In, map-in, snoc-in, in-none, Sole, first-sole, sole-by}
 
 -- ---- serial numbers
@@ -143,25 +141,3 @@ kept-from h h′ k a b c bounded members alive s =
 
     ids : map serialOfObject (h′ .objects) ≡ map serialOfObject (h .objects)
     ids = sym (map-map serialOfObject still (h′ .objects)) ∙ ap (map serialOfObject) b ∙ map-map serialOfObject still (h .objects)
-
--- ---- a reset
-
--- its live entries
-pub live-begin : (t : ℕ) → live (begin t) ≡ fresh t
-unfolding live keep
-live-begin t = refl
-
--- its history
-pub kept-begin : (t : ℕ) → Kept (begin t)
-unfolding distinct keep
-kept-begin t =
-    record {
-      exporters = record { differ = refl; below = λ x m. absurd (List·Memᴰ·not-nil m) };
-      objects = record { differ = refl; below = λ x m. absurd (List·Memᴰ·not-nil m) };
-      exported = λ o m. absurd (List·Memᴰ·not-nil m);
-      owned = λ l m. absurd (List·Memᴰ·not-nil m);
-      bounded = λ l m. absurd (List·Memᴰ·not-nil m);
-      members = λ s m k n. absurd (List·Memᴰ·not-nil m);
-      latest = λ o p m n e. absurd (List·Memᴰ·not-nil n);
-      sound = rw (live-begin t) (fresh-sound t);
-    }

@@ -138,7 +138,7 @@ agreed true b e = sym e
 agreed false b e = sym (ap not e)
 
 -- room is refused exactly when a kind is full
-pub room-exactly : (c : Call) (e : Entries) → Placed e → roomExactly c e ≡ true
+pub room-exactly : (c : Call) (e : Entries) → Placed e → roomExactly (number c e) c e ≡ true
 unfolding roomExactly number
 room-exactly c e p = agreed _ _ (rows c e p .nine)
 

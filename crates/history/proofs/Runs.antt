@@ -2,22 +2,25 @@
 -- used but that it performs its call.
 use Prim.Native.Nat.{ℕ}
 use mathlib.Core.Path.{_≡_, refl, sym, ap, _∙_}
-use mathlib.Core.Bool.{Bool, true, cond, _&&_, _||_, or-true}
+use mathlib.Core.Bool.{Bool, true, cond, _&&_, _||_, or-true, true≢false}
 use mathlib.Core.List.{List, _∷_}
 use mathlib.Core.Logic.{⊎-elim}
+use native.Mathlib.Omega.{arith}
 use borrow.Author.Tests.{eq-eqb, ne-eqb}
-use Rattle.columns.proofs.Tests.{same-or-not, and-left, and-right}
+use Rattle.kinds.specs.Refusals.{order}
+use Rattle.columns.proofs.Tests.{true-or-false, same-or-not, and-left, and-right}
 use Rattle.rules.specs.Entries.{Entries}
-use Rattle.rules.specs.Calls.{Call, reset, Reply}
+use Rattle.rules.specs.Calls.{Call, reset, enterExporter, removeExporter, enterObject, enterInterface, add, release, simplePing, complexPing, clock, resolve, census, members, nextStop, Reply}
 use Rattle.rules.specs.Sound.{sound}
-use Rattle.rules.specs.Rules.{number, next, refused, done, reply}
+use Rattle.rules.specs.Rules.{refusals, number, next, results, refused, done, reply}
 use Rattle.rules.specs.Contract as contract
 use Rattle.rules.specs.Contract.{Memory, rightLengths, lengthsOnly, fit, replyTo}
 use Rattle.rules.proofs.SoundLaws.{table-fields}
 use Rattle.table.specs.View.{view, soundMemory, Performed}
-use Rattle.history.specs.History.{History, begin, live, feed, feedAll, replies}
-use Rattle.history.specs.Runs.{Run, none, call, historyOf, WholeRun, countsGranted, goneExactly}
-use Rattle.history.proofs.Lives.{Kept, live-begin, kept-begin}
+use Rattle.history.specs.History.{History, begins, live, feed, feedAll, replies}
+use Rattle.history.specs.Runs.{Run, none, call, unbegun, historyOf, WholeRun, countsGranted, goneExactly, roomExactly}
+use Rattle.history.proofs.Lives.{Kept}
+use Rattle.history.proofs.Beginning.{kept-fresh}
 use Rattle.history.proofs.Feeding.{fed}
 use Rattle.history.proofs.Room.{room-exactly, view-placed}
 use Rattle.history.proofs.Demands.{identifiers-distinct, one-object, some-reference, objects-exported, members-live, counts-granted, gone-exactly}
@@ -90,27 +93,86 @@ run-follows (call {c} {r} {cs} {rs} {m} {m′} p t) h f =
     let n = run-follows t (feed h c) (follows c m m′ r h p f) in
     (n .0, λ u. call-reply c m m′ r h p f u ∷ n .1 u)
 
--- what an accepted reset leaves
-reset-follows : (t : ℕ) (first : Reply) (m₀ m₁ : Memory) → Performed (reset t) m₀ first m₁ → first .number ≡ 0 → Follows m₁ (begin t)
-unfolding next
-reset-follows t first m₀ m₁ p z = record { sound = p .soundAfter z; entries = p .became z ∙ sym (live-begin t); kept = kept-begin t }
+-- ---- the first call
+
+-- what a call that begins a history leaves and answers does not depend on the entries before it
+begins-alike : (c : Call) → begins c ≡ true → (e f : Entries) → (next c e ≡ next c f) × (reply c e ≡ reply c f)
+unfolding next reply number refusals order done results refused
+begins-alike (reset t) b e f = (refl, refl)
+begins-alike (enterExporter x u l) b e f = absurd (true≢false (sym b))
+begins-alike (removeExporter x) b e f = absurd (true≢false (sym b))
+begins-alike (enterObject o x i iid n np) b e f = absurd (true≢false (sym b))
+begins-alike (enterInterface o i iid n) b e f = absurd (true≢false (sym b))
+begins-alike (add i p q) b e f = absurd (true≢false (sym b))
+begins-alike (release i p q) b e f = absurd (true≢false (sym b))
+begins-alike (simplePing s) b e f = absurd (true≢false (sym b))
+begins-alike (complexPing s n adds dels) b e f = absurd (true≢false (sym b))
+begins-alike (clock t) b e f = absurd (true≢false (sym b))
+begins-alike (resolve x buffer) b e f = absurd (true≢false (sym b))
+begins-alike census b e f = absurd (true≢false (sym b))
+begins-alike (members s) b e f = absurd (true≢false (sym b))
+begins-alike (nextStop r) b e f = absurd (true≢false (sym b))
+
+module _ (c : Call) (m m′ : Memory) (r : Reply) (p : Performed c m r m′) (b : begins c ≡ true) (z : r .number ≡ 0) where
+  -- an accepted call is not refused by 1
+  first-fits : fit view c m ≡ true
+  unfolding replyTo refused
+  first-fits =
+      ⊎-elim
+      (λ t. t)
+      (λ f. let n : 1 ≡ 0 = sym (ap (λ (a : Bool). cond a (reply c (view m)) (refused 1 c (view m)) .number) f) ∙ sym (ap (λ (q : Reply). q .number) (p .answered)) ∙ z in absurd (omega arith))
+      (true-or-false (fit view c m))
+
+  -- it is answered as on no history
+  first-reply : r ≡ reply c (live unbegun)
+  unfolding replyTo
+  first-reply =
+      p .answered ∙ ap (λ (a : Bool). cond a (reply c (view m)) (refused 1 c (view m))) first-fits ∙ begins-alike c b (view m) (live unbegun) .1
+
+  -- the memory that it leaves holds the entries of the history that it begins
+  first-follows : Follows m′ (feed unbegun c)
+  first-follows =
+      let g = fed c unbegun (kept-fresh 0) in
+      let n : number c (live unbegun) ≡ 0 = sym (reply-number c (live unbegun)) ∙ sym (ap (λ (q : Reply). q .number) first-reply) ∙ z in
+      record {
+        sound = p .soundAfter z;
+        entries =
+            p .became z
+            ∙ begins-alike c b (view m) (live unbegun) .0
+            ∙ sym (g .entries ∙ ap (λ (a : Bool). cond a (next c (live unbegun)) (live unbegun)) (eq-eqb (number c (live unbegun)) 0 n));
+        kept = g .kept;
+      }
+
+-- ---- a run that begins with such a call
+
+-- the memory follows the history, and the replies are the history's
+pub begun-follows : {c : Call} {cs : List Call} {r : Reply} {rs : List Reply} {m m′ : Memory} → begins c ≡ true → r .number ≡ 0 → Run (c ∷ cs) (r ∷ rs) m m′
+    → Follows m′ (historyOf (c ∷ cs)) × (r ∷ rs ≡ replies unbegun (c ∷ cs))
+unfolding feedAll replies
+begun-follows {c} {cs} {r} {rs} {m} b z (call {m′ = m₁} p t) =
+    let n = run-follows t (feed unbegun c) (first-follows c m m₁ r p b z) in
+    (n .0, λ u. first-reply c m m₁ r p b z u ∷ n .1 u)
 
 -- demand 3
 pub whole-run : WholeRun
-whole-run t first cs rs m₀ m₁ m p z run =
-    let r = run-follows run (begin t) (reset-follows t first m₀ m₁ p z) in
-    let h : History = historyOf t cs in
-    let e = r .0 .entries in
-    let s = table-fields view m (r .0 .sound) .entries in
+whole-run c r cs rs m₀ m b z run =
+    let w = begun-follows b z run in
+    let h : History = historyOf (c ∷ cs) in
+    let e = w .0 .entries in
+    let s = table-fields view m (w .0 .sound) .entries in
     record {
-      answers = r .1;
+      answers = w .1;
       entries = e;
+      sound = w .0 .sound;
       identifiers = identifiers-distinct (view m) s;
       interfaceObject = one-object (view m) s;
       interfaceReference = some-reference (view m) s;
       objectExporter = objects-exported (view m) s;
       memberLive = members-live (view m) s;
-      counts = ap (countsGranted h) e ∙ counts-granted h (r .0 .kept);
-      gone = ap (goneExactly h) e ∙ gone-exactly h (r .0 .kept);
-      room = λ c. room-exactly c (view m) (view-placed m);
+      counts = ap (countsGranted h) e ∙ counts-granted h (w .0 .kept);
+      gone = ap (goneExactly h) e ∙ gone-exactly h (w .0 .kept);
+      room = λ d q m′ p.
+          ap (λ (n : ℕ). roomExactly n d (view m))
+          (ap (λ (a : Reply). a .number) (p .answered ∙ replied d m (w .0 .sound)) ∙ reply-number d (view m))
+          ∙ room-exactly d (view m) (view-placed m);
     }

@@ -3,14 +3,14 @@
 use Prim.Native.Nat.{ℕ, _+_, _-_, min}
 use mathlib.Core.Bool.{Bool, true, false, cond, not, _&&_, _||_}
 use mathlib.Core.List.{List, [], _∷_, _++_, map}
-use lib.ListN.{length}
+use lib.ListN.{length, getD}
 use lib.Dec.{eqb, leb}
 use Rattle.kinds.specs.declared.Guid.{Guid}
-use Rattle.columns.specs.Lists.{keep, some, every, firstOr, among}
+use Rattle.columns.specs.Lists.{keep, some, every, firstOr, firstIndex, tabulate, among, holding}
 use Rattle.columns.specs.Guids.{nil, sameGuid}
-use Rattle.rules.specs.Entries.{Exporter, Object, Interface, PingSet, Entries}
+use Rattle.rules.specs.Entries.{Exporter, Object, Interface, PingSet, Entries, fresh, oxids, oids}
 use Rattle.rules.specs.Calls.{Call, reset, enterExporter, removeExporter, enterObject, enterInterface, add, release, simplePing, complexPing, clock, resolve, census, members, nextStop, Reply}
-use Rattle.rules.specs.Rules.{number, reply}
+use Rattle.rules.specs.Rules.{noExporter, noObject, number, reply}
 
 -- An identifier that went may be entered again, as a new life; so lives name each other by serial numbers, which are never given twice.
 pub record ExporterLife : Type 0 where
@@ -45,7 +45,7 @@ pub record SetLife : Type 0 where
   pub pinged : ℕ
   pub members : List ℕ
 
--- since the last accepted reset
+-- since the last accepted call that began it
 pub record History : Type 0 where
   pub clock : ℕ
   pub next : ℕ
@@ -54,8 +54,66 @@ pub record History : Type 0 where
   pub interfaces : List InterfaceLife
   pub sets : List SetLife
 
-abbrev pub begin : ℕ → History
-begin t = record { clock = t; next = 1; exporters = []; objects = []; interfaces = []; sets = [] }
+-- ---- how a history begins
+
+-- the place of an identifier in a list of them
+abbrev pub placeOf : List ℕ → ℕ → ℕ
+placeOf ids x = firstIndex (eqb x) ids
+
+-- the lives of entries with which a history begins: each is entered then, its counts as granted; its serial is its place in its kind
+abbrev pub exporterAt : Entries → ℕ → ExporterLife
+exporterAt e k =
+    let x : Exporter = getD (e .exporters) k noExporter in
+    record { serial = k; oxid = x .oxid; unknown = x .unknown; bindings = x .bindings; removed = false }
+
+abbrev pub objectAt : Entries → ℕ → ObjectLife
+objectAt e k =
+    let o : Object = getD (e .objects) k noObject in
+    record { serial = k; oid = o .oid; exporter = placeOf (oxids e) (o .exporter); noping = o .noping; heard = o .heard }
+
+abbrev pub interfaceHeld : Entries → Interface → InterfaceLife
+interfaceHeld e i =
+    record {
+      ipid = i .ipid;
+      iid = i .iid;
+      object = placeOf (oids e) (i .object);
+      granted = i .public;
+      taken = 0;
+      grantedPrivate = i .private;
+      takenPrivate = 0;
+    }
+
+abbrev pub setHeld : Entries → PingSet → SetLife
+setHeld e s = record { number = s .number; sequence = s .sequence; pinged = s .pinged; members = map (placeOf (oids e)) (s .members) }
+
+-- A history that begins at these entries. A reset begins one at no entries.
+unfoldable pub begin : Entries → History
+begin e =
+    record {
+      clock = e .clock;
+      next = e .next;
+      exporters = tabulate (length (e .exporters)) (exporterAt e);
+      objects = tabulate (length (e .objects)) (objectAt e);
+      interfaces = map (interfaceHeld e) (e .interfaces);
+      sets = map (setHeld e) (e .sets);
+    }
+
+-- a call that begins the history anew where it is accepted: what it leaves does not depend on what was before
+abbrev pub begins : Call → Bool
+begins (reset t) = true
+begins (enterExporter x u b) = false
+begins (removeExporter x) = false
+begins (enterObject o x i iid n np) = false
+begins (enterInterface o i iid n) = false
+begins (add i p q) = false
+begins (release i p q) = false
+begins (simplePing s) = false
+begins (complexPing s n adds dels) = false
+begins (clock t) = false
+begins (resolve x buffer) = false
+begins census = false
+begins (members s) = false
+begins (nextStop r) = false
 
 -- ---- what has gone
 
@@ -233,7 +291,7 @@ abbrev pub startSet : History → History
 startSet h = withSetLives (h .next + 1) (h .sets ++ (record { number = h .next; sequence = 0; pinged = h .clock; members = [] } ∷ [])) h
 
 unfoldable pub lived : Call → History → History
-lived (reset t) h = begin t
+lived (reset t) h = begin (fresh t)
 lived (enterExporter x u b) h =
     withExporterLives (h .exporters ++ (record { serial = length (h .exporters); oxid = x; unknown = u; bindings = b; removed = false } ∷ [])) h
 lived (removeExporter x) h =
@@ -267,3 +325,25 @@ feedAll h (c ∷ cs) = feedAll (feed h c) cs
 unfoldable pub replies : History → List Call → List Reply
 replies h [] = []
 replies h (c ∷ cs) = reply c (live h) ∷ replies (feed h c) cs
+
+-- ---- what has gone stays gone
+
+-- at each place of the first list the second has an element, and the two pass the test
+unfoldable pub along : {A : Type 0} → (A → A → Bool) → List A → List A → Bool
+along p [] ys = true
+along p (x ∷ xs) [] = false
+along p (x ∷ xs) (y ∷ ys) = p x y && along p xs ys
+
+-- where a holds, b does
+abbrev pub implies : Bool → Bool → Bool
+implies a b = not a || b
+
+-- each life of h is at its place in h′, and what has gone in h has gone in h′
+unfoldable pub staysGone : History → History → Bool
+staysGone h h′ =
+    holding
+    (along (λ (x x′ : ExporterLife). eqb (x .serial) (x′ .serial) && implies (x .removed) (x′ .removed)) (h .exporters) (h′ .exporters)
+    ∷ along (λ (o o′ : ObjectLife). eqb (o .serial) (o′ .serial) && implies (objectGone h o) (objectGone h′ o′)) (h .objects) (h′ .objects)
+    ∷ along (λ (l l′ : InterfaceLife). sameGuid (l .ipid) (l′ .ipid) && implies (not (liveInterface h l)) (not (liveInterface h′ l′))) (h .interfaces) (h′ .interfaces)
+    ∷ along (λ (s s′ : SetLife). eqb (s .number) (s′ .number) && implies (not (liveSet h s)) (not (liveSet h′ s′))) (h .sets) (h′ .sets)
+    ∷ [])

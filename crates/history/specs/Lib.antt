@@ -1,3 +1,2 @@
 pub mod History
 pub mod Runs
-pub mod Cases

@@ -1,19 +1,20 @@
--- Demand 3: the state after a whole run of calls from an accepted reset. Statements only.
+-- Demand 3: the state after a whole run of calls that begins with an accepted reset. Statements only.
 use Prim.Native.Nat.{ℕ, _+_}
 use mathlib.Core.Path.{_≡_}
 use mathlib.Core.Bool.{Bool, true, false, cond, not, _&&_, _||_}
-use mathlib.Core.List.{List, [], _∷_}
+use mathlib.Core.List.{List, [], _∷_, map}
 use lib.ListN.{length}
 use lib.Dec.{eqb, ltb, leb}
 use Rattle.kinds.specs.Refusals.{Row, order}
-use Rattle.columns.specs.Lists.{keep, every, distinct}
+use Rattle.columns.specs.Lists.{keep, every, distinct, among}
 use Rattle.columns.specs.Guids.{sameGuid}
-use Rattle.rules.specs.Entries.{Object, Interface, PingSet, Entries, oxids, oids, setNumbers, ipids}
+use Rattle.rules.specs.Entries.{Object, Interface, PingSet, Entries, fresh, oxids, oids, setNumbers, ipids}
 use Rattle.rules.specs.Calls.{Call, reset, enterExporter, removeExporter, enterObject, enterInterface, add, release, simplePing, complexPing, clock, resolve, census, members, nextStop, Reply}
+use Rattle.rules.specs.Sound.{sound}
 use Rattle.rules.specs.Rules.{isLiveExporter, isLiveObject, interfaceOf, refusals, number}
 use Rattle.rules.specs.Contract.{Memory}
-use Rattle.table.specs.View.{view, Performed}
-use Rattle.history.specs.History.{ObjectLife, InterfaceLife, History, begin, interfacesAtZero, exporterRemoved, unheard, liveInterface, live, feedAll, replies}
+use Rattle.table.specs.View.{view, soundMemory, Performed}
+use Rattle.history.specs.History.{ObjectLife, InterfaceLife, History, begin, begins, interfacesAtZero, exporterRemoved, unheard, liveInterface, live, feed, feedAll, replies, staysGone}
 
 -- ---- the sentences of demand 3, as tests
 
@@ -83,9 +84,10 @@ needsFullKind census e = false
 needsFullKind (members s) e = false
 needsFullKind (nextStop r) e = false
 
--- room is refused, once nothing earlier in the call's order refuses, exactly when a kind it needs has as many live entries as places
-unfoldable pub roomExactly : Call → Entries → Bool
-roomExactly c e = agree (eqb (number c e) 9) (eqb (order (above 9 (refusals c e))) 0 && needsFullKind c e)
+-- a call that is answered by n: room is refused, once nothing earlier in the call's order refuses, exactly when a kind it needs has as
+-- many live entries as places
+unfoldable pub roomExactly : ℕ → Call → Entries → Bool
+roomExactly n c e = agree (eqb n 9) (eqb (order (above 9 (refusals c e))) 0 && needsFullKind c e)
 
 -- a run: the calls, their replies, the memory before and after; each call gets the memory that the last one left
 pub data Run : List Call → List Reply → Memory → Memory → Type 0 where
@@ -94,31 +96,51 @@ pub data Run : List Call → List Reply → Memory → Memory → Type 0 where
       {c : Call} {r : Reply} {cs : List Call} {rs : List Reply} {m m′ m″ : Memory}
       → Performed c m r m′ → Run cs rs m′ m″ → Run (c ∷ cs) (r ∷ rs) m m″
 
--- the history of these calls after a reset at t
-abbrev pub historyOf : ℕ → List Call → History
-historyOf t cs = feedAll (begin t) cs
+-- the history before the first call, of which a call that begins one leaves nothing
+abbrev pub unbegun : History
+unbegun = begin (fresh 0)
 
--- after a reset at t, the calls cs and their replies rs, with the memory m: a field for each sentence of demand 3
-pub record AfterRun (t : ℕ) (cs : List Call) (rs : List Reply) (m : Memory) : Type 0 where
+-- the history of these calls, of which the first begins it
+abbrev pub historyOf : List Call → History
+historyOf cs = feedAll unbegun cs
+
+-- after the calls cs and their replies rs, with the memory m: a field for each sentence of demand 3
+pub record AfterRun (cs : List Call) (rs : List Reply) (m : Memory) : Type 0 where
   -- each is answered as demand 2 says, on the history's own live entries
-  pub answers : rs ≡ replies (begin t) cs
+  pub answers : rs ≡ replies unbegun cs
   -- the live entries, with every field, list and member, the clock and the next set number are exactly the history's
-  pub entries : view m ≡ live (historyOf t cs)
+  pub entries : view m ≡ live (historyOf cs)
+  pub sound : soundMemory m ≡ true
   pub identifiers : distinctIdentifiers (view m) ≡ true
   pub interfaceObject : oneObject (view m) ≡ true
   pub interfaceReference : someReference (view m) ≡ true
   pub objectExporter : objectsExported (view m) ≡ true
   pub memberLive : membersLive (view m) ≡ true
-  pub counts : countsGranted (historyOf t cs) (view m) ≡ true
-  pub gone : goneExactly (historyOf t cs) (view m) ≡ true
-  -- of whatever call comes next
-  pub room : (c : Call) → roomExactly c (view m) ≡ true
+  pub counts : countsGranted (historyOf cs) (view m) ≡ true
+  pub gone : goneExactly (historyOf cs) (view m) ≡ true
+  -- of the answer of whatever call is performed next
+  pub room : (c : Call) (r : Reply) (m′ : Memory) → Performed c m r m′ → roomExactly (r .number) c (view m) ≡ true
 
--- demand 3: from an accepted reset at any time, on any memory, over every run
+-- demand 3: over every run on any memory whose first call is a reset that is accepted
 abbrev pub WholeRun : Type 0
 WholeRun =
-    (t : ℕ) (first : Reply) (cs : List Call) (rs : List Reply) (m₀ m₁ m : Memory)
-    → Performed (reset t) m₀ first m₁
-    → first .number ≡ 0
-    → Run cs rs m₁ m
-    → AfterRun t cs rs m
+    (c : Call) (r : Reply) (cs : List Call) (rs : List Reply) (m₀ m : Memory)
+    → begins c ≡ true
+    → r .number ≡ 0
+    → Run (c ∷ cs) (r ∷ rs) m₀ m
+    → AfterRun (c ∷ cs) (r ∷ rs) m
+
+-- what has gone in a history stays gone after any call but an accepted reset; so what was unheard at an accepted clock is gone at every later one
+abbrev pub StaysGone : Type 0
+StaysGone =
+    (cs : List Call) (c : Call)
+    → (begins c && eqb (number c (live (historyOf cs))) 0) ≡ false
+    → staysGone (historyOf cs) (feed (historyOf cs) c) ≡ true
+
+-- the members of each set stand in the order of the objects, each once
+abbrev pub Ordered : Entries → Type 0
+Ordered e = map (λ (s : PingSet). keep (among (s .members)) (oids e)) (e .sets) ≡ map (λ (s : PingSet). s .members) (e .sets)
+
+-- a history that begins at sound entries has exactly these for its live entries
+abbrev pub BeginsAt : Type 0
+BeginsAt = (e : Entries) → sound e ≡ true → Ordered e → live (begin e) ≡ e

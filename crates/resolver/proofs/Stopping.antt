@@ -1,7 +1,7 @@
 -- The next stop: the reference's number and OXID, the bytes of an exporter's list, and the place that each outcome gives.
 use Prim.Native.Nat.{ℕ, _+_, _-_, _*_, _<_, _≤_}
 use mathlib.Core.Path.{_≡_, refl, sym, ap, _∙_}
-use mathlib.Core.Bool.{Bool, true, false}
+use mathlib.Core.Bool.{Bool, true, false, cond}
 use mathlib.Core.List.{List, [], _∷_}
 use native.Mathlib.Omega.{arith}
 use native.Mathlib.Nat.{add-sub-cancel-left}
@@ -17,7 +17,8 @@ use Rattle.bindings.specs.declared.Place.{Place}
 use Rattle.bindings.proofs.Laws.{front}
 use Rattle.references.specs.References.{isCustom, referenceAnswer, tailPlace}
 use Rattle.references.proofs.Laws.{accepted, oxid-at, tail-number, tail-within, tail-bytes}
-use Rattle.rules.specs.Entries.{Entries}
+use Rattle.columns.specs.Lists.{firstIndex}
+use Rattle.rules.specs.Entries.{Entries, oxids}
 use Rattle.rules.specs.Calls.{Call, Reply}
 use Rattle.rules.specs.Sound.{listsKept}
 use Rattle.rules.specs.Rules.{isLiveExporter, noExporter, oxidOf, refusals, number, next, results, refused, done}
@@ -125,19 +126,36 @@ found-part found store bytes =
 
 -- ---- the number and the part, as one call
 
+-- a place is in the store where nothing is refused and the OXID is live
+in-store : (m : Memory) (reference : List ℕ) (k : ℕ) → k ≡ replyTo view (Call.nextStop reference) m .number
+    → stopPlace m reference .in_store ≡ cond (eqb k 0) (isLiveExporter (view m) (oxidOf reference)) false
+unfolding stopPlace
+in-store m reference k e = rw (sym e) (picked (eqb k 0) (isLiveExporter (view m) (oxidOf reference)))
+  where
+    picked : (a b : Bool) → cond a (cond b (stopInStore m (firstIndex (eqb (oxidOf reference)) (oxids (view m)))) (stopInReference (tailPlace reference))) (refusedStop k) .in_store ≡ cond a b false
+    picked true true = refl
+    picked true false = refl
+    picked false b = refl
+
 module _ (m : Memory) (reference : List ℕ) {n : ℕ} {part : List ℕ} (e : n ≡ replyTo view (Call.nextStop reference) m .number) (f : part ≡ replyTo view (Call.nextStop reference) m .part) where
-  -- they are those of the reply with which the call is performed
-  as-performed : {k : ℕ} {b : List ℕ} → Performed (Call.nextStop reference) m (stopReply k b) m → Performed (Call.nextStop reference) m (stopReply n part) m
-  as-performed h = rw (e, f, ← h .answered) h
+  -- they are those of the reply with which the call is performed, and so is the slice
+  as-performed : {k : ℕ} {i : Bool} {b : List ℕ} → Performed (Call.nextStop reference) m (stopReply k i b) m → stopPlace m reference .in_store ≡ i
+      → Performed (Call.nextStop reference) m (stopReply n (stopPlace m reference .in_store) part) m
+  as-performed h p = rw (p, e, f, ← h .answered) h
 
   by-outcome : (sound accepted : Bool) → soundMemory m ≡ sound → eqb (number (Call.nextStop reference) (view m)) 0 ≡ accepted
-      → Performed (Call.nextStop reference) m (stopReply n part) m
+      → Performed (Call.nextStop reference) m (stopReply n (stopPlace m reference .in_store) part) m
   unfolding next refused done results
-  by-outcome false a s t = as-performed (unsound view (Call.nextStop reference) m refl s)
-  by-outcome true false s t = as-performed (sound-refused view (Call.nextStop reference) m refl s _ refl (eqb-false _ _ t))
+  by-outcome false a s t =
+      let h = unsound view (Call.nextStop reference) m refl s in
+      as-performed {i = false} h (in-store m reference 1 (ap (λ (r : Reply). r .number) (h .answered)))
+  by-outcome true false s t =
+      let h = sound-refused view (Call.nextStop reference) m refl s _ refl (eqb-false _ _ t) in
+      as-performed {i = false} h (in-store m reference _ (ap (λ (r : Reply). r .number) (h .answered)) ∙ rw t)
   by-outcome true true s t =
       let w = table-fields view m s in
-      as-performed (performed (Call.nextStop reference) m m refl s (eqb-true _ _ t) (w .words) (w .store) refl)
+      let h = performed (Call.nextStop reference) m m refl s (eqb-true _ _ t) (w .words) (w .store) refl in
+      as-performed h (in-store m reference 0 (ap (λ (r : Reply). r .number) (h .answered)))
 
 pub one-call : OneCall
 one-call m reference n part e f = by-outcome m reference e f (soundMemory m) (eqb (number (Call.nextStop reference) (view m)) 0) refl refl

@@ -1,8 +1,8 @@
 -- The next stop (document 01, "Where to go next"): its place, its number and its part, each the result of a function of its own.
 use Prim.Native.Nat.{ℕ, _+_, _-_, _*_, _≤_}
 use mathlib.Core.Path.{_≡_}
-use mathlib.Core.Bool.{true, false, cond}
-use mathlib.Core.List.{List, []}
+use mathlib.Core.Bool.{Bool, true, false, cond}
+use mathlib.Core.List.{List, [], _∷_}
 use lib.ListN.{length, take, drop, getD}
 use lib.Dec.{eqb}
 use Rattle.bindings.specs.declared.Place.{Place}
@@ -10,7 +10,7 @@ use Rattle.references.specs.References.{tailPlace}
 use Rattle.columns.specs.Lists.{firstIndex}
 use Rattle.rules.specs.Entries.{oxids}
 use Rattle.rules.specs.Calls.{Call, Reply}
-use Rattle.rules.specs.Rules.{noExporter, isLiveExporter, oxidOf}
+use Rattle.rules.specs.Rules.{noExporter, isLiveExporter, oxidOf, flag}
 use Rattle.rules.specs.Contract.{Memory, replyTo}
 use Rattle.table.specs.View.{exportersOf, view, Performed}
 use Rattle.resolver.specs.declared.routing.StopPlace.{StopPlace}
@@ -53,13 +53,13 @@ stopStart p store reference = cond (p .in_store) (store .0, p .from + store .1) 
 
 -- ---- the promises
 
--- a number and a part, as the reply of one call
-abbrev pub stopReply : ℕ → List ℕ → Reply
-stopReply n part = record { number = n; values = []; part = part; buffer = [] }
+-- a number, whether the part is one of the store, and the part, as the reply of one call
+abbrev pub stopReply : ℕ → Bool → List ℕ → Reply
+stopReply n inStore part = record { number = n; values = flag inStore ∷ []; part = part; buffer = [] }
 
--- the number and the bytes of a place
+-- the number, the slice and the bytes of a place
 abbrev pub placeReply : StopPlace → List ℕ → List ℕ → Reply
-placeReply p store reference = stopReply (p .answer) (take (p .to - p .from) (drop (p .from) (stopSource p store reference)))
+placeReply p store reference = stopReply (p .answer) (p .in_store) (take (p .to - p .from) (drop (p .from) (stopSource p store reference)))
 
 -- p is answered
 pub record StopFound (m : Memory) (reference : List ℕ) (p : StopPlace) : Type 0 where
@@ -72,10 +72,11 @@ pub record StopPart (m : Memory) (reference : List ℕ) (storeStart referenceSta
   pub bytes : part ≡ replyTo view (Call.nextStop reference) m .part
   pub begins : start ≡ stopStart (stopPlace m reference) storeStart referenceStart
 
--- a number and a part that two functions answered are one call
+-- a number and a part that two functions answered are one call, whose reply says of which slice it is a part: of the one in which it
+-- begins (`StopPart`)
 abbrev pub OneCall : Type 0
 OneCall =
     (m : Memory) (reference : List ℕ) (n : ℕ) (part : List ℕ)
     → n ≡ replyTo view (Call.nextStop reference) m .number
     → part ≡ replyTo view (Call.nextStop reference) m .part
-    → Performed (Call.nextStop reference) m (stopReply n part) m
+    → Performed (Call.nextStop reference) m (stopReply n (stopPlace m reference .in_store) part) m

@@ -7,3 +7,4 @@ pub mod Pinging
 pub mod Keeps
 pub mod ByRow
 pub mod PingRows
+pub mod Cases

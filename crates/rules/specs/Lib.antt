@@ -4,3 +4,4 @@ pub mod Sound
 pub mod Rules
 pub mod PingRows
 pub mod Contract
+pub mod Cases

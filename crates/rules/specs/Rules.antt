@@ -260,10 +260,10 @@ results (resolve x buffer) e =
     record { values = length (p .bindings) ∷ p .unknown .low ∷ p .unknown .high ∷ []; part = []; front = p .bindings; buffer = buffer }
 results census e = only (liveNumbers e)
 results (members s) e = only (length (setOf e s .members) ∷ [])
--- a part of the store where the OXID is live, else a part of the reference
+-- a part of the store where the OXID is live, else a part of the reference; and which of the two it is: 1 for the store
 results (nextStop r) e =
     record {
-      values = [];
+      values = flag (isLiveExporter e (oxidOf r)) ∷ [];
       part = cond (isLiveExporter e (oxidOf r)) (exporterOf e (oxidOf r) .bindings) (tailOf r);
       front = [];
       buffer = [];
