@@ -11,31 +11,24 @@ use Rattle.kinds.specs.declared.Guid.{Guid}
 use Rattle.columns.specs.Lists.{distinct}
 use Rattle.columns.proofs.Tests.{and-left}
 use Rattle.rules.specs.Entries.{Entries, oids}
-use Rattle.rules.specs.Calls.{Call}
-use Rattle.rules.specs.Sound.{sound}
+use Rattle.rules.specs.Calls.{Call, Reply}
 use Rattle.rules.specs.Rules.{isLiveExporter, isLiveObject, isLiveInterface, isLiveSet, noExporter, exporterOf, number, next, refused, done}
 use Rattle.rules.specs.Contract.{Memory, lengthsOnly}
-use Rattle.rules.proofs.Performing.{unsound, sound-refused, sound-accepted}
-use Rattle.rules.proofs.SoundLaws.{SoundTable, sound-fields, table-fields, table-made}
-use Rattle.rules.proofs.Keeps.{keeps}
+use Rattle.rules.proofs.Performing.{unsound}
+use Rattle.rules.proofs.Stepping as stepping
+use Rattle.rules.proofs.Stepping.{performed-step}
+use Rattle.rules.proofs.SoundLaws.{sound-fields, table-fields}
 use Rattle.rules.proofs.ByRow.{exporterRow, objectRow, interfaceRow, setRow, exporter-live, object-live, interface-live, set-live, exporter-row}
-use Rattle.table.specs.View.{exporterCount, objectCount, interfaceCount, setCount, exportersOf, memory, view, soundMemory, Performed}
+use Rattle.table.specs.View.{exporterCount, objectCount, interfaceCount, setCount, exportersOf, memory, view, soundMemory, SoundTable, Stepped, Performed}
 use Rattle.table.specs.Edits.{membersBelow}
 use Rattle.table.proofs.EditBelow.{nonzero, live-below}
 use Rattle.table.proofs.Entries.{exporters-length, objects-length, interfaces-length, sets-length}
 
 -- ---- calls
 
--- both lengths are right and the entries are those of the rules, so the table is sound afterwards
-pub performed : (c : Call) (m m′ : Memory) → lengthsOnly c ≡ false → soundMemory m ≡ true → number c (view m) ≡ 0
-    → length (m′ .words) ≡ 8192 → length (m′ .store) ≡ 8192 → view m′ ≡ next c (view m) → Performed c m (done c (view m)) m′
-performed c m m′ l s n w b v =
-    sound-accepted view c m l s n m′
-    (table-made view m′ (record { words = w; store = b; entries = ap sound v ∙ keeps c (view m) (table-fields view m s .entries) n })) v
-
 module _ {r : Bool} {m : Memory} (judged : r ≡ soundMemory m) where
   -- the table that a call goes on with
-  pub sound-table : not r ≡ false → SoundTable view m
+  pub sound-table : not r ≡ false → SoundTable m
   sound-table h = table-fields view m (sym judged ∙ not-false r h)
 
   module _ (c : Call) (looks : lengthsOnly c ≡ false) where
@@ -43,19 +36,27 @@ module _ {r : Bool} {m : Memory} (judged : r ≡ soundMemory m) where
     pub unsound-call : not r ≡ true → Performed c m (refused 1 c (view m)) m
     unsound-call h = unsound view c m looks (sym judged ∙ not-true r h)
 
-    module _ (h : not r ≡ false) (n : ℕ) (e : n ≡ number c (view m)) where
-      -- the rules refuse the call
-      pub refused-call : (n ≡ 0 → ⊥) → Performed c m (refused n c (view m)) m
-      refused-call z = sound-refused view c m looks (sym judged ∙ not-false r h) n (sym e) z
+    -- it is not, and the step is the call
+    pub stepped-call : not r ≡ false → {x : Reply} {m′ : Memory} → Stepped c m x m′ → length (m′ .words) ≡ 8192 → length (m′ .store) ≡ 8192 → Performed c m x m′
+    stepped-call h s w b = performed-step view c m (sound-table h) s looks w b
 
-      -- an accepted call: soundness afterwards follows from the rules
-      pub accepted-call : n ≡ 0 → (m′ : Memory) → length (m′ .words) ≡ 8192 → length (m′ .store) ≡ 8192 → view m′ ≡ next c (view m)
-          → Performed c m (done c (view m)) m′
-      accepted-call z m′ ws bs v =
-          performed c m m′ looks (sym judged ∙ not-false r h) (sym e ∙ z) ws bs v
+-- ---- steps
+
+module _ {c : Call} {m : Memory} (n : ℕ) (e : n ≡ number c (view m)) where
+  -- the rules refuse the step
+  pub refused-step : (n ≡ 0 → ⊥) → Stepped c m (refused n c (view m)) m
+  refused-step z = stepping.refused-step view c m n e z
+
+  -- they accept it
+  pub accepted-step : n ≡ 0 → (m′ : Memory) → view m′ ≡ next c (view m) → Stepped c m (done c (view m)) m′
+  accepted-step z m′ v = stepping.accepted-step view c m m′ (sym z ∙ e) v
+
+-- a step that leaves the table is a call that does
+pub step-call : {c : Call} {m : Memory} {x : Reply} → lengthsOnly c ≡ false → SoundTable m → Stepped c m x m → Performed c m x m
+step-call {c} {m} looks t s = performed-step view c m t s looks (t .words) (t .store)
 
 -- in a sound table every member bit stands at a live object's row
-pub sound-below : (ws s : List ℕ) → SoundTable view (memory ws s) → membersBelow ws ≡ true
+pub sound-below : (ws s : List ℕ) → SoundTable (memory ws s) → membersBelow ws ≡ true
 sound-below ws s t =
     let e : Entries = view (memory ws s) in
     let f = sound-fields e (t .entries) in

@@ -12,27 +12,26 @@ use Rattle.rules.specs.Entries.{Entries, oids, withClock}
 use Rattle.rules.specs.Calls.{Call}
 use Rattle.rules.specs.Sound.{proper, membersLive}
 use Rattle.rules.specs.Rules.{refusals, number, next, results, refused, done, clockValues}
-use Rattle.rules.proofs.Performing.{sound-refused}
-use Rattle.rules.proofs.SoundLaws.{table-fields, sound-fields}
+use Rattle.rules.proofs.SoundLaws.{sound-fields}
 use Rattle.rules.proofs.Leaving.{staysAt, setStaysAt, clock-next}
-use Rattle.table.specs.View.{objectCount, interfaceCount, setCount, memory, view, soundMemory, Performed}
+use Rattle.table.specs.View.{objectCount, interfaceCount, setCount, memory, view, SoundTable, Stepped}
 use Rattle.table.specs.Edits.{Became}
 use Rattle.table.proofs.Entries.{objects-length, interfaces-length, sets-length}
 use Rattle.resolver.specs.Leaving.{settled, setsLeft}
 use Rattle.resolver.specs.Replies.{clockReply}
 use Rattle.resolver.specs.declared.leaving.Leaving.the-variants.{Unheard}
-use Rattle.resolver.proofs.Calls.{performed}
+use Rattle.resolver.proofs.Calls.{refused-step, accepted-step}
 
-module _ (ws s : List ℕ) (t : ℕ) (h : soundMemory (memory ws s) ≡ true) where
+module _ (ws s : List ℕ) (t : ℕ) (h : SoundTable (memory ws s)) where
   abbrev before : Entries
   before = view (memory ws s)
 
   -- the clock would go back
-  pub clock-back : ltb t (getD ws 0 0) ≡ true → Performed (Call.clock t) (memory ws s) (clockReply (record { answer = 2; exporters = 0; objects = 0; interfaces = 0; sets = 0 })) (memory ws s)
+  pub clock-back : ltb t (getD ws 0 0) ≡ true → Stepped (Call.clock t) (memory ws s) (clockReply (record { answer = 2; exporters = 0; objects = 0; interfaces = 0; sets = 0 })) (memory ws s)
   unfolding refused results number refusals order
   clock-back l =
       let e : number (Call.clock t) before ≡ 2 = rw l in
-      sound-refused view (Call.clock t) (memory ws s) refl h 2 e (λ z. omega arith)
+      refused-step 2 (sym e) (λ z. omega arith)
 
   -- the sets go, and the clock is set
   module _ (ws₁ ws₂ : List ℕ) (sets : Became (setsLeft t) ws ws₁) (clock : Became (withClock t) ws₁ ws₂) where
@@ -40,12 +39,12 @@ module _ (ws s : List ℕ) (t : ℕ) (h : soundMemory (memory ws s) ≡ true) wh
     clock-view s = clock s ∙ ap (withClock t) (sets s)
 
     pub ids-proper : proper (oids (view (memory ws₂ s))) ≡ true
-    ids-proper = ap (λ (f : Entries). proper (oids f)) (clock-view s) ∙ sound-fields before (table-fields view (memory ws s) h .entries) .objectsProper
+    ids-proper = ap (λ (f : Entries). proper (oids f)) (clock-view s) ∙ sound-fields before (h .entries) .objectsProper
 
     pub members-live : membersLive (view (memory ws₂ s)) ≡ true
     members-live =
         ap membersLive (clock-view s)
-        ∙ every-kept _ (setStaysAt t) (before .sets) (sound-fields before (table-fields view (memory ws s) h .entries) .membersNamed)
+        ∙ every-kept _ (setStaysAt t) (before .sets) (sound-fields before (h .entries) .membersNamed)
 
     -- the objects go
     module _ (ws₃ : List ℕ) (settles : Became (settled (Unheard t)) ws₂ ws₃) where
@@ -73,16 +72,16 @@ module _ (ws s : List ℕ) (t : ℕ) (h : soundMemory (memory ws s) ≡ true) wh
       fewer-sets = fewer (λ e. e .sets) (sets-length ws₃) (sets-length ws) (rw length-map (length-keep (setStaysAt t) (before .sets)))
 
       -- the clock is set, and what went is answered
-      pub clock-done : ltb t (getD ws 0 0) ≡ false → length ws₃ ≡ 8192 → (a b c a₃ b₃ c₃ : ℕ)
+      pub clock-done : ltb t (getD ws 0 0) ≡ false → (a b c a₃ b₃ c₃ : ℕ)
           → a ≡ objectCount ws → b ≡ interfaceCount ws → c ≡ setCount ws → a₃ ≡ objectCount ws₃ → b₃ ≡ interfaceCount ws₃ → c₃ ≡ setCount ws₃
-          → Performed (Call.clock t) (memory ws s) (clockReply (record { answer = 0; exporters = 0; objects = a - a₃; interfaces = b - b₃; sets = c - c₃ })) (memory ws₃ s)
+          → Stepped (Call.clock t) (memory ws s) (clockReply (record { answer = 0; exporters = 0; objects = a - a₃; interfaces = b - b₃; sets = c - c₃ })) (memory ws₃ s)
       unfolding done results number refusals order
-      clock-done l w a b c a₃ b₃ c₃ ea eb ec ea₃ eb₃ ec₃ =
+      clock-done l a b c a₃ b₃ c₃ ea eb ec ea₃ eb₃ ec₃ =
           let z : number (Call.clock t) before ≡ 0 = rw l in
           let none = ap (λ (e : Entries). length (e .exporters)) expired in
           let after : Entries = view (memory ws₃ s) in
           let x : length (before .exporters) - length (after .exporters) ≡ 0 = omega arith in
-          subst (λ (vs : List ℕ). Performed (Call.clock t) (memory ws s) (record { number = 0; values = vs; part = []; buffer = [] }) (memory ws₃ s))
+          subst (λ (vs : List ℕ). Stepped (Call.clock t) (memory ws s) (record { number = 0; values = vs; part = []; buffer = [] }) (memory ws₃ s))
           (ap (clockValues before) (sym all-gone)
           ∙ (λ u.
           x u
@@ -90,4 +89,4 @@ module _ (ws s : List ℕ) (t : ℕ) (h : soundMemory (memory ws s) ≡ true) wh
           ∷ ((interfaces-length ws ∙ sym eb) u - (interfaces-length ws₃ ∙ sym eb₃) u)
           ∷ ((sets-length ws ∙ sym ec) u - (sets-length ws₃ ∙ sym ec₃) u)
           ∷ []))
-          (performed (Call.clock t) (memory ws s) (memory ws₃ s) refl h z w (table-fields view (memory ws s) h .store) all-gone)
+          (accepted-step 0 (sym z) refl (memory ws₃ s) all-gone)

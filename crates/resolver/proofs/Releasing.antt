@@ -14,15 +14,13 @@ use Rattle.rules.specs.Calls.{Call}
 use Rattle.rules.specs.Sound.{held}
 use Rattle.rules.specs.Rules.{noInterface, isLiveInterface, refusals, number, next, results, refused, done}
 use Rattle.rules.specs.Contract.{Memory}
-use Rattle.rules.proofs.Performing.{sound-refused}
-use Rattle.rules.proofs.SoundLaws.{table-fields}
 use Rattle.rules.proofs.ByRow.{interfaceRow, interfaceIn, lessened, interface-live, release-counted, release-empty, counted-values, empty-values}
-use Rattle.table.specs.View.{interfaceCount, interfacesOf, memory, view, soundMemory, Performed}
+use Rattle.table.specs.View.{interfaceCount, interfacesOf, memory, view, SoundTable, Stepped}
 use Rattle.table.specs.Edits.{changeInterface}
 use Rattle.table.proofs.Entries.{interfaces-length}
 use Rattle.resolver.specs.Leaving.{InterfaceDropped}
 use Rattle.resolver.specs.Replies.{releaseReply}
-use Rattle.resolver.proofs.Calls.{live-row, performed}
+use Rattle.resolver.proofs.Calls.{live-row, refused-step, accepted-step}
 
 -- what is left of a count
 count-left : (asked count taken left : ℕ) → taken ≡ min asked count → left ≡ count - taken → left ≡ count - asked
@@ -30,7 +28,7 @@ count-left asked count taken left t l = omega arith
 
 -- the row that was found, of as many as were counted, in a sound table
 pub record Found (ws s : List ℕ) (i : Guid) (r n : ℕ) : Type 0 where
-  pub judged : soundMemory (memory ws s) ≡ true
+  pub table : SoundTable (memory ws s)
   pub row : r ≡ interfaceRow (view (memory ws s)) i
   pub count : n ≡ interfaceCount ws
 
@@ -42,23 +40,23 @@ module _ (ws s : List ℕ) (i : Guid) (p q : ℕ) {r n : ℕ} (found : Found ws 
   interface-here : isLiveInterface before i ≡ ltb r n
   interface-here = live-row r n (interface-live before i) (found .row) (found .count ∙ sym (interfaces-length ws))
 
-  pub no-interface : n ≤ r → Performed (Call.release i p q) (memory ws s) (releaseReply (record { answer = 6; public = 0; private = 0; interfaces = 0; objects = 0 })) (memory ws s)
+  pub no-interface : n ≤ r → Stepped (Call.release i p q) (memory ws s) (releaseReply (record { answer = 6; public = 0; private = 0; interfaces = 0; objects = 0 })) (memory ws s)
   unfolding refused results number refusals order
   no-interface l =
       let gone = interface-here ∙ le-ltb r n l in
       let e : number (Call.release i p q) before ≡ 6 = rw gone in
-      sound-refused view (Call.release i p q) (memory ws s) refl (found .judged) 6 e (λ z. omega arith)
+      refused-step 6 (sym e) (λ z. omega arith)
 
   -- accepted, with what is answered
-  released : r < n → (m : Memory) (a b c d : ℕ) → length (m .words) ≡ 8192 → length (m .store) ≡ 8192 → view m ≡ next (Call.release i p q) before
+  released : r < n → (m : Memory) (a b c d : ℕ) → view m ≡ next (Call.release i p q) before
       → results (Call.release i p q) before .values ≡ a ∷ b ∷ c ∷ d ∷ []
-      → Performed (Call.release i p q) (memory ws s) (releaseReply (record { answer = 0; public = a; private = b; interfaces = c; objects = d })) m
+      → Stepped (Call.release i p q) (memory ws s) (releaseReply (record { answer = 0; public = a; private = b; interfaces = c; objects = d })) m
   unfolding done results number refusals order
-  released l m a b c d w k v e =
+  released l m a b c d v e =
       let live = interface-here ∙ lt-ltb r n l in
       let z : number (Call.release i p q) before ≡ 0 = rw live in
-      subst (λ (vs : List ℕ). Performed (Call.release i p q) (memory ws s) (record { number = 0; values = vs; part = []; buffer = [] }) m) e
-      (performed (Call.release i p q) (memory ws s) m refl (found .judged) z w k v)
+      subst (λ (vs : List ℕ). Stepped (Call.release i p q) (memory ws s) (record { number = 0; values = vs; part = []; buffer = [] }) m) e
+      (accepted-step 0 (sym z) refl m v)
 
 -- the row is live; what is taken of its counts, and what is left
 pub record Taking (ws s : List ℕ) (i : Guid) (p q r n taken taken₂ left left₂ : ℕ) : Type 0 where
@@ -98,25 +96,23 @@ module _ {ws s : List ℕ} {i : Guid} {p q r n taken taken₂ left left₂ : ℕ
       ∷ []
 
   -- a count is left
-  pub counted-done : (not (eqb left 0) || not (eqb left₂ 0)) ≡ true → (ws′ : List ℕ) → length ws′ ≡ 8192 → view (memory ws′ s) ≡ changeInterface r (withCounts left left₂) entries
-      → Performed (Call.release i p q) (memory ws s) (releaseReply (record { answer = 0; public = taken; private = taken₂; interfaces = 0; objects = 0 })) (memory ws′ s)
-  counted-done t ws′ w v =
-      let table = table-fields view (memory ws s) (k .found .judged) in
-      released ws s i p q (k .found) (k .live) (memory ws′ s) taken taken₂ 0 0 w (table .store)
+  pub counted-done : (not (eqb left 0) || not (eqb left₂ 0)) ≡ true → (ws′ : List ℕ) → view (memory ws′ s) ≡ changeInterface r (withCounts left left₂) entries
+      → Stepped (Call.release i p q) (memory ws s) (releaseReply (record { answer = 0; public = taken; private = taken₂; interfaces = 0; objects = 0 })) (memory ws′ s)
+  counted-done t ws′ v =
+      released ws s i p q (k .found) (k .live) (memory ws′ s) taken taken₂ 0 0
       (v
       ∙ (λ u. withInterfaces (set (entries .interfaces) (k .found .row u) (withCounts (public-left u) (private-left u) (here u))) entries)
-      ∙ sym (release-counted entries i (table .entries) below p q (held-left ∙ t)))
-      (counted-values entries i (table .entries) below p q (held-left ∙ t) ∙ took 0 0)
+      ∙ sym (release-counted entries i (k .found .table .entries) below p q (held-left ∙ t)))
+      (counted-values entries i (k .found .table .entries) below p q (held-left ∙ t) ∙ took 0 0)
 
   -- none is left
-  pub empty-done : (not (eqb left 0) || not (eqb left₂ 0)) ≡ false → (ws′ : List ℕ) (o : ℕ) → length ws′ ≡ 8192
+  pub empty-done : (not (eqb left 0) || not (eqb left₂ 0)) ≡ false → (ws′ : List ℕ) (o : ℕ)
       → InterfaceDropped r (getD (entries .interfaces) r noInterface .object) entries o (view (memory ws′ s))
-      → Performed (Call.release i p q) (memory ws s) (releaseReply (record { answer = 0; public = taken; private = taken₂; interfaces = 1; objects = o })) (memory ws′ s)
-  empty-done f ws′ o w d =
-      let table = table-fields view (memory ws s) (k .found .judged) in
+      → Stepped (Call.release i p q) (memory ws s) (releaseReply (record { answer = 0; public = taken; private = taken₂; interfaces = 1; objects = o })) (memory ws′ s)
+  empty-done f ws′ o d =
       let dropped : InterfaceDropped (interfaceRow entries i) (interfaceIn entries i .object) entries o (view (memory ws′ s)) = rw (k .found .row) at d in
-      released ws s i p q (k .found) (k .live) (memory ws′ s) taken taken₂ 1 o w (table .store)
-      (dropped .became ∙ sym (release-empty entries i (table .entries) below p q (held-left ∙ f)))
-      (empty-values entries i (table .entries) below p q (held-left ∙ f)
+      released ws s i p q (k .found) (k .live) (memory ws′ s) taken taken₂ 1 o
+      (dropped .became ∙ sym (release-empty entries i (k .found .table .entries) below p q (held-left ∙ f)))
+      (empty-values entries i (k .found .table .entries) below p q (held-left ∙ f)
       ∙ ap (λ (x : ℕ). min p (interfaceIn entries i .public) ∷ min q (interfaceIn entries i .private) ∷ 1 ∷ x ∷ []) (sym (dropped .gone))
       ∙ took 1 o)

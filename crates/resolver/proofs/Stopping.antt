@@ -23,7 +23,7 @@ use Rattle.rules.specs.Calls.{Call, Reply}
 use Rattle.rules.specs.Sound.{listsKept}
 use Rattle.rules.specs.Rules.{isLiveExporter, noExporter, oxidOf, refusals, number, next, results, refused, done}
 use Rattle.rules.specs.Contract.{Memory, replyTo}
-use Rattle.rules.proofs.Performing.{unsound, sound-refused}
+use Rattle.rules.proofs.Performing.{unsound}
 use Rattle.rules.proofs.SoundLaws.{table-fields}
 use Rattle.rules.proofs.ByRow.{exporterRow}
 use Rattle.table.specs.View.{exporterCount, slot, exportersOf, memory, view, soundMemory, Performed}
@@ -31,7 +31,7 @@ use Rattle.table.proofs.RowChecks.{front-kept}
 use Rattle.table.proofs.Entries.{exporter-at}
 use Rattle.resolver.specs.NextStop.{refusedStop, stopInStore, stopInReference, stopPlace, stopStart, stopReply, placeReply, StopFound, StopPart, OneCall}
 use Rattle.resolver.specs.declared.routing.StopPlace.{StopPlace}
-use Rattle.resolver.proofs.Calls.{performed, row-gives, row-passes, exporter-in-row}
+use Rattle.resolver.proofs.Calls.{refused-step, accepted-step, step-call, row-gives, row-passes, exporter-in-row}
 
 -- ---- the reference, by the place of its list
 
@@ -150,11 +150,12 @@ module _ (m : Memory) (reference : List ℕ) {n : ℕ} {part : List ℕ} (e : n 
       let h = unsound view (Call.nextStop reference) m refl s in
       as-performed {i = false} h (in-store m reference 1 (ap (λ (r : Reply). r .number) (h .answered)))
   by-outcome true false s t =
-      let h = sound-refused view (Call.nextStop reference) m refl s _ refl (eqb-false _ _ t) in
+      let h : Performed (Call.nextStop reference) m (refused (number (Call.nextStop reference) (view m)) (Call.nextStop reference) (view m)) m =
+      step-call refl (table-fields view m s) (refused-step _ refl (eqb-false _ _ t)) in
       as-performed {i = false} h (in-store m reference _ (ap (λ (r : Reply). r .number) (h .answered)) ∙ rw t)
   by-outcome true true s t =
-      let w = table-fields view m s in
-      let h = performed (Call.nextStop reference) m m refl s (eqb-true _ _ t) (w .words) (w .store) refl in
+      let h : Performed (Call.nextStop reference) m (done (Call.nextStop reference) (view m)) m =
+      step-call refl (table-fields view m s) (accepted-step _ refl (eqb-true _ _ t) m refl) in
       as-performed h (in-store m reference 0 (ap (λ (r : Reply). r .number) (h .answered)))
 
 pub one-call : OneCall

@@ -16,7 +16,7 @@ ghost use lib.Dec.{eqb};
 ghost use Rattle.rules.specs.Entries.{oids};
 ghost use Rattle.rules.specs.Sound.{proper, membersLive};
 ghost use Rattle.rules.specs.Calls.{Call, numbered};
-ghost use Rattle.table.specs.View.{interfaceCount, memory, view, Performed};
+ghost use Rattle.table.specs.View.{interfaceCount, memory, view, SoundTable, Stepped, Performed};
 ghost use Rattle.resolver.specs.Replies.{releaseReply};
 ghost use Rattle.resolver.specs.Leaving.{InterfaceDropped};
 
@@ -39,6 +39,22 @@ pub fn add<'a>(words: &'a mut [u64], store: &'a [u8], ipid: Guid, public: u32, p
     if !judge::sound(words, store) {
         return answer::UNSOUND;
     }
+    add_step(words, store, ipid, public, private)
+}
+
+// The same on a sound table.
+pub fn add_step<'a>(
+    words: &'a mut [u64],
+    store: &'a [u8],
+    ipid: Guid,
+    public: u32,
+    private: u32,
+) -> u32
+    requires { ⌜ SoundTable (memory (now words) (now store)) ⌝ }
+    ensures { λ r. ⌜
+        Stepped (Call.add ipid public private) (memory (now (words .entry)) (now (store .entry)))
+        (numbered r) (memory (now (words .exit)) (now (store .entry))) ⌝ }
+{
     let i = find::interface_row(words, ipid);
     if layout::interface_count(words) <= i {
         return answer::NO_INTERFACE;
@@ -114,6 +130,22 @@ pub fn release<'a>(
     if !judge::sound(words, store) {
         return refused(answer::UNSOUND);
     }
+    release_step(words, store, ipid, public, private)
+}
+
+// The same on a sound table.
+pub fn release_step<'a>(
+    words: &'a mut [u64],
+    store: &'a [u8],
+    ipid: Guid,
+    public: u32,
+    private: u32,
+) -> Released
+    requires { ⌜ SoundTable (memory (now words) (now store)) ⌝ }
+    ensures { λ r. ⌜
+        Stepped (Call.release ipid public private) (memory (now (words .entry)) (now (store .entry)))
+        (releaseReply r) (memory (now (words .exit)) (now (store .entry))) ⌝ }
+{
     let i = find::interface_row(words, ipid);
     if layout::interface_count(words) <= i {
         return refused(answer::NO_INTERFACE);

@@ -16,7 +16,7 @@ ghost use lib.Dec.{eqb};
 ghost use Rattle.kinds.specs.declared.Guid.{Guid};
 ghost use Rattle.rules.specs.Calls.{Call, numbered};
 ghost use Rattle.rules.specs.Rules.{number};
-ghost use Rattle.table.specs.View.{memory, view, Performed};
+ghost use Rattle.table.specs.View.{memory, view, SoundTable, Stepped, Performed};
 
 // The number of an entry: 3; 13; 14; 19; 9.
 fn exporter_number<'a>(words: &'a [u64], oxid: u64, unknown: Guid, list: &'a [u8]) -> u32
@@ -60,6 +60,22 @@ pub fn enter_exporter<'a>(
     if !judge::sound(words, store) {
         return answer::UNSOUND;
     }
+    enter_exporter_step(words, store, oxid, unknown, list)
+}
+
+// The same on a sound table.
+pub fn enter_exporter_step<'a>(
+    words: &'a mut [u64],
+    store: &'a mut [u8],
+    oxid: Oxid,
+    unknown: Guid,
+    list: &'a [u8],
+) -> u32
+    requires { ⌜ SoundTable (memory (now words) (now store)) ⌝ }
+    ensures { λ r. ⌜
+        Stepped (Call.enterExporter (oxid .0) unknown (now (list .entry))) (memory (now (words .entry)) (now (store .entry)))
+        (numbered r) (memory (now (words .exit)) (now (store .exit))) ⌝ }
+{
     let refused = exporter_number(words, oxid.0, unknown, list);
     if refused != answer::DONE {
         return refused;
@@ -115,6 +131,25 @@ pub fn enter_object<'a>(
     if !judge::sound(words, store) {
         return answer::UNSOUND;
     }
+    enter_object_step(words, store, oid, oxid, ipid, iid, public, no_ping)
+}
+
+// The same on a sound table.
+pub fn enter_object_step<'a>(
+    words: &'a mut [u64],
+    store: &'a [u8],
+    oid: Oid,
+    oxid: Oxid,
+    ipid: Guid,
+    iid: Guid,
+    public: u32,
+    no_ping: bool,
+) -> u32
+    requires { ⌜ SoundTable (memory (now words) (now store)) ⌝ }
+    ensures { λ r. ⌜
+        Stepped (Call.enterObject (oid .0) (oxid .0) ipid iid public «no_ping») (memory (now (words .entry)) (now (store .entry)))
+        (numbered r) (memory (now (words .exit)) (now (store .entry))) ⌝ }
+{
     let refused = object_number(words, oid.0, oxid.0, ipid, public);
     if refused != answer::DONE {
         return refused;
@@ -167,6 +202,23 @@ pub fn enter_interface<'a>(
     if !judge::sound(words, store) {
         return answer::UNSOUND;
     }
+    enter_interface_step(words, store, oid, ipid, iid, public)
+}
+
+// The same on a sound table.
+pub fn enter_interface_step<'a>(
+    words: &'a mut [u64],
+    store: &'a [u8],
+    oid: Oid,
+    ipid: Guid,
+    iid: Guid,
+    public: u32,
+) -> u32
+    requires { ⌜ SoundTable (memory (now words) (now store)) ⌝ }
+    ensures { λ r. ⌜
+        Stepped (Call.enterInterface (oid .0) ipid iid public) (memory (now (words .entry)) (now (store .entry)))
+        (numbered r) (memory (now (words .exit)) (now (store .entry))) ⌝ }
+{
     let refused = interface_number(words, oid.0, ipid, public);
     if refused != answer::DONE {
         return refused;

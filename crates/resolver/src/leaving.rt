@@ -15,7 +15,7 @@ ghost use Rattle.columns.specs.Lists.{distinct};
 ghost use Rattle.rules.specs.Entries.{oids};
 ghost use Rattle.rules.specs.Rules.{noObject};
 ghost use Rattle.rules.specs.Calls.{Call, numbered};
-ghost use Rattle.table.specs.View.{objectCount, interfaceCount, setCount, memory, view, Performed};
+ghost use Rattle.table.specs.View.{objectCount, interfaceCount, setCount, memory, view, SoundTable, Stepped, Performed};
 ghost use Rattle.table.specs.Edits.{membersBelow, Became};
 ghost use Rattle.resolver.specs.Replies.{clockReply};
 ghost use Rattle.resolver.specs.Leaving.{stays, settled, objectsLeft, interfacesLeft, setsLeft, leftAt, interfaceLeftAt, setLeftAt};
@@ -118,6 +118,16 @@ pub fn remove_exporter<'a>(words: &'a mut [u64], store: &'a mut [u8], oxid: Oxid
     if !judge::sound(words, store) {
         return answer::UNSOUND;
     }
+    remove_exporter_step(words, store, oxid)
+}
+
+// The same on a sound table.
+pub fn remove_exporter_step<'a>(words: &'a mut [u64], store: &'a mut [u8], oxid: Oxid) -> u32
+    requires { ⌜ SoundTable (memory (now words) (now store)) ⌝ }
+    ensures { λ r. ⌜
+        Stepped (Call.removeExporter (oxid .0)) (memory (now (words .entry)) (now (store .entry)))
+        (numbered r) (memory (now (words .exit)) (now (store .exit))) ⌝ }
+{
     let i = find::exporter_row(words, oxid.0);
     if layout::exporter_count(words) <= i {
         return answer::NO_EXPORTER;
@@ -181,6 +191,16 @@ pub fn clock<'a>(words: &'a mut [u64], store: &'a [u8], time: u64) -> Expired
     if !judge::sound(words, store) {
         return refused(answer::UNSOUND);
     }
+    clock_step(words, store, time)
+}
+
+// The same on a sound table.
+pub fn clock_step<'a>(words: &'a mut [u64], store: &'a [u8], time: u64) -> Expired
+    requires { ⌜ SoundTable (memory (now words) (now store)) ⌝ }
+    ensures { λ r. ⌜
+        Stepped (Call.clock time) (memory (now (words .entry)) (now (store .entry)))
+        (clockReply r) (memory (now (words .exit)) (now (store .entry))) ⌝ }
+{
     if time < words[layout::CLOCK] {
         return refused(answer::CLOCK_BACK);
     }

@@ -18,7 +18,7 @@ ghost use Rattle.rules.specs.Sound.{proper, membersLive};
 ghost use Rattle.rules.specs.Rules.{stale, setMeant, isLiveObject, number};
 ghost use Rattle.rules.specs.Calls.{Call, numbered};
 ghost use Rattle.rules.specs.PingRows.{heardNow, pingedRow, updatedRow};
-ghost use Rattle.table.specs.View.{objectCount, setCount, memory, view, Performed};
+ghost use Rattle.table.specs.View.{objectCount, setCount, memory, view, SoundTable, Stepped, Performed};
 ghost use Rattle.table.specs.Edits.{Became};
 ghost use Rattle.resolver.specs.Replies.{pingReply};
 ghost use Rattle.resolver.specs.Pinging.{memberOids, heardRow, rowMeant, withSetMeant, Put};
@@ -70,6 +70,16 @@ pub fn simple_ping<'a>(words: &'a mut [u64], store: &'a [u8], set: SetId) -> u32
     if !judge::sound(words, store) {
         return answer::UNSOUND;
     }
+    simple_ping_step(words, store, set)
+}
+
+// The same on a sound table.
+pub fn simple_ping_step<'a>(words: &'a mut [u64], store: &'a [u8], set: SetId) -> u32
+    requires { ⌜ SoundTable (memory (now words) (now store)) ⌝ }
+    ensures { λ r. ⌜
+        Stepped (Call.simplePing (set .0)) (memory (now (words .entry)) (now (store .entry)))
+        (numbered r) (memory (now (words .exit)) (now (store .entry))) ⌝ }
+{
     if set.0 == 0 {
         return answer::NO_SET;
     }
@@ -247,6 +257,23 @@ pub fn complex_ping<'a>(
     if !judge::sound(words, store) {
         return refused(answer::UNSOUND);
     }
+    complex_ping_step(words, store, set, sequence, adds, deletes)
+}
+
+// The same on a sound table.
+pub fn complex_ping_step<'a>(
+    words: &'a mut [u64],
+    store: &'a [u8],
+    set: SetId,
+    sequence: u16,
+    adds: &'a [u64],
+    deletes: &'a [u64],
+) -> Pinged
+    requires { ⌜ SoundTable (memory (now words) (now store)) ⌝ }
+    ensures { λ r. ⌜
+        Stepped (Call.complexPing (set .0) sequence (now (adds .entry)) (now (deletes .entry)))
+        (memory (now (words .entry)) (now (store .entry))) (pingReply r) (memory (now (words .exit)) (now (store .entry))) ⌝ }
+{
     let number = complex_number(words, set.0, sequence, adds, deletes);
     if number != answer::DONE {
         return refused(number);

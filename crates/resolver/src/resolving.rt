@@ -7,7 +7,7 @@ use table::judge;
 use table::layout;
 ghost use mathlib.Core.Path.{_≡_};
 ghost use Rattle.rules.specs.Calls.{Call};
-ghost use Rattle.table.specs.View.{memory, Performed};
+ghost use Rattle.table.specs.View.{memory, SoundTable, Stepped, Performed};
 ghost use Rattle.resolver.specs.Replies.{resolveReply};
 
 // The length of the list that was written, and the remote-unknown IPID.
@@ -38,6 +38,21 @@ pub fn resolve<'a>(words: &'a [u64], store: &'a [u8], oxid: Oxid, buffer: &'a mu
     if !judge::sound(words, store) {
         return refused(answer::UNSOUND);
     }
+    resolve_step(words, store, oxid, buffer)
+}
+
+// The same on a sound table.
+pub fn resolve_step<'a>(
+    words: &'a [u64],
+    store: &'a [u8],
+    oxid: Oxid,
+    buffer: &'a mut [u8],
+) -> Resolved
+    requires { ⌜ SoundTable (memory (now words) (now store)) ⌝ }
+    ensures { λ r. ⌜
+        Stepped (Call.resolve (oxid .0) (now (buffer .entry))) (memory (now (words .entry)) (now (store .entry)))
+        (resolveReply r (now (buffer .exit))) (memory (now (words .entry)) (now (store .entry))) ⌝ }
+{
     let i = find::exporter_row(words, oxid.0);
     if layout::exporter_count(words) <= i {
         return refused(answer::NO_EXPORTER);

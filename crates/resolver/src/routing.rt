@@ -12,7 +12,7 @@ ghost use lib.ListN.{length};
 ghost use Rattle.rules.specs.Calls.{Call};
 ghost use Rattle.rules.specs.Sound.{listsKept};
 ghost use Rattle.rules.specs.Contract.{replyTo};
-ghost use Rattle.table.specs.View.{exporterCount, memory, view};
+ghost use Rattle.table.specs.View.{exporterCount, memory, view, SoundTable};
 ghost use Rattle.resolver.specs.NextStop.{refusedStop, stopInStore, stopInReference, StopFound, StopPart};
 
 // Where a next stop stands, in the store or else in the reference.
@@ -70,6 +70,14 @@ pub fn next_stop_place<'a>(words: &'a [u64], store: &'a [u8], reference: &'a [u8
     if !judge::sound(words, store) {
         return refused(answer::UNSOUND);
     }
+    next_stop_step(words, store, reference)
+}
+
+// The same on a sound table.
+pub fn next_stop_step<'a>(words: &'a [u64], store: &'a [u8], reference: &'a [u8]) -> StopPlace
+    requires { ⌜ SoundTable (memory (now words) (now store)) ⌝ }
+    ensures { λ r. ⌜ StopFound (memory (now (words .entry)) (now (store .entry))) (now (reference .entry)) r ⌝ }
+{
     let own = references::tail_place(reference);
     if own.answer != answer::DONE {
         return refused(own.answer);

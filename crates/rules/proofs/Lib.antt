@@ -1,4 +1,5 @@
 pub mod Performing
+pub mod Stepping
 pub mod SoundLaws
 pub mod Groups
 pub mod Entering

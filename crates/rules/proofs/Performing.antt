@@ -9,11 +9,11 @@ use Rattle.rules.specs.Calls.{Call, Reply}
 use Rattle.rules.specs.Rules.{number, next, refused, done, reply}
 use Rattle.rules.specs.Contract.{Memory, lengthsOnly, soundMemory, fit, replyTo, Performed}
 
-refused-number : (n : ℕ) (c : Call) (e : Entries) → refused n c e .number ≡ n
+pub refused-number : (n : ℕ) (c : Call) (e : Entries) → refused n c e .number ≡ n
 unfolding refused
 refused-number n c e = refl
 
-done-number : (c : Call) (e : Entries) → done c e .number ≡ 0
+pub done-number : (c : Call) (e : Entries) → done c e .number ≡ 0
 unfolding done
 done-number c e = refl
 
@@ -47,7 +47,7 @@ module _ (view : Memory → Entries) (c : Call) (m : Memory) where
 
   -- ---- of a call that looks at more than the lengths
 
-  fit-sound : lengthsOnly c ≡ false → fit view c m ≡ soundMemory view m
+  pub fit-sound : lengthsOnly c ≡ false → fit view c m ≡ soundMemory view m
   unfolding fit soundMemory
   fit-sound h = rw h
 

@@ -10,7 +10,7 @@ use Rattle.columns.specs.Lists.{holding}
 use Rattle.columns.proofs.Tests.{and-left, and-right, holding-nil, holding-cons, holding-head, holding-tail}
 use Rattle.rules.specs.Entries.{Entries, oxids, oids, ipids, setNumbers}
 use Rattle.rules.specs.Sound.{proper, properGuids, interfaceObjectsLive, objectExportersLive, objectsHaveInterfaces, interfacesHeld, membersLive, heardBefore, pingedBefore, heardRecently, pingedRecently, setsBelowNext, listsKept, sound}
-use Rattle.rules.specs.Contract.{Memory, rightLengths, soundMemory}
+use Rattle.rules.specs.Contract.{Memory, rightLengths, soundMemory, SoundTable}
 
 -- the clause at an index of clauses that hold
 pub clause-at : (bs : List Bool) (i : ℕ) → holding bs ≡ true → getD bs i true ≡ true
@@ -93,11 +93,6 @@ sound-made e s =
     .together
 
 -- ---- of a lent table
-
-pub record SoundTable (view : Memory → Entries) (m : Memory) : Type 0 where
-  pub words : length (m .words) ≡ 8192
-  pub store : length (m .store) ≡ 8192
-  pub entries : sound (view m) ≡ true
 
 pub table-fields : (view : Memory → Entries) (m : Memory) → soundMemory view m ≡ true → SoundTable view m
 unfolding soundMemory

@@ -49,6 +49,19 @@ module _ (view : Memory → Entries) where
   unfoldable pub replyTo : Call → Memory → Reply
   replyTo c m = cond (fit c m) (reply c (view m)) (refused 1 c (view m))
 
+  -- m is sound: what a step is lent
+  pub record SoundTable (m : Memory) : Type 0 where
+    pub words : length (m .words) ≡ 8192
+    pub store : length (m .store) ≡ 8192
+    pub entries : sound (view m) ≡ true
+
+  -- Of a step, which is a call on a sound memory m that is not judged again, and leaves m′: its number and all that it answers or
+  -- writes; a refused step leaves every word and byte; an accepted one leaves the live entries of the rules, which are sound (`keeps`).
+  pub record Stepped (c : Call) (m : Memory) (r : Reply) (m′ : Memory) : Type 0 where
+    pub answered : r ≡ reply c (view m)
+    pub kept : (r .number ≡ 0 → ⊥) → m′ ≡ m
+    pub became : r .number ≡ 0 → view m′ ≡ next c (view m)
+
   -- Of a call that is lent m and leaves m′: its number and all that it answers or writes, as an equality; a refused call leaves every
   -- word and byte; an accepted one leaves a sound table whose live entries are those of the rules.
   pub record Performed (c : Call) (m : Memory) (r : Reply) (m′ : Memory) : Type 0 where

@@ -122,5 +122,11 @@ memory ws store = record { words = ws; store = store }
 abbrev pub soundMemory : Memory → Bool
 soundMemory m = contract.soundMemory view m
 
+abbrev pub SoundTable : Memory → Type 0
+SoundTable m = contract.SoundTable view m
+
+abbrev pub Stepped : Call → Memory → Reply → Memory → Type 0
+Stepped c m r m′ = contract.Stepped view c m r m′
+
 abbrev pub Performed : Call → Memory → Reply → Memory → Type 0
 Performed c m r m′ = contract.Performed view c m r m′

@@ -1,21 +1,12 @@
--- `counting::release`: a table that is not sound is refused, then an interface that is not live; else the smaller numbers are taken, and an interface without references goes.
-use Prim.Native.Nat.{_-_}
-use mathlib.Core.Path.{_≡_, refl, sym, _∙_}
-use mathlib.Core.Bool.{true}
+-- `counting::release`: a table that is not sound is refused; else the step is the call.
+use mathlib.Core.Path.{_≡_, refl}
 use native.Mathlib.Omega.{arith}
-use borrow.Author.Tests.{not-true, not-false}
-use Rattle.rules.specs.Calls.{Call}
+use lib.ListN.{length}
 use Rattle.rules.specs.Rules.{results, refused}
-use Rattle.rules.proofs.Performing.{unsound}
-use Rattle.rules.proofs.SoundLaws.{table-fields, sound-fields}
-use Rattle.table.specs.View.{memory, view, soundMemory}
-use Rattle.resolver.proofs.Releasing.{Found, Taking, no-interface, counted-done, empty-done}
+use Rattle.resolver.proofs.Calls.{sound-table, unsound-call, stepped-call}
 use borrow.Author.Needs.{needs}
 use Rattle.resolver.proofs.counting.release.Statement.{statement}
 use Rattle.resolver.proofs.counting.release.Tie as tie
-
-sound-here : (c : tie.Else1) → soundMemory (memory (c .before .before .before .before .before .args .words .now) (c .before .before .before .before .before .args .store .now)) ≡ true
-sound-here c = sym (c .before .sound .ensures) ∙ not-false _ (c .if1 .left)
 
 sound-requires : tie.Need-sound-requires
 sound-requires c κs = search needs
@@ -28,97 +19,21 @@ same-length c = search needs
 
 returns : tie.Need-returns
 unfolding refused results
-returns c =
-    let a = c .before .before .before .before .before .before .args in
-    rw (c .refused .ensures) (unsound view (Call.release (a .ipid) (a .public) (a .private)) (memory (a .words .now) (a .store .now)) refl (sym (c .before .before .sound .ensures) ∙ not-true _ (c .before .if1 .taken)))
+returns c = rw (c .refused .ensures) (unsound-call (c .before .before .sound .ensures) _ refl (c .before .if1 .taken))
 
-interface-row-requires : tie.Need-interface-row-requires
-interface-row-requires c κs = table-fields view _ (sound-here (c .before)) .words
-
-interface-count-requires : tie.Need-interface-count-requires
-interface-count-requires c κs = table-fields view _ (sound-here (c .before .before .before)) .words
-
-refused-requires-2 : tie.Need-refused-requires-2
-refused-requires-2 c κs = search needs
+release-step-requires : tie.Need-release-step-requires
+release-step-requires c κs = sound-table (c .before .before .sound .ensures) (c .before .if1 .left)
 
 same-length-2 : tie.Need-same-length-2
 same-length-2 c = search needs
 
--- the row that was found
-found : (c : tie.After-interface-count) → let a = c .before .before .before .before .before .before .before .before .before .args in Found (a .words .now) (a .store .now) (a .ipid) (c .before .before .interface-row .result) (c .interface-count .result)
-found c = record { judged = sound-here (c .before .before .before .before); row = c .before .before .interface-row .ensures (c .before .before .before .before .before .before .before .before .before .args .store .now); count = c .interface-count .ensures .0 }
-
 returns-2 : tie.Need-returns-2
 returns-2 c =
-    let a = c .before .before .before .before .before .before .before .before .before .before .before .args in
-    rw (c .refused2 .ensures) (no-interface (a .words .now) (a .store .now) (a .ipid) (a .public) (a .private) (found (c .before .before)) (c .before .if2 .taken))
-
-interface-held-requires : tie.Need-interface-held-requires
-interface-held-requires c κs =
-    let w = table-fields view _ (sound-here (c .before .before .before .before .before .before)) .words in
-    (w, omega (arith, c .before .before .interface-count .ensures .0))
-
-smaller-requires : tie.Need-smaller-requires
-smaller-requires c κs = search needs
-
-smaller-requires-2 : tie.Need-smaller-requires-2
-smaller-requires-2 c κs = search needs
-
-sub-left-public : tie.Need-sub-left-public
-sub-left-public c = search needs
-
-sub-left-private : tie.Need-sub-left-private
-sub-left-private c = search needs
-
-is-held-requires : tie.Need-is-held-requires
-is-held-requires c κs = search needs
-
-set-counts-requires : tie.Need-set-counts-requires
-set-counts-requires c κs =
-    let w = table-fields view _ (sound-here (c .before .before .before .before .before .before .before .before .before .before .before .before .before .before)) .words in
-    let i = c .before .before .before .before .before .before .before .before .before .if2 .left in
-    (w, omega (arith, c .before .before .before .before .before .before .before .before .before .before .interface-count .ensures .0))
-
-same-length-3 : tie.Need-same-length-3
-same-length-3 c = search needs
-
--- what is taken of its counts, and what is left
-taking : (c : tie.After-is-held) → let a = c .before .before .before .before .before .before .before .before .before .before .before .before .before .before .before .before .before .args in let h = c .before .before .before .before .before .interface-held .result in
-    Taking (a .words .now) (a .store .now) (a .ipid) (a .public) (a .private) (c .before .before .before .before .before .before .before .before .before .before .interface-row .result) (c .before .before .before .before .before .before .before .before .interface-count .result)
-    (c .before .before .before .before .smaller .result) (c .before .before .before .smaller2 .result) (h .public - c .before .before .before .before .smaller .result) (h .private - c .before .before .before .smaller2 .result)
-taking c =
-    let held = c .before .before .before .before .before .interface-held .ensures in
-    record {
-      found = found (c .before .before .before .before .before .before .before .before);
-      live = c .before .before .before .before .before .before .before .if2 .left;
-      takes = rw held at (c .before .before .before .before .smaller .ensures);
-      takes₂ = rw held at (c .before .before .before .smaller2 .ensures);
-      leaves = rw held;
-      leaves₂ = rw held;
-    }
-
-returns-3 : tie.Need-returns-3
-returns-3 c =
-    let b = c .before .before .before .before in
-    let w = table-fields view _ (sound-here (b .before .before .before .before .before .before .before .before .before .before .before .before .before)) .words in
-    counted-done (taking (b .before)) (sym (b .before .is-held .ensures) ∙ b .if3 .taken) _ (search needs) (c .before .before .set-counts .ensures (b .before .before .before .before .before .before .before .before .before .before .before .before .before .before .before .before .before .before .args .store .now))
-
-drop-interface-requires : tie.Need-drop-interface-requires
-drop-interface-requires c κs =
-    let t = table-fields view _ (sound-here (c .before .before .before .before .before .before .before .before .before .before .before .before .before .before)) in
-    let f = sound-fields _ (t .entries) in
-    let i = c .before .before .before .before .before .before .before .before .before .if2 .left in
-    (t .words, omega (arith, c .before .before .before .before .before .before .before .before .before .before .interface-count .ensures .0), f .objectsProper, f .membersNamed)
-
-same-length-4 : tie.Need-same-length-4
-same-length-4 c = search needs
-
-returns-4 : tie.Need-returns-4
-returns-4 c =
-    let b = c .before .before .before .before in
-    let w = table-fields view _ (sound-here (b .before .before .before .before .before .before .before .before .before .before .before .before .before)) .words in
-    empty-done (taking (b .before)) (sym (b .before .is-held .ensures) ∙ b .if3 .left) _ _ (search needs)
-    (rw (b .before .before .before .before .before .before .interface-held .ensures) at (c .before .before .drop-interface .ensures (b .before .before .before .before .before .before .before .before .before .before .before .before .before .before .before .before .before .before .args .store .now)))
+    let judged = c .before .before .before .before .before .sound .ensures in
+    let left = c .before .before .before .before .if1 .left in
+    let t = sound-table judged left in
+    let words : length (c .before .before .release-step .last .0) ≡ 8192 = omega arith in
+    stepped-call judged _ refl left (c .before .before .release-step .ensures) words (t .store)
 
 pub release-spec : {M : Type 1} → statement M
 release-spec =
@@ -128,20 +43,6 @@ release-spec =
     refused-requires
     same-length
     returns
-    interface-row-requires
-    interface-count-requires
-    refused-requires-2
+    release-step-requires
     same-length-2
-    returns-2
-    interface-held-requires
-    smaller-requires
-    smaller-requires-2
-    sub-left-public
-    sub-left-private
-    is-held-requires
-    set-counts-requires
-    same-length-3
-    returns-3
-    drop-interface-requires
-    same-length-4
-    returns-4)
+    returns-2)

@@ -1,17 +1,9 @@
--- `entering::enter_object`: refused as the number says; else the object is entered, and then its first interface.
-use Prim.Native.Nat.{_<_}
-use mathlib.Core.Path.{_≡_, refl, sym, ap, _∙_}
-use mathlib.Core.Bool.{Bool}
+-- `entering::enter_object`: a table that is not sound is refused; else the step is the call.
+use mathlib.Core.Path.{_≡_, refl}
 use native.Mathlib.Omega.{arith}
 use lib.ListN.{length}
-use Rattle.rules.specs.Entries.{Entries}
-use Rattle.rules.specs.Calls.{Call}
-use Rattle.rules.specs.Rules.{next, results, refused, done}
-use Rattle.table.specs.View.{memory, view}
-use Rattle.table.specs.Edits.{addInterface}
-use Rattle.table.proofs.Entries.{objects-length, interfaces-length}
-use Rattle.resolver.proofs.Calls.{sound-table, sound-below, unsound-call, refused-call, accepted-call}
-use Rattle.resolver.proofs.Places.{object-fits}
+use Rattle.rules.specs.Rules.{results, refused}
+use Rattle.resolver.proofs.Calls.{sound-table, unsound-call, stepped-call}
 use borrow.Author.Needs.{needs}
 use Rattle.resolver.proofs.entering.enter_object.Statement.{statement}
 use Rattle.resolver.proofs.entering.enter_object.Tie as tie
@@ -26,66 +18,19 @@ returns : tie.Need-returns
 unfolding refused results
 returns c = unsound-call (c .before .sound .ensures) _ refl (c .if1 .taken)
 
-object-number-requires : tie.Need-object-number-requires
-object-number-requires c κs = sound-table (c .before .before .sound .ensures) (c .before .if1 .left) .words
+enter-object-step-requires : tie.Need-enter-object-step-requires
+enter-object-step-requires c κs = sound-table (c .before .before .sound .ensures) (c .before .if1 .left)
 
 same-length-2 : tie.Need-same-length-2
 same-length-2 c = search needs
 
 returns-2 : tie.Need-returns-2
-unfolding refused results
 returns-2 c =
-    let a = c .before .before .before .before .before .before .before .before .args in
-    refused-call (c .before .before .before .before .sound .ensures) _ refl (c .before .before .before .if1 .left) _ (c .before .object-number .ensures (a .store .now) (a .iid) (a .no-ping)) (c .if2 .taken)
-
--- there is a place for the object and its interface
-fits-objects : (c : tie.After-object-number) → c .object-number .result ≡ 0
-    → (length (view (memory (c .before .before .before .before .before .before .before .args .words .now) (c .before .before .before .before .before .before .before .args .store .now)) .objects) < 128)
-    × (length (view (memory (c .before .before .before .before .before .before .before .args .words .now) (c .before .before .before .before .before .before .before .args .store .now)) .interfaces) < 256)
-fits-objects c z =
-    let a = c .before .before .before .before .before .before .before .args in
-    object-fits (view (memory (a .words .now) (a .store .now))) (a .oid .0) (a .oxid .0) (a .ipid) (a .iid) (a .public) (a .no-ping)
-    (sym (c .object-number .ensures (a .store .now) (a .iid) (a .no-ping)) ∙ z)
-
-mark-requires : tie.Need-mark-requires
-mark-requires c κs = search needs
-
-put-object-requires : tie.Need-put-object-requires
-put-object-requires c κs =
-    let a = c .before .before .before .before .before .before .before .before .before .before .args in
-    let t = sound-table (c .before .before .before .before .before .before .sound .ensures) (c .before .before .before .before .before .if1 .left) in
-    let fits = fits-objects (c .before .before .before) (c .before .before .if2 .left) in
-    let l = objects-length (a .words .now) in
-    (t .words, omega arith, sound-below (a .words .now) (a .store .now) t)
-
-put-interface-requires : tie.Need-put-interface-requires
-put-interface-requires c κs =
-    let a = c .before .before .before .before .before .before .before .before .before .before .before .before .before .before .args in
-    let t = sound-table (c .before .before .before .before .before .before .before .before .before .before .sound .ensures) (c .before .before .before .before .before .before .before .before .before .if1 .left) in
-    let fits = fits-objects (c .before .before .before .before .before .before .before) (c .before .before .before .before .before .before .if2 .left) in
-    let ws = c .before .before .before .put-object .last .0 in
-    let kept = ap (λ (e : Entries). length (e .interfaces)) (c .before .before .before .put-object .ensures (a .store .now)) in
-    let l = interfaces-length (a .words .now) in
-    let l′ = interfaces-length ws in
-    let size : length ws ≡ 8192 = omega arith in
-    (size, omega arith)
-
-same-length-3 : tie.Need-same-length-3
-same-length-3 c = search needs
-
-returns-3 : tie.Need-returns-3
-unfolding done results next
-returns-3 c =
-    let a = c .before .before .before .before .before .before .before .before .before .before .before .before .before .before .before .before .before .args in
-    let s = a .store .now in
-    let judged = c .before .before .before .before .before .before .before .before .before .before .before .before .before .sound .ensures in
-    let left = c .before .before .before .before .before .before .before .before .before .before .before .before .if1 .left in
+    let judged = c .before .before .before .before .before .sound .ensures in
+    let left = c .before .before .before .before .if1 .left in
     let t = sound-table judged left in
-    let size : length (c .before .before .put-interface .last .0) ≡ 8192 = omega arith in
-    accepted-call judged _ refl left _ (c .before .before .before .before .before .before .before .before .before .before .object-number .ensures s (a .iid) (a .no-ping)) (c .before .before .before .before .before .before .before .before .before .if2 .left) _ size (t .store)
-    (c .before .before .put-interface .ensures s
-    ∙ ap (addInterface _) (c .before .before .before .before .before .before .put-object .ensures s)
-    ∙ ap (λ (np : Bool). next (Call.enterObject (a .oid .0) (a .oxid .0) (a .ipid) (a .iid) (a .public) np) (view (memory (a .words .now) s))) (c .before .before .before .before .before .before .before .mark .ensures))
+    let words : length (c .before .before .enter-object-step .last .0) ≡ 8192 = omega arith in
+    stepped-call judged _ refl left (c .before .before .enter-object-step .ensures) words (t .store)
 
 pub enter-object-spec : {M : Type 1} → statement M
 enter-object-spec =
@@ -94,11 +39,6 @@ enter-object-spec =
     sound-requires
     same-length
     returns
-    object-number-requires
+    enter-object-step-requires
     same-length-2
-    returns-2
-    mark-requires
-    put-object-requires
-    put-interface-requires
-    same-length-3
-    returns-3)
+    returns-2)

@@ -1,14 +1,9 @@
--- `pinging::complex_ping`: what its number refuses; else the set's row is found or made, updated and pinged.
-use mathlib.Core.Path.{_≡_, refl, sym, _∙_}
+-- `pinging::complex_ping`: a table that is not sound is refused; else the step is the call.
+use mathlib.Core.Path.{_≡_, refl}
 use native.Mathlib.Omega.{arith}
 use lib.ListN.{length}
-use Rattle.rules.specs.Calls.{Call}
-use Rattle.rules.specs.Rules.{number, results, refused, done}
-use Rattle.rules.proofs.SoundLaws.{SoundTable}
-use Rattle.table.specs.View.{memory, view}
-use Rattle.table.proofs.Entries.{sets-length}
-use Rattle.resolver.proofs.Calls.{sound-table, unsound-call, refused-call, accepted-call}
-use Rattle.resolver.proofs.Pings.{new-fits, update-asked, ping-asked, pinged-next}
+use Rattle.rules.specs.Rules.{results, refused}
+use Rattle.resolver.proofs.Calls.{sound-table, unsound-call, stepped-call}
 use borrow.Author.Needs.{needs}
 use Rattle.resolver.proofs.pinging.complex_ping.Statement.{statement}
 use Rattle.resolver.proofs.pinging.complex_ping.Tie as tie
@@ -26,81 +21,19 @@ returns : tie.Need-returns
 unfolding refused results
 returns c = rw (c .refused .ensures) (unsound-call (c .before .before .sound .ensures) _ refl (c .before .if1 .taken))
 
-complex-number-requires : tie.Need-complex-number-requires
-complex-number-requires c κs = sound-table (c .before .before .sound .ensures) (c .before .if1 .left) .words
-
-refused-requires-2 : tie.Need-refused-requires-2
-refused-requires-2 c κs = search needs
+complex-ping-step-requires : tie.Need-complex-ping-step-requires
+complex-ping-step-requires c κs = sound-table (c .before .before .sound .ensures) (c .before .if1 .left)
 
 same-length-2 : tie.Need-same-length-2
 same-length-2 c = search needs
 
 returns-2 : tie.Need-returns-2
-unfolding refused results
 returns-2 c =
-    let a = c .before .before .before .before .before .before .before .before .before .before .before .args in
-    rw (c .refused2 .ensures) (refused-call (c .before .before .before .before .before .sound .ensures) _ refl (c .before .before .before .before .if1 .left) _ (c .before .before .complex-number .ensures (a .store .now)) (c .before .if2 .taken))
-
-slice-read-number-meant : tie.Need-slice-read-number-meant
-slice-read-number-meant c = let w = sound-table (c .before .before .before .before .before .sound .ensures) (c .before .before .before .before .if1 .left) .words in search needs
-
-number-meant-requires : tie.Need-number-meant-requires
-number-meant-requires c κs = search needs
-
--- the call is accepted
-sound-here : (c : tie.Else2) → SoundTable view (memory (c .before .before .before .before .before .before .before .before .before .before .args .words .now) (c .before .before .before .before .before .before .before .before .before .before .args .store .now))
-sound-here c = sound-table (c .before .before .before .before .sound .ensures) (c .before .before .before .if1 .left)
-
-accepted : (c : tie.Else2) → let a = c .before .before .before .before .before .before .before .before .before .before .args in number (Call.complexPing (a .set .0) (a .sequence) (a .adds .now) (a .deletes .now)) (view (memory (a .words .now) (a .store .now))) ≡ 0
-accepted c = sym (c .before .complex-number .ensures (c .before .before .before .before .before .before .before .before .before .before .args .store .now)) ∙ c .if2 .left
-
-row-meant-requires : tie.Need-row-meant-requires
-row-meant-requires c κs =
-    let a = c .before .before .before .before .before .before .before .before .before .before .before .before .before .args in
-    let t = sound-here (c .before .before .before) in
-    let known = c .before .before .slice-known2 .given 1 in
-    let l = sets-length (a .words .now) in (
-      t .words,
-      λ z.
-          let f = new-fits (a .set .0) (a .sequence) (a .adds .now) (a .deletes .now) (view (memory (a .words .now) (a .store .now))) (t .entries) (accepted (c .before .before .before)) z in
-          (omega arith, omega arith),
-    )
-
-update-requires : tie.Need-update-requires
-update-requires c κs =
-    let a = c .before .before .before .before .before .before .before .before .before .before .before .before .before .before .before .before .before .args in
-    let r = c .before .before .before .row-meant in
-    let t = sound-here (c .before .before .before .before .before .before .before) in
-    let q =
-    update-asked (a .set .0) (a .sequence) (a .adds .now) (a .deletes .now) (view (memory (a .words .now) (a .store .now))) (t .entries) (accepted (c .before .before .before .before .before .before .before))
-    (a .store .now) (r .last .0) (r .result) (r .ensures .0 (a .store .now)) (r .ensures .1 (a .store .now)) in
-    (search needs, q .0, q .1, q .2)
-
-ping-row-requires : tie.Need-ping-row-requires
-ping-row-requires c κs =
-    let a = c .before .before .before .before .before .before .before .before .before .before .before .before .before .before .before .before .before .before .before .before .before .args in
-    let r = c .before .before .before .before .before .before .before .row-meant in
-    let t = sound-here (c .before .before .before .before .before .before .before .before .before .before .before) in
-    let q =
-    ping-asked (a .set .0) (a .sequence) (a .adds .now) (a .deletes .now) (view (memory (a .words .now) (a .store .now))) (t .entries) (accepted (c .before .before .before .before .before .before .before .before .before .before .before))
-    (a .store .now) (r .last .0) (r .result) (r .ensures .0 (a .store .now)) (r .ensures .1 (a .store .now)) (c .before .before .before .update .last .0) (c .before .before .before .update .ensures) in
-    (search needs, q .0, q .1)
-
-same-length-3 : tie.Need-same-length-3
-same-length-3 c = search needs
-
-returns-3 : tie.Need-returns-3
-unfolding done results
-returns-3 c =
-    let a = c .before .before .before .before .before .before .before .before .before .before .before .before .before .before .before .before .before .before .before .before .before .before .before .before .args in
-    let r = c .before .before .before .before .before .before .before .before .before .before .row-meant in
-    let t = sound-here (c .before .before .before .before .before .before .before .before .before .before .before .before .before .before) in
-    let size : length (c .before .before .ping-row .last .0) ≡ 8192 = omega arith in
-    rw (c .before .before .before .before .before .before .before .before .before .before .before .before .number-meant .ensures)
-    (accepted-call (c .before .before .before .before .before .before .before .before .before .before .before .before .before .before .before .before .before .before .sound .ensures) _ refl (c .before .before .before .before .before .before .before .before .before .before .before .before .before .before .before .before .before .if1 .left) 0 (sym (accepted (c .before .before .before .before .before .before .before .before .before .before .before .before .before .before))) refl _ size (t .store)
-    (pinged-next (a .set .0) (a .sequence) (a .adds .now) (a .deletes .now) (view (memory (a .words .now) (a .store .now))) (t .entries) (accepted (c .before .before .before .before .before .before .before .before .before .before .before .before .before .before))
-    (a .store .now) (r .last .0) (r .result) (r .ensures .0 (a .store .now)) (r .ensures .1 (a .store .now)) (c .before .before .before .before .before .before .update .last .0) (c .before .before .before .before .before .before .update .ensures)
-    (c .before .before .ping-row .last .0) (c .before .before .ping-row .ensures)))
+    let judged = c .before .before .before .before .before .sound .ensures in
+    let left = c .before .before .before .before .if1 .left in
+    let t = sound-table judged left in
+    let words : length (c .before .before .complex-ping-step .last .0) ≡ 8192 = omega arith in
+    stepped-call judged _ refl left (c .before .before .complex-ping-step .ensures) words (t .store)
 
 pub complex-ping-spec : {M : Type 1} → statement M
 complex-ping-spec =
@@ -110,14 +43,6 @@ complex-ping-spec =
     refused-requires
     same-length
     returns
-    complex-number-requires
-    refused-requires-2
+    complex-ping-step-requires
     same-length-2
-    returns-2
-    slice-read-number-meant
-    number-meant-requires
-    row-meant-requires
-    update-requires
-    ping-row-requires
-    same-length-3
-    returns-3)
+    returns-2)

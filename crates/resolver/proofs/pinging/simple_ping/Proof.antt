@@ -1,18 +1,9 @@
--- `pinging::simple_ping`: set 0 is refused, then a set that is not live; else the set's row is pinged.
-use Prim.Native.Nat.{ℕ, _<_}
-use mathlib.Core.Path.{_≡_, refl, sym, ap, _∙_}
+-- `pinging::simple_ping`: a table that is not sound is refused; else the step is the call.
+use mathlib.Core.Path.{_≡_, refl}
 use native.Mathlib.Omega.{arith}
-use borrow.Author.Tests.{eq-eqb, ne-eqb}
 use lib.ListN.{length}
-use Rattle.rules.specs.Rules.{results, refused, done}
-use Rattle.rules.proofs.SoundLaws.{sound-fields}
-use Rattle.rules.proofs.ByRow.{setRow}
-use Rattle.rules.proofs.PingRows.{simple-ping-row}
-use Rattle.rules.specs.PingRows.{pingedRow}
-use Rattle.table.specs.View.{memory, view}
-use Rattle.table.proofs.Entries.{sets-length}
-use Rattle.resolver.proofs.Calls.{sound-table, unsound-call, refused-call, accepted-call, row-gives, row-passes, gone-gives, live-passes, rows-end, set-tested}
-use Rattle.resolver.proofs.Pings.{simple-rows}
+use Rattle.rules.specs.Rules.{results, refused}
+use Rattle.resolver.proofs.Calls.{sound-table, unsound-call, stepped-call}
 use borrow.Author.Needs.{needs}
 use Rattle.resolver.proofs.pinging.simple_ping.Statement.{statement}
 use Rattle.resolver.proofs.pinging.simple_ping.Tie as tie
@@ -27,62 +18,19 @@ returns : tie.Need-returns
 unfolding refused results
 returns c = unsound-call (c .before .sound .ensures) _ refl (c .if1 .taken)
 
+simple-ping-step-requires : tie.Need-simple-ping-step-requires
+simple-ping-step-requires c κs = sound-table (c .before .before .sound .ensures) (c .before .if1 .left)
+
 same-length-2 : tie.Need-same-length-2
 same-length-2 c = search needs
 
 returns-2 : tie.Need-returns-2
-unfolding refused results
 returns-2 c =
-    refused-call (c .before .before .before .sound .ensures) _ refl (c .before .before .if1 .left) 11 (row-gives _ _ _ (simple-rows _ _) (eq-eqb _ 0 (c .if2 .taken))) (λ z. omega arith)
-
-set-row-requires : tie.Need-set-row-requires
-set-row-requires c κs = sound-table (c .before .before .before .before .sound .ensures) (c .before .before .before .if1 .left) .words
-
-set-count-requires : tie.Need-set-count-requires
-set-count-requires c κs = sound-table (c .before .before .before .before .before .before .sound .ensures) (c .before .before .before .before .before .if1 .left) .words
-
-same-length-3 : tie.Need-same-length-3
-same-length-3 c = search needs
-
-returns-3 : tie.Need-returns-3
-unfolding refused results
-returns-3 c =
-    let a = c .before .before .before .before .before .before .before .before .before .before .before .before .args in
-    refused-call (c .before .before .before .before .before .before .before .before .sound .ensures) _ refl (c .before .before .before .before .before .before .before .if1 .left) 11
-    (gone-gives (set-tested (a .words .now) (a .store .now) (a .set .0) (c .before .before .before .set-row .ensures (a .store .now)) (c .before .set-count .ensures .0)) _ _
-    (row-passes _ _ _ (simple-rows _ _) (ne-eqb _ 0 (c .before .before .before .before .before .if2 .left))) (c .if3 .taken))
-    (λ z. omega arith)
-
-ping-row-requires : tie.Need-ping-row-requires
-ping-row-requires c κs =
-    let t = sound-table (c .before .before .before .before .before .before .before .before .before .sound .ensures) (c .before .before .before .before .before .before .before .before .if1 .left) in
-    let count = c .before .before .set-count .ensures .0 in
-    let live = c .before .if3 .left in
-    (t .words, omega arith, sound-fields _ (t .entries) .objectsProper)
-
-same-length-4 : tie.Need-same-length-4
-same-length-4 c = search needs
-
-returns-4 : tie.Need-returns-4
-unfolding done results
-returns-4 c =
-    let a = c .before .before .before .before .before .before .before .before .before .before .before .before .before .before .before .before .args in
-    let e = view (memory (a .words .now) (a .store .now)) in
-    let judged = c .before .before .before .before .before .before .before .before .before .before .before .before .sound .ensures in
-    let left = c .before .before .before .before .before .before .before .before .before .before .before .if1 .left in
+    let judged = c .before .before .before .before .before .sound .ensures in
+    let left = c .before .before .before .before .if1 .left in
     let t = sound-table judged left in
-    let found = c .before .before .before .before .before .before .before .set-row .ensures (a .store .now) in
-    let count = c .before .before .before .before .before .set-count .ensures .0 in
-    let live = c .before .before .before .before .if3 .left in
-    let l = sets-length (a .words .now) in
-    let here : setRow e (a .set .0) < length (e .sets) = omega arith in
-    let size : length (c .before .before .ping-row .last .0) ≡ 8192 = omega arith in
-    accepted-call judged _ refl left 0
-    (rows-end
-    (live-passes (set-tested (a .words .now) (a .store .now) (a .set .0) found count) _ _
-    (row-passes _ _ _ (simple-rows _ _) (ne-eqb _ 0 (c .before .before .before .before .before .before .before .before .before .if2 .left))) live))
-    refl _ size (t .store)
-    (c .before .before .ping-row .ensures (a .store .now) ∙ ap (λ (k : ℕ). pingedRow k e) found ∙ sym (simple-ping-row e (t .entries) (a .set .0) here))
+    let words : length (c .before .before .simple-ping-step .last .0) ≡ 8192 = omega arith in
+    stepped-call judged _ refl left (c .before .before .simple-ping-step .ensures) words (t .store)
 
 pub simple-ping-spec : {M : Type 1} → statement M
 simple-ping-spec =
@@ -91,12 +39,6 @@ simple-ping-spec =
     sound-requires
     same-length
     returns
+    simple-ping-step-requires
     same-length-2
-    returns-2
-    set-row-requires
-    set-count-requires
-    same-length-3
-    returns-3
-    ping-row-requires
-    same-length-4
-    returns-4)
+    returns-2)
