@@ -4,17 +4,20 @@ use kinds::Oid;
 use kinds::Oxid;
 use kinds::SetId;
 use resolver::Expired;
+use resolver::LiveCounts;
+use resolver::MemberCount;
 use resolver::Pinged;
 use resolver::Released;
 use resolver::Resolved;
 use resolver::StopPlace;
-use table::LiveCounts;
-use table::MemberCount;
 ghost use Rattle.rules.specs.Calls.{Call, numbered};
 ghost use Rattle.table.specs.View.{memory, Performed};
-ghost use Rattle.table.specs.Replies.{censusReply, membersReply};
-ghost use Rattle.resolver.specs.Replies.{releaseReply, clockReply, pingReply, resolveReply};
-ghost use Rattle.resolver.specs.NextStop.{StopFound};
+ghost use Rattle.reading.specs.Replies.{censusReply, membersReply};
+ghost use Rattle.counting.specs.Replies.{releaseReply};
+ghost use Rattle.leaving.specs.Replies.{clockReply};
+ghost use Rattle.pinging.specs.Replies.{pingReply};
+ghost use Rattle.reading.specs.Replies.{resolveReply};
+ghost use Rattle.reading.specs.NextStop.{StopFound};
 
 // Empties the table and sets its clock.
 #[no_mangle]
@@ -23,7 +26,7 @@ pub extern "C" fn rimonakh_reset<'a>(words: &'a mut [u64], store: &'a [u8], time
         Performed (Call.reset time) (memory (now (words .entry)) (now (store .entry))) (numbered r)
         (memory (now (words .exit)) (now (store .entry))) ⌝ }
 {
-    table::reset(words, store, time)
+    resolver::reset(words, store, time)
 }
 
 // The live number of each kind.
@@ -33,7 +36,7 @@ pub extern "C" fn rimonakh_census<'a>(words: &'a [u64], store: &'a [u8]) -> Live
         Performed Call.census (memory (now (words .entry)) (now (store .entry))) (censusReply r)
         (memory (now (words .entry)) (now (store .entry))) ⌝ }
 {
-    table::census(words, store)
+    resolver::census(words, store)
 }
 
 // The number of members of a set.
@@ -43,7 +46,7 @@ pub extern "C" fn rimonakh_members<'a>(words: &'a [u64], store: &'a [u8], set: u
         Performed (Call.members set) (memory (now (words .entry)) (now (store .entry))) (membersReply r)
         (memory (now (words .entry)) (now (store .entry))) ⌝ }
 {
-    table::members(words, store, SetId(set))
+    resolver::members(words, store, SetId(set))
 }
 
 // Enters an exporter.

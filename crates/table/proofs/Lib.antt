@@ -4,7 +4,6 @@ pub mod Judging
 pub mod RowChecks
 pub mod SoundLaws
 pub mod FreePlaces
-pub mod Fresh
 pub mod EditRows
 pub mod EditViews
 pub mod EditChanges

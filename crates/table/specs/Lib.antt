@@ -1,6 +1,5 @@
 pub mod View
 pub mod Clauses
-pub mod Replies
 pub mod Edits
 pub mod Found
 pub mod Sizes

@@ -115,7 +115,7 @@ fn ping<'a>(words: &'a mut [u64], store: &'a [u8], set: SetId) {
 }
 
 fn count_members<'a>(words: &'a [u64], store: &'a [u8], set: SetId) {
-    let r = table::members(words, store, set);
+    let r = resolver::members(words, store, set);
     say::step(r.answer, b"client: counts the members of its set");
     say::counted(b", ", r.count as u64);
     print::end_line();

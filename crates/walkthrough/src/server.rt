@@ -48,7 +48,7 @@ pub fn open<'a>(words: &'a mut [u64], store: &'a mut [u8]) {
         high: 0x4600000000000001,
     };
     say::done(
-        table::reset(words, store, 28800),
+        resolver::reset(words, store, 28800),
         b"server: resets its table at 8 o'clock",
     );
     say::done(
@@ -91,7 +91,7 @@ fn write(reference: &mut [u8]) {
 
 // What is live.
 pub fn count<'a>(words: &'a [u64], store: &'a [u8]) {
-    let r = table::census(words, store);
+    let r = resolver::census(words, store);
     say::step(r.answer, b"server: census");
     say::counted(b", ", r.exporters as u64);
     say::counted(b" exporters, ", r.objects as u64);

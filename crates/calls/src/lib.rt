@@ -1,0 +1,1 @@
+// What serves every call: laws alone, in proofs/.

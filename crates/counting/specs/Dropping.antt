@@ -1,0 +1,16 @@
+-- What goes along when an interface goes.
+use Prim.Native.Nat.{ℕ}
+use mathlib.Core.Path.{_≡_}
+use mathlib.Core.Bool.{not}
+use lib.Dec.{eqb}
+use Rattle.columns.specs.Lists.{some}
+use Rattle.rules.specs.Entries.{Interface, Entries}
+use Rattle.rules.specs.Rules.{flag}
+use Rattle.table.specs.Edits.{dropInterface}
+use Rattle.settling.specs.Leaving.{settled}
+use Rattle.settling.specs.declared.Leaving.the-variants.{Unserved}
+
+-- the interface at row i goes, and with it the objects that no interface names then; r says whether that is an object
+pub record InterfaceDropped (i object : ℕ) (e : Entries) (r : ℕ) (after : Entries) : Type 0 where
+  pub became : after ≡ settled Unserved (dropInterface i e)
+  pub gone : r ≡ flag (not (some (λ (p : Interface). eqb object (p .object)) (dropInterface i e .interfaces)))

@@ -1,0 +1,174 @@
+// References taken and given back.
+use kinds::Guid;
+use kinds::answer;
+use settling::Leaving;
+use table::edit;
+use table::find;
+use table::judge;
+use table::layout;
+ghost use mathlib.Core.Path.{_≡_};
+ghost use mathlib.Core.Bool.{true, not, _||_};
+ghost use mathlib.Core.List.{List};
+ghost use Prim.Native.Nat.{ℕ, _<_, min};
+ghost use lib.ListN.{length};
+ghost use lib.Dec.{eqb};
+ghost use Rattle.rules.specs.Entries.{oids};
+ghost use Rattle.rules.specs.Sound.{proper, membersLive};
+ghost use Rattle.rules.specs.Calls.{Call, numbered};
+ghost use Rattle.table.specs.View.{interfaceCount, memory, view, SoundTable, Stepped, Performed};
+ghost use Rattle.counting.specs.Replies.{releaseReply};
+ghost use Rattle.counting.specs.Dropping.{InterfaceDropped};
+
+// What a release took of each count, and how many interfaces and objects went: 0 or 1 of each.
+#[repr(C)]
+pub struct Released {
+    pub answer: u32,
+    pub public: u32,
+    pub private: u32,
+    pub interfaces: u32,
+    pub objects: u32,
+}
+
+// Adds to the counts of an interface: 0, or 1; 6; 8.
+pub fn add<'a>(words: &'a mut [u64], store: &'a [u8], ipid: Guid, public: u32, private: u32) -> u32
+    ensures { λ r. ⌜
+        Performed (Call.add ipid public private) (memory (now (words .entry)) (now (store .entry)))
+        (numbered r) (memory (now (words .exit)) (now (store .entry))) ⌝ }
+{
+    if !judge::sound(words, store) {
+        return answer::UNSOUND;
+    }
+    add_step(words, store, ipid, public, private)
+}
+
+// The same on a sound table.
+pub fn add_step<'a>(
+    words: &'a mut [u64],
+    store: &'a [u8],
+    ipid: Guid,
+    public: u32,
+    private: u32,
+) -> u32
+    requires { ⌜ SoundTable (memory (now words) (now store)) ⌝ }
+    ensures { λ r. ⌜
+        Stepped (Call.add ipid public private) (memory (now (words .entry)) (now (store .entry)))
+        (numbered r) (memory (now (words .exit)) (now (store .entry))) ⌝ }
+{
+    let i = find::interface_row(words, ipid);
+    if layout::interface_count(words) <= i {
+        return answer::NO_INTERFACE;
+    }
+    let held = find::interface_held(words, i);
+    let more_public = held.public as u64 + public as u64;
+    let more_private = held.private as u64 + private as u64;
+    if 0xFFFFFFFF < more_public {
+        return answer::COUNT_OVERFLOW;
+    }
+    if 0xFFFFFFFF < more_private {
+        return answer::COUNT_OVERFLOW;
+    }
+    edit::set_counts(words, i, more_public as u32, more_private as u32);
+    answer::DONE
+}
+
+fn smaller(a: u32, b: u32) -> u32
+    ensures { λ r. ⌜ r ≡ min a b ⌝ }
+{
+    if a < b { a } else { b }
+}
+
+fn refused(number: u32) -> Released
+    ensures { λ r. ⌜ r ≡ record { answer = number; public = 0; private = 0; interfaces = 0; objects = 0 } ⌝ }
+{
+    Released {
+        answer: number,
+        public: 0,
+        private: 0,
+        interfaces: 0,
+        objects: 0,
+    }
+}
+
+// Takes interface i out, and with it each object that no interface names then; answers whether that is this object.
+fn drop_interface(words: &mut [u64], i: usize, object: u64) -> u32
+    requires { ⌜
+        (length (now words) ≡ 8192) × (i < interfaceCount (now words))
+        × (proper (oids (view (memory (now words) (now words)))) ≡ true) × (membersLive (view (memory (now words) (now words))) ≡ true) ⌝ }
+    ensures { λ r. ⌜
+        ((s : List ℕ) → InterfaceDropped i object (view (memory (now (words .entry)) s)) r (view (memory (now (words .exit)) s))) ⌝ }
+{
+    edit::remove_interface(words, i);
+    let served = find::is_served(words, object);
+    settling::settle(words, Leaving::Unserved);
+    if served { 0 } else { 1 }
+}
+
+// Whether a reference is left.
+fn is_held(public: u32, private: u32) -> bool
+    ensures { λ r. ⌜ r ≡ (not (eqb public 0) || not (eqb private 0)) ⌝ }
+{
+    if public != 0 {
+        return true;
+    }
+    private != 0
+}
+
+// Gives references back: each count falls by the smaller of the asked number and itself. An interface at zero and zero goes,
+// and an object without interfaces, from its sets too. 0, or 1; 6.
+pub fn release<'a>(
+    words: &'a mut [u64],
+    store: &'a [u8],
+    ipid: Guid,
+    public: u32,
+    private: u32,
+) -> Released
+    ensures { λ r. ⌜
+        Performed (Call.release ipid public private) (memory (now (words .entry)) (now (store .entry)))
+        (releaseReply r) (memory (now (words .exit)) (now (store .entry))) ⌝ }
+{
+    if !judge::sound(words, store) {
+        return refused(answer::UNSOUND);
+    }
+    release_step(words, store, ipid, public, private)
+}
+
+// The same on a sound table.
+pub fn release_step<'a>(
+    words: &'a mut [u64],
+    store: &'a [u8],
+    ipid: Guid,
+    public: u32,
+    private: u32,
+) -> Released
+    requires { ⌜ SoundTable (memory (now words) (now store)) ⌝ }
+    ensures { λ r. ⌜
+        Stepped (Call.release ipid public private) (memory (now (words .entry)) (now (store .entry)))
+        (releaseReply r) (memory (now (words .exit)) (now (store .entry))) ⌝ }
+{
+    let i = find::interface_row(words, ipid);
+    if layout::interface_count(words) <= i {
+        return refused(answer::NO_INTERFACE);
+    }
+    let held = find::interface_held(words, i);
+    let taken_public = smaller(public, held.public);
+    let taken_private = smaller(private, held.private);
+    let left_public = held.public - taken_public;
+    let left_private = held.private - taken_private;
+    if is_held(left_public, left_private) {
+        edit::set_counts(words, i, left_public, left_private);
+        return Released {
+            answer: answer::DONE,
+            public: taken_public,
+            private: taken_private,
+            interfaces: 0,
+            objects: 0,
+        };
+    }
+    Released {
+        answer: answer::DONE,
+        public: taken_public,
+        private: taken_private,
+        interfaces: 1,
+        objects: drop_interface(words, i, held.object),
+    }
+}

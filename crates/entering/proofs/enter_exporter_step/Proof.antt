@@ -1,0 +1,54 @@
+-- `entering::enter_exporter_step`: refused as the number says; else the exporter is entered with its list.
+use mathlib.Core.Path.{sym, _∙_}
+use native.Mathlib.Omega.{arith}
+use Rattle.rules.specs.Rules.{next, results, refused, done}
+use Rattle.table.specs.View.{memory, view}
+use Rattle.table.proofs.Entries.{exporters-length}
+use Rattle.calls.proofs.Calls.{refused-step, accepted-step}
+use Rattle.entering.proofs.Places.{exporter-fits}
+use borrow.Author.Needs.{needs}
+use Rattle.entering.proofs.enter_exporter_step.Statement.{statement}
+use Rattle.entering.proofs.enter_exporter_step.Tie as tie
+
+exporter-number-requires : tie.Need-exporter-number-requires
+exporter-number-requires c κs = c .before .before .before .before .pre .words
+
+same-length : tie.Need-same-length
+same-length c = search needs
+
+returns : tie.Need-returns
+unfolding refused results
+returns c =
+    refused-step _ (c .before .exporter-number .ensures (c .before .before .before .before .before .before .args .store .now)) (c .if1 .taken)
+
+put-exporter-requires : tie.Need-put-exporter-requires
+put-exporter-requires c κs =
+    let a = c .before .before .before .before .before .before .before .before .args in
+    let t = c .before .before .before .before .before .before .before .before .pre in
+    let fits = exporter-fits (view (memory (a .words .now) (a .store .now))) (a .oxid .0) (a .unknown) (a .list .now) (sym (c .before .before .before .exporter-number .ensures (a .store .now)) ∙ c .before .before .if1 .left) in
+    let l = exporters-length (a .words .now) (a .store .now) in
+    (t .words, t .store, omega arith, fits .0, fits .1)
+
+same-length-2 : tie.Need-same-length-2
+same-length-2 c = search needs
+
+same-length-3 : tie.Need-same-length-3
+same-length-3 c = search needs
+
+returns-2 : tie.Need-returns-2
+unfolding done results next
+returns-2 c =
+    let t = c .before .before .before .before .before .before .before .before .before .before .before .before .before .pre in
+    accepted-step _ (c .before .before .before .before .before .before .before .before .exporter-number .ensures (c .before .before .before .before .before .before .before .before .before .before .before .before .before .args .store .now)) (c .before .before .before .before .before .before .before .if1 .left) _ (c .before .before .before .before .put-exporter .ensures)
+
+pub enter-exporter-step-spec : {M : Type 1} → statement M
+enter-exporter-step-spec =
+    tie.close
+    (tie.spec
+    exporter-number-requires
+    same-length
+    returns
+    put-exporter-requires
+    same-length-2
+    same-length-3
+    returns-2)

@@ -1,0 +1,2 @@
+pub mod Expiring
+pub mod Removing

@@ -1,0 +1,69 @@
+-- `leaving::remove_exporter_step`: a table that is not sound is refused, then an exporter that is not live; else its objects go, and then its row.
+use native.Mathlib.Omega.{arith}
+use Rattle.settling.specs.declared.Leaving.the-variants.{Exported}
+use Rattle.settling.proofs.Settling.{asked-sound}
+use Rattle.leaving.proofs.Removing.{no-exporter, exporter-gone, settled-count}
+use borrow.Author.Needs.{needs}
+use Rattle.leaving.proofs.remove_exporter_step.Statement.{statement}
+use Rattle.leaving.proofs.remove_exporter_step.Tie as tie
+
+exporter-row-requires : tie.Need-exporter-row-requires
+exporter-row-requires c κs = c .before .before .before .pre .words
+
+exporter-count-requires : tie.Need-exporter-count-requires
+exporter-count-requires c κs = c .before .before .before .before .before .pre .words
+
+same-length : tie.Need-same-length
+same-length c = search needs
+
+returns : tie.Need-returns
+returns c =
+    let a = c .before .before .before .before .before .before .before .args in
+    no-exporter (a .words .now) (a .store .now) (a .oxid .0) (c .before .before .before .before .before .before .before .pre) _ _ (c .before .before .before .exporter-row .ensures (a .store .now)) (c .before .exporter-count .ensures .0) (c .if1 .taken)
+
+settle-requires : tie.Need-settle-requires
+settle-requires c κs =
+    let a = c .before .before .before .before .before .before .before .before .args in
+    let t = c .before .before .before .before .before .before .before .before .pre in
+    let q = asked-sound (a .words .now) (a .store .now) (t .entries) in
+    (t .words, q .0, q .1)
+
+remove-exporter-requires : tie.Need-remove-exporter-requires
+remove-exporter-requires c κs =
+    let a = c .before .before .before .before .before .before .before .before .before .before .before .before .before .args in
+    let t = c .before .before .before .before .before .before .before .before .before .before .before .before .before .pre in
+    let w = t .words in
+    let b = t .store in
+    let n = settled-count (Exported (a .oxid .0)) (a .words .now) _ (a .store .now) (c .before .before .before .before .settle .ensures) in
+    let m = c .before .before .before .before .before .before .before .exporter-count .ensures .0 in
+    let i = c .before .before .before .before .before .before .if1 .left in
+    (search needs, b, omega arith)
+
+same-length-2 : tie.Need-same-length-2
+same-length-2 c = search needs
+
+same-length-3 : tie.Need-same-length-3
+same-length-3 c = search needs
+
+returns-2 : tie.Need-returns-2
+returns-2 c =
+    let a = c .before .before .before .before .before .before .before .before .before .before .before .before .before .before .before .before .before .before .args in
+    let t = c .before .before .before .before .before .before .before .before .before .before .before .before .before .before .before .before .before .before .pre in
+    let w = t .words in
+    let b = t .store in
+    exporter-gone (a .words .now) (a .store .now) (a .oxid .0) (c .before .before .before .before .before .before .before .before .before .before .before .before .before .before .before .before .before .before .pre) _ _ (c .before .before .before .before .before .before .before .before .before .before .before .before .before .before .exporter-row .ensures (a .store .now)) (c .before .before .before .before .before .before .before .before .before .before .before .before .exporter-count .ensures .0) (c .before .before .before .before .before .before .before .before .before .before .before .if1 .left)
+    _ _ _ (c .before .before .before .before .before .before .before .before .before .settle .ensures) (c .before .before .before .before .remove-exporter .ensures)
+
+pub remove-exporter-step-spec : {M : Type 1} → statement M
+remove-exporter-step-spec =
+    tie.close
+    (tie.spec
+    exporter-row-requires
+    exporter-count-requires
+    same-length
+    returns
+    settle-requires
+    remove-exporter-requires
+    same-length-2
+    same-length-3
+    returns-2)

@@ -1,0 +1,100 @@
+// Entries that go: by an exporter's removal, and by the clock.
+use kinds::Oxid;
+use kinds::answer;
+use settling::Leaving;
+use table::edit;
+use table::find;
+use table::judge;
+use table::layout;
+ghost use mathlib.Core.Path.{_≡_};
+ghost use Prim.Native.Nat.{_<_};
+ghost use Rattle.rules.specs.Calls.{Call, numbered};
+ghost use Rattle.table.specs.View.{memory, SoundTable, Stepped, Performed};
+ghost use Rattle.leaving.specs.Replies.{clockReply};
+
+// Removes an exporter with its objects, their interfaces and memberships: 0, or 1; 4.
+pub fn remove_exporter<'a>(words: &'a mut [u64], store: &'a mut [u8], oxid: Oxid) -> u32
+    ensures { λ r. ⌜
+        Performed (Call.removeExporter (oxid .0)) (memory (now (words .entry)) (now (store .entry)))
+        (numbered r) (memory (now (words .exit)) (now (store .exit))) ⌝ }
+{
+    if !judge::sound(words, store) {
+        return answer::UNSOUND;
+    }
+    remove_exporter_step(words, store, oxid)
+}
+
+// The same on a sound table.
+pub fn remove_exporter_step<'a>(words: &'a mut [u64], store: &'a mut [u8], oxid: Oxid) -> u32
+    requires { ⌜ SoundTable (memory (now words) (now store)) ⌝ }
+    ensures { λ r. ⌜
+        Stepped (Call.removeExporter (oxid .0)) (memory (now (words .entry)) (now (store .entry)))
+        (numbered r) (memory (now (words .exit)) (now (store .exit))) ⌝ }
+{
+    let i = find::exporter_row(words, oxid.0);
+    if layout::exporter_count(words) <= i {
+        return answer::NO_EXPORTER;
+    }
+    settling::settle(words, Leaving::Exported(oxid.0));
+    edit::remove_exporter(words, store, i);
+    answer::DONE
+}
+
+// How many of each kind went.
+#[repr(C)]
+pub struct Expired {
+    pub answer: u32,
+    pub exporters: usize,
+    pub objects: usize,
+    pub interfaces: usize,
+    pub sets: usize,
+}
+
+fn refused(number: u32) -> Expired
+    ensures { λ r. ⌜ r ≡ record { answer = number; exporters = 0; objects = 0; interfaces = 0; sets = 0 } ⌝ }
+{
+    Expired {
+        answer: number,
+        exporters: 0,
+        objects: 0,
+        interfaces: 0,
+        sets: 0,
+    }
+}
+
+// Sets the clock. Sets and pinged objects that were not heard for 360 seconds or more go: 0, or 1; 2.
+pub fn clock<'a>(words: &'a mut [u64], store: &'a [u8], time: u64) -> Expired
+    ensures { λ r. ⌜
+        Performed (Call.clock time) (memory (now (words .entry)) (now (store .entry)))
+        (clockReply r) (memory (now (words .exit)) (now (store .entry))) ⌝ }
+{
+    if !judge::sound(words, store) {
+        return refused(answer::UNSOUND);
+    }
+    clock_step(words, store, time)
+}
+
+// The same on a sound table.
+pub fn clock_step<'a>(words: &'a mut [u64], store: &'a [u8], time: u64) -> Expired
+    requires { ⌜ SoundTable (memory (now words) (now store)) ⌝ }
+    ensures { λ r. ⌜
+        Stepped (Call.clock time) (memory (now (words .entry)) (now (store .entry)))
+        (clockReply r) (memory (now (words .exit)) (now (store .entry))) ⌝ }
+{
+    if time < words[layout::CLOCK] {
+        return refused(answer::CLOCK_BACK);
+    }
+    let objects = layout::object_count(words);
+    let interfaces = layout::interface_count(words);
+    let sets = layout::set_count(words);
+    settling::drop_sets(words, time);
+    edit::set_clock(words, time);
+    settling::settle(words, Leaving::Unheard(time));
+    Expired {
+        answer: answer::DONE,
+        exporters: 0,
+        objects: objects - layout::object_count(words),
+        interfaces: interfaces - layout::interface_count(words),
+        sets: sets - layout::set_count(words),
+    }
+}

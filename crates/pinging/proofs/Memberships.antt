@@ -1,0 +1,186 @@
+-- The members of a set by the rows of the objects and by their OIDs, and how they change in a complex ping.
+use Prim.Native.Nat.{ℕ, _<_, _≤_}
+use mathlib.Core.Path.{_≡_, refl, sym, ap, _∙_}
+use mathlib.Core.Bool.{Bool, true, false, cond, not, _&&_, _||_, and-false, or-true}
+use mathlib.Core.List.{List, [], _∷_, _++_, map}
+use mathlib.Core.Logic.{⊎-elim}
+use native.Mathlib.Omega.{arith}
+use borrow.Author.Tests.{eqb-true, eq-eqb, ne-eqb, ltb-true, lt-ltb, le-ltb}
+use lib.Dec.{eqb, ltb}
+use lib.ListN.{length, getD, List·getD-eq-default}
+use Rattle.kinds.proofs.Refusing.{true-false}
+use Rattle.columns.specs.Lists.{tabulate, keep, every, some, distinct, firstIndex, among}
+use Rattle.columns.specs.Members.{isMember, memberRows, InWords, Added, Dropped}
+use Rattle.columns.specs.declared.members.Members.{Members}
+use Rattle.columns.proofs.Tests.{true-or-false, below-or-not, and-left, and-right}
+use Rattle.columns.proofs.Lists.{every-at, every-tabulate, some-map, some-keep, some-tabulate, none-some, some-one, some-append, keep-map, keep-ext-on, tabulate-getD, map-tabulate}
+use Rattle.columns.proofs.First.{first-at}
+use Rattle.columns.proofs.Distinct.{eqb-decides, distinct-at, first-same}
+use Rattle.columns.proofs.Bits.{below-holds, members-below}
+use Rattle.rules.specs.Sound.{proper}
+use Rattle.pinging.specs.Pinging.{Put}
+
+-- the values at the members' rows
+abbrev valuesAt : List ℕ → Members → List ℕ
+valuesAt ids m = map (λ j. getD ids j 0) (memberRows m)
+
+module _ (ids : List ℕ) (p : proper ids ≡ true) where
+  abbrev nonzero : List ℕ → Bool
+  nonzero ns = every (λ (n : ℕ). not (eqb n 0)) ns
+
+  ids-nonzero : nonzero ids ≡ true
+  ids-nonzero = and-left (nonzero ids) (distinct eqb ids) p
+
+  ids-distinct : distinct eqb ids ≡ true
+  ids-distinct = and-right (nonzero ids) (distinct eqb ids) p
+
+  -- an OID stands in no other row
+  one-row : (k j : ℕ) → k < length ids → getD ids k 0 ≡ getD ids j 0 → j ≡ k
+  one-row k j h e =
+      ⊎-elim
+      (λ (b : j < length ids). distinct-at eqb eqb-decides ids 0 ids-distinct j k b h (sym e))
+      (λ (b : length ids ≤ j).
+      absurd (true-false (sym (every-at (λ (n : ℕ). not (eqb n 0)) ids 0 k h ids-nonzero) ∙ ap not (eq-eqb (getD ids k 0) 0 (e ∙ List·getD-eq-default ids 0 b)))))
+      (below-or-not j (length ids))
+
+  -- the OID of a row is among the members' just where the row is a member
+  pub member-among : (m : Members) (k : ℕ) → k < length ids → length ids ≤ 128 → among (valuesAt ids m) (getD ids k 0) ≡ isMember m k
+  unfolding memberRows
+  member-among m k h l =
+      some-map (eqb (getD ids k 0)) (λ j. getD ids j 0) (memberRows m)
+      ∙ some-keep (λ j. eqb (getD ids k 0) (getD ids j 0)) (isMember m) (tabulate 128 (λ j. j))
+      ∙ ⊎-elim
+      (λ (t : isMember m k ≡ true). some-tabulate test 128 (λ j. j) k (omega arith) (rw (t, eqb-decides .self (getD ids k 0))) ∙ sym t)
+      (λ (f : isMember m k ≡ false). none-some test (tabulate 128 (λ j. j)) (every-tabulate (λ j. not (test j)) 128 (λ j. j) (λ j b. ap not (other f j))) ∙ sym f)
+      (true-or-false (isMember m k))
+    where
+      test : ℕ → Bool
+      test j = isMember m j && eqb (getD ids k 0) (getD ids j 0)
+
+      other : isMember m k ≡ false → (j : ℕ) → test j ≡ false
+      other f j =
+          ⊎-elim
+          (λ (t : eqb (getD ids k 0) (getD ids j 0) ≡ true). rw (one-row k j h (eqb-true _ _ t), f))
+          (λ (t : eqb (getD ids k 0) (getD ids j 0) ≡ false). rw t (and-false (isMember m j)))
+          (true-or-false (eqb (getD ids k 0) (getD ids j 0)))
+
+  -- members below the number of OIDs are the OIDs that a test keeps, where the test says who is a member
+  pub members-kept : (m : Members) (q : ℕ → Bool) → length ids ≤ 128 → ((j : ℕ) → length ids ≤ j → isMember m j ≡ false)
+      → ((j : ℕ) → j < length ids → isMember m j ≡ q (getD ids j 0)) → valuesAt ids m ≡ keep q ids
+  members-kept m q l none same =
+      let n = length ids in
+      let value : ℕ → ℕ = λ j. getD ids j 0 in
+      ap (map value)
+      (members-below n m (below-holds n m none) l
+      ∙ keep-ext-on (λ j. ltb j n) (isMember m) (λ j. q (value j)) (λ j b. same j (ltb-true j n b)) (tabulate n (λ j. j)) (every-tabulate (λ j. ltb j n) n (λ j. j) (λ j b. lt-ltb j n b)))
+      ∙ sym (keep-map q value (tabulate n (λ j. j)))
+      ∙ ap (keep q) (map-tabulate value n (λ j. j) ∙ tabulate-getD ids 0)
+
+  -- ---- the rows of a list of OIDs
+
+  -- an OID stands at the row that is found for it
+  row-test : (oid j : ℕ) → (ltb j (length ids) && among (oid ∷ []) (getD ids j 0)) ≡ (ltb j (length ids) && eqb j (firstIndex (eqb oid) ids))
+  row-test oid j =
+      ⊎-elim
+      (λ (b : j < length ids). ap (_&&_ (ltb j (length ids))) (some-one (eqb (getD ids j 0)) oid ∙ found b))
+      (λ (b : length ids ≤ j). rw (le-ltb j (length ids) b))
+      (below-or-not j (length ids))
+    where
+      found : j < length ids → eqb (getD ids j 0) oid ≡ eqb j (firstIndex (eqb oid) ids)
+      found b =
+          ⊎-elim
+          (λ (t : eqb (getD ids j 0) oid ≡ true).
+          t ∙ sym (eq-eqb j (firstIndex (eqb oid) ids) (sym (first-same eqb eqb-decides ids 0 j ids-distinct b) ∙ ap (λ (o : ℕ). firstIndex (eqb o) ids) (eqb-true _ _ t))))
+          (λ (f : eqb (getD ids j 0) oid ≡ false).
+          f
+          ∙ sym
+          (ne-eqb j (firstIndex (eqb oid) ids)
+          (λ e.
+          let here = first-at (eqb oid) 0 ids (omega arith) in
+          true-false (sym (eq-eqb (getD ids j 0) oid (ap (λ (k : ℕ). getD ids k 0) e ∙ sym (eqb-true _ _ here))) ∙ f))))
+          (true-or-false (eqb (getD ids j 0) oid))
+
+  module _ (oid : ℕ) (m : Members) where
+    abbrev row : ℕ
+    row = firstIndex (eqb oid) ids
+
+    -- an OID that is not live changes nothing
+    pub put-none : (member : Bool) → InWords m → length ids ≤ row → Put member ids (oid ∷ []) m m
+    put-none member w h =
+        record {
+          words = w;
+          rows =
+              λ j.
+              ⊎-elim
+              (λ (b : j < length ids). rw (row-test oid j, ne-eqb j row (omega arith), and-false (ltb j (length ids))))
+              (λ (b : length ids ≤ j). rw (le-ltb j (length ids) b))
+              (below-or-not j (length ids));
+        }
+
+    module _ (r : Members) (h : row < length ids) where
+      -- the test of the row that is found
+      here-test : (j : ℕ) → (ltb j (length ids) && among (oid ∷ []) (getD ids j 0)) ≡ eqb j row
+      here-test j =
+          row-test oid j
+          ∙ ⊎-elim
+          (λ (t : eqb j row ≡ true). let e = eqb-true j row t in rw (t, lt-ltb j (length ids) (omega arith)))
+          (λ (f : eqb j row ≡ false). rw f (and-false (ltb j (length ids))))
+          (true-or-false (eqb j row))
+
+      pub put-added : length ids ≤ 128 → Added row m r → Put true ids (oid ∷ []) m r
+      put-added l a =
+          record { words = a .words; rows = λ j. a .member j ∙ rw (here-test j, lt-ltb row 128 (omega arith)) (either (eqb j row) (isMember m j)) }
+        where
+          either : (t u : Bool) → (t || u) ≡ cond t true u
+          either true u = refl
+          either false u = refl
+
+      pub put-dropped : Dropped row m r → Put false ids (oid ∷ []) m r
+      put-dropped d = record { words = d .words; rows = λ j. d .member j ∙ rw (here-test j) (both (eqb j row) (isMember m j)) }
+        where
+          both : (t u : Bool) → (not t && u) ≡ cond t false u
+          both true u = refl
+          both false u = refl
+
+  module _ (member : Bool) where
+    -- no OID
+    pub put-nil : (m : Members) → InWords m → Put member ids [] m m
+    unfolding some
+    put-nil m w = record { words = w; rows = λ j. rw (and-false (ltb j (length ids))) }
+
+    -- one more
+    pub put-snoc : (listed : List ℕ) (oid : ℕ) {m r r′ : Members} → Put member ids listed m r → Put member ids (oid ∷ []) r r′ → Put member ids (listed ++ (oid ∷ [])) m r′
+    put-snoc listed oid {m} a b =
+        record {
+          words = b .words;
+          rows =
+              λ j.
+              let o : ℕ = getD ids j 0 in
+              b .rows j
+              ∙ ap (cond (ltb j (length ids) && among (oid ∷ []) o) member) (a .rows j)
+              ∙ later (ltb j (length ids)) (among listed o) (among (oid ∷ []) o) (isMember m j)
+              ∙ ap (λ (t : Bool). cond (ltb j (length ids) && t) member (isMember m j)) (sym (some-append (eqb o) listed (oid ∷ [])));
+        }
+      where
+        later : (t a b w : Bool) → cond (t && b) member (cond (t && a) member w) ≡ cond (t && (a || b)) member w
+        later false a b w = refl
+        later true true true w = refl
+        later true true false w = refl
+        later true false b w = refl
+
+  -- adds, then deletes: the OIDs that stay or join, and are not deleted
+  pub new-members : (adds dels : List ℕ) (m a r : Members) → length ids ≤ 128 → ((j : ℕ) → length ids ≤ j → isMember m j ≡ false) → Put true ids adds m a → Put false ids dels a r
+      → valuesAt ids r ≡ keep (λ (o : ℕ). (among (valuesAt ids m) o || among adds o) && not (among dels o)) ids
+  new-members adds dels m a r l none p q =
+      members-kept r (λ o. (among (valuesAt ids m) o || among adds o) && not (among dels o)) l
+      (λ j h. q .rows j ∙ rw (le-ltb j (length ids) h) (p .rows j ∙ rw (le-ltb j (length ids) h) (none j h)))
+      (λ j h.
+      q .rows j
+      ∙ ap (cond (ltb j (length ids) && among dels (getD ids j 0)) false) (p .rows j)
+      ∙ rw (lt-ltb j (length ids) h, member-among m j h l) (chosen (isMember m j) (among adds (getD ids j 0)) (among dels (getD ids j 0))))
+    where
+      chosen : (w a d : Bool) → cond d false (cond a true w) ≡ ((w || a) && not d)
+      chosen w a true = sym (and-false (w || a))
+      chosen w true false = sym (rw (or-true w))
+      chosen true false false = refl
+      chosen false false false = refl

@@ -1,0 +1,103 @@
+-- `pinging::complex_ping_step`: what its number refuses; else the set's row is found or made, updated and pinged.
+use mathlib.Core.Path.{_≡_, refl, sym, _∙_}
+use native.Mathlib.Omega.{arith}
+use Rattle.rules.specs.Calls.{Call}
+use Rattle.rules.specs.Rules.{number, results, refused, done}
+use Rattle.table.specs.View.{memory, view, SoundTable}
+use Rattle.table.proofs.Entries.{sets-length}
+use Rattle.calls.proofs.Calls.{refused-step, accepted-step}
+use Rattle.pinging.proofs.Pings.{new-fits, update-asked, ping-asked, pinged-next}
+use borrow.Author.Needs.{needs}
+use Rattle.pinging.proofs.complex_ping_step.Statement.{statement}
+use Rattle.pinging.proofs.complex_ping_step.Tie as tie
+
+complex-number-requires : tie.Need-complex-number-requires
+complex-number-requires c κs = c .before .before .before .before .before .pre .words
+
+refused-requires : tie.Need-refused-requires
+refused-requires c κs = search needs
+
+same-length : tie.Need-same-length
+same-length c = search needs
+
+returns : tie.Need-returns
+unfolding refused results
+returns c =
+    let a = c .before .before .before .before .before .before .before .before .args in
+    rw (c .refused .ensures) (refused-step _ (c .before .before .complex-number .ensures (a .store .now)) (c .before .if1 .taken))
+
+slice-read-number-meant : tie.Need-slice-read-number-meant
+slice-read-number-meant c = let w = c .before .before .before .before .before .before .before .before .pre .words in search needs
+
+number-meant-requires : tie.Need-number-meant-requires
+number-meant-requires c κs = search needs
+
+-- the call is accepted
+sound-here : (c : tie.Else1) → SoundTable (memory (c .before .before .before .before .before .before .before .args .words .now) (c .before .before .before .before .before .before .before .args .store .now))
+sound-here c = c .before .before .before .before .before .before .before .pre
+
+accepted : (c : tie.Else1) → let a = c .before .before .before .before .before .before .before .args in number (Call.complexPing (a .set .0) (a .sequence) (a .adds .now) (a .deletes .now)) (view (memory (a .words .now) (a .store .now))) ≡ 0
+accepted c = sym (c .before .complex-number .ensures (c .before .before .before .before .before .before .before .args .store .now)) ∙ c .if1 .left
+
+row-meant-requires : tie.Need-row-meant-requires
+row-meant-requires c κs =
+    let a = c .before .before .before .before .before .before .before .before .before .before .args in
+    let t = sound-here (c .before .before .before) in
+    let known = c .before .before .slice-known2 .given 1 in
+    let l = sets-length (a .words .now) in (
+      t .words,
+      λ z.
+          let f = new-fits (a .set .0) (a .sequence) (a .adds .now) (a .deletes .now) (view (memory (a .words .now) (a .store .now))) (t .entries) (accepted (c .before .before .before)) z in
+          (omega arith, omega arith),
+    )
+
+update-requires : tie.Need-update-requires
+update-requires c κs =
+    let a = c .before .before .before .before .before .before .before .before .before .before .before .before .before .before .args in
+    let r = c .before .before .before .row-meant in
+    let t = sound-here (c .before .before .before .before .before .before .before) in
+    let q =
+    update-asked (a .set .0) (a .sequence) (a .adds .now) (a .deletes .now) (view (memory (a .words .now) (a .store .now))) (t .entries) (accepted (c .before .before .before .before .before .before .before))
+    (a .store .now) (r .last .0) (r .result) (r .ensures .0 (a .store .now)) (r .ensures .1 (a .store .now)) in
+    (search needs, q .0, q .1, q .2)
+
+ping-row-requires : tie.Need-ping-row-requires
+ping-row-requires c κs =
+    let a = c .before .before .before .before .before .before .before .before .before .before .before .before .before .before .before .before .before .before .args in
+    let r = c .before .before .before .before .before .before .before .row-meant in
+    let t = sound-here (c .before .before .before .before .before .before .before .before .before .before .before) in
+    let q =
+    ping-asked (a .set .0) (a .sequence) (a .adds .now) (a .deletes .now) (view (memory (a .words .now) (a .store .now))) (t .entries) (accepted (c .before .before .before .before .before .before .before .before .before .before .before))
+    (a .store .now) (r .last .0) (r .result) (r .ensures .0 (a .store .now)) (r .ensures .1 (a .store .now)) (c .before .before .before .update .last .0) (c .before .before .before .update .ensures) in
+    (search needs, q .0, q .1)
+
+same-length-2 : tie.Need-same-length-2
+same-length-2 c = search needs
+
+returns-2 : tie.Need-returns-2
+unfolding done results
+returns-2 c =
+    let a = c .before .before .before .before .before .before .before .before .before .before .before .before .before .before .before .before .before .before .before .before .before .args in
+    let r = c .before .before .before .before .before .before .before .before .before .before .row-meant in
+    let t = sound-here (c .before .before .before .before .before .before .before .before .before .before .before .before .before .before) in
+    rw (c .before .before .before .before .before .before .before .before .before .before .before .before .number-meant .ensures)
+    (accepted-step 0 (sym (accepted (c .before .before .before .before .before .before .before .before .before .before .before .before .before .before))) refl _
+    (pinged-next (a .set .0) (a .sequence) (a .adds .now) (a .deletes .now) (view (memory (a .words .now) (a .store .now))) (t .entries) (accepted (c .before .before .before .before .before .before .before .before .before .before .before .before .before .before))
+    (a .store .now) (r .last .0) (r .result) (r .ensures .0 (a .store .now)) (r .ensures .1 (a .store .now)) (c .before .before .before .before .before .before .update .last .0) (c .before .before .before .before .before .before .update .ensures)
+    (c .before .before .ping-row .last .0) (c .before .before .ping-row .ensures)))
+
+pub complex-ping-step-spec : {M : Type 1} → statement M
+complex-ping-step-spec =
+    tie.close
+    (tie.spec
+    complex-number-requires
+    refused-requires
+    same-length
+    returns
+    slice-read-number-meant
+    number-meant-requires
+    row-meant-requires
+    update-requires
+    ping-row-requires
+    same-length-2
+    returns-2)

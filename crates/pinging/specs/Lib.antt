@@ -1,0 +1,2 @@
+pub mod Pinging
+pub mod Replies

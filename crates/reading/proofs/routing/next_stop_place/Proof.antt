@@ -1,0 +1,27 @@
+-- `routing::next_stop_place`: a table that is not sound is refused; else the step is the call.
+use mathlib.Core.Path.{refl}
+use native.Mathlib.Omega.{arith}
+use Rattle.calls.proofs.Calls.{sound-table, unsound-call}
+use Rattle.reading.proofs.Stopping.{refused-stop}
+use borrow.Author.Needs.{needs}
+use Rattle.reading.proofs.routing.next_stop_place.Statement.{statement}
+use Rattle.reading.proofs.routing.next_stop_place.Tie as tie
+
+sound-requires : tie.Need-sound-requires
+sound-requires c κs = search needs
+
+refused-requires : tie.Need-refused-requires
+refused-requires c κs = search needs
+
+returns : tie.Need-returns
+returns c =
+    rw (c .refused .ensures) (refused-stop _ _ _ 1 (λ z. omega arith) (unsound-call (c .before .before .sound .ensures) _ refl (c .before .if1 .taken)))
+
+next-stop-step-requires : tie.Need-next-stop-step-requires
+next-stop-step-requires c κs = sound-table (c .before .sound .ensures) (c .if1 .left)
+
+returns-2 : tie.Need-returns-2
+returns-2 c = c .next-stop-step .ensures
+
+pub next-stop-place-spec : {M : Type 1} → statement M
+next-stop-place-spec = tie.close (tie.spec sound-requires refused-requires returns next-stop-step-requires returns-2)

@@ -1,0 +1,2 @@
+pub mod NextStop
+pub mod Replies

@@ -1,0 +1,17 @@
+// The calls that read the table and leave it as it is.
+pub use numbers::LiveCounts;
+pub use numbers::MemberCount;
+pub use numbers::census;
+pub use numbers::members;
+pub use resolving::Resolved;
+pub use resolving::resolve;
+pub use resolving::resolve_step;
+pub use routing::StopPlace;
+pub use routing::next_stop;
+pub use routing::next_stop_answer;
+pub use routing::next_stop_place;
+pub use routing::next_stop_step;
+
+mod numbers;
+mod resolving;
+mod routing;

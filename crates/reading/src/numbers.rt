@@ -1,0 +1,95 @@
+// The numbers of live entries, and of a set's members.
+use kinds::SetId;
+use kinds::answer;
+use table::find;
+use table::judge;
+use table::layout;
+ghost use mathlib.Core.Path.{_≡_};
+ghost use mathlib.Core.List.{List};
+ghost use Prim.Native.Nat.{ℕ};
+ghost use lib.ListN.{length};
+ghost use Rattle.rules.specs.Calls.{Call};
+ghost use Rattle.table.specs.View.{memory, view, Performed};
+ghost use Rattle.reading.specs.Replies.{censusReply, membersReply, countsOf, memberCountOf};
+
+// The live numbers of the four kinds.
+#[repr(C)]
+pub struct LiveCounts {
+    pub answer: u32,
+    pub exporters: usize,
+    pub objects: usize,
+    pub interfaces: usize,
+    pub sets: usize,
+}
+
+// The number of a set's members.
+#[repr(C)]
+pub struct MemberCount {
+    pub answer: u32,
+    pub count: usize,
+}
+
+// The live number of each kind: 0, or 1.
+pub fn census<'a>(words: &'a [u64], store: &'a [u8]) -> LiveCounts
+    ensures { λ r. ⌜
+        Performed Call.census (memory (now (words .entry)) (now (store .entry))) (censusReply r)
+        (memory (now (words .entry)) (now (store .entry))) ⌝ }
+{
+    if !judge::sound(words, store) {
+        return LiveCounts {
+            answer: answer::UNSOUND,
+            exporters: 0,
+            objects: 0,
+            interfaces: 0,
+            sets: 0,
+        };
+    }
+    counted(words)
+}
+
+// The live numbers of an array of the right length.
+fn counted(words: &[u64]) -> LiveCounts
+    requires { ⌜ length (now words) ≡ 8192 ⌝ }
+    ensures { λ r. ⌜ ((s : List ℕ) → r ≡ countsOf (view (memory (now (words .entry)) s))) ⌝ }
+{
+    LiveCounts {
+        answer: answer::DONE,
+        exporters: layout::exporter_count(words),
+        objects: layout::object_count(words),
+        interfaces: layout::interface_count(words),
+        sets: layout::set_count(words),
+    }
+}
+
+// The number of members of a set: 0, or 1; 11.
+pub fn members<'a>(words: &'a [u64], store: &'a [u8], set: SetId) -> MemberCount
+    ensures { λ r. ⌜
+        Performed (Call.members (set .0)) (memory (now (words .entry)) (now (store .entry))) (membersReply r)
+        (memory (now (words .entry)) (now (store .entry))) ⌝ }
+{
+    if !judge::sound(words, store) {
+        return MemberCount {
+            answer: answer::UNSOUND,
+            count: 0,
+        };
+    }
+    member_count(words, set.0)
+}
+
+// The same for a table that is sound.
+fn member_count(words: &[u64], set: u64) -> MemberCount
+    requires { ⌜ length (now words) ≡ 8192 ⌝ }
+    ensures { λ r. ⌜ ((s : List ℕ) → r ≡ memberCountOf (view (memory (now (words .entry)) s)) set) ⌝ }
+{
+    let i = find::set_row(words, set);
+    if layout::set_count(words) <= i {
+        return MemberCount {
+            answer: answer::NO_SET,
+            count: 0,
+        };
+    }
+    MemberCount {
+        answer: answer::DONE,
+        count: find::members(words, i).size(),
+    }
+}

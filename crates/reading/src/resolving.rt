@@ -1,0 +1,71 @@
+// Resolving an exporter.
+use kinds::Guid;
+use kinds::Oxid;
+use kinds::answer;
+use table::find;
+use table::judge;
+use table::layout;
+ghost use mathlib.Core.Path.{_≡_};
+ghost use Rattle.rules.specs.Calls.{Call};
+ghost use Rattle.table.specs.View.{memory, SoundTable, Stepped, Performed};
+ghost use Rattle.reading.specs.Replies.{resolveReply};
+
+// The length of the list that was written, and the remote-unknown IPID.
+#[repr(C)]
+pub struct Resolved {
+    pub answer: u32,
+    pub length: usize,
+    pub unknown: Guid,
+}
+
+fn refused(number: u32) -> Resolved
+    ensures { λ r. ⌜ r ≡ record { answer = number; length = 0; unknown = record { low = 0; high = 0 } } ⌝ }
+{
+    let nil = Guid { low: 0, high: 0 };
+    Resolved {
+        answer: number,
+        length: 0,
+        unknown: nil,
+    }
+}
+
+// Writes an exporter's binding list at the front of buffer and keeps the rest: 0, or 1; 4; 15.
+pub fn resolve<'a>(words: &'a [u64], store: &'a [u8], oxid: Oxid, buffer: &'a mut [u8]) -> Resolved
+    ensures { λ r. ⌜
+        Performed (Call.resolve (oxid .0) (now (buffer .entry))) (memory (now (words .entry)) (now (store .entry)))
+        (resolveReply r (now (buffer .exit))) (memory (now (words .entry)) (now (store .entry))) ⌝ }
+{
+    if !judge::sound(words, store) {
+        return refused(answer::UNSOUND);
+    }
+    resolve_step(words, store, oxid, buffer)
+}
+
+// The same on a sound table.
+pub fn resolve_step<'a>(
+    words: &'a [u64],
+    store: &'a [u8],
+    oxid: Oxid,
+    buffer: &'a mut [u8],
+) -> Resolved
+    requires { ⌜ SoundTable (memory (now words) (now store)) ⌝ }
+    ensures { λ r. ⌜
+        Stepped (Call.resolve (oxid .0) (now (buffer .entry))) (memory (now (words .entry)) (now (store .entry)))
+        (resolveReply r (now (buffer .exit))) (memory (now (words .entry)) (now (store .entry))) ⌝ }
+{
+    let i = find::exporter_row(words, oxid.0);
+    if layout::exporter_count(words) <= i {
+        return refused(answer::NO_EXPORTER);
+    }
+    let list = find::list(words, store, i);
+    if buffer.len() < list.len() {
+        return refused(answer::NO_ROOM);
+    }
+    fields::copy(buffer, 0, list);
+    let unknown = find::unknown(words, i);
+    Resolved {
+        answer: answer::DONE,
+        length: list.len(),
+        unknown: unknown,
+    }
+}

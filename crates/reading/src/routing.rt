@@ -1,0 +1,116 @@
+// Where to go next with a reference: its exporter's list where that is live, else the reference's own list.
+use bindings::Place;
+use kinds::answer;
+use references::Reference;
+use table::find;
+use table::judge;
+use table::layout;
+ghost use mathlib.Core.Path.{_≡_};
+ghost use mathlib.Core.Bool.{true};
+ghost use Prim.Native.Nat.{_<_};
+ghost use lib.ListN.{length};
+ghost use Rattle.rules.specs.Calls.{Call};
+ghost use Rattle.rules.specs.Sound.{listsKept};
+ghost use Rattle.rules.specs.Contract.{replyTo};
+ghost use Rattle.table.specs.View.{exporterCount, memory, view, SoundTable};
+ghost use Rattle.reading.specs.NextStop.{refusedStop, stopInStore, stopInReference, StopFound, StopPart};
+
+// Where a next stop stands, in the store or else in the reference.
+#[repr(C)]
+pub struct StopPlace {
+    pub answer: u32,
+    pub in_store: bool,
+    pub from: usize,
+    pub to: usize,
+}
+
+fn refused(number: u32) -> StopPlace
+    ensures { λ r. ⌜ r ≡ refusedStop number ⌝ }
+{
+    StopPlace {
+        answer: number,
+        in_store: false,
+        from: 0,
+        to: 0,
+    }
+}
+
+// The list of exporter i, where it keeps the list rules.
+fn in_store<'a>(words: &'a [u64], store: &'a [u8], i: usize) -> StopPlace
+    requires { ⌜
+        (length (now store) ≡ 8192) × (i < exporterCount (now words))
+        × (listsKept (view (memory (now words) (now store))) ≡ true) ⌝ }
+    ensures { λ r. ⌜ r ≡ stopInStore (memory (now (words .entry)) (now (store .entry))) i ⌝ }
+{
+    let from = layout::SLOT * i;
+    StopPlace {
+        answer: answer::DONE,
+        in_store: true,
+        from: from,
+        to: from + find::list(words, store, i).len(),
+    }
+}
+
+// The reference's own list.
+fn in_reference(own: Place) -> StopPlace
+    ensures { λ r. ⌜ r ≡ stopInReference own ⌝ }
+{
+    StopPlace {
+        answer: own.answer,
+        in_store: false,
+        from: own.from,
+        to: own.to,
+    }
+}
+
+// Where the next stop stands: 0, or 1; the reference's 13, 14 or 22; 14 for a custom reference.
+pub fn next_stop_place<'a>(words: &'a [u64], store: &'a [u8], reference: &'a [u8]) -> StopPlace
+    ensures { λ r. ⌜ StopFound (memory (now (words .entry)) (now (store .entry))) (now (reference .entry)) r ⌝ }
+{
+    if !judge::sound(words, store) {
+        return refused(answer::UNSOUND);
+    }
+    next_stop_step(words, store, reference)
+}
+
+// The same on a sound table.
+pub fn next_stop_step<'a>(words: &'a [u64], store: &'a [u8], reference: &'a [u8]) -> StopPlace
+    requires { ⌜ SoundTable (memory (now words) (now store)) ⌝ }
+    ensures { λ r. ⌜ StopFound (memory (now (words .entry)) (now (store .entry))) (now (reference .entry)) r ⌝ }
+{
+    let own = references::tail_place(reference);
+    if own.answer != answer::DONE {
+        return refused(own.answer);
+    }
+    if fields::read_u32(reference, 4) == Reference::CUSTOM {
+        return refused(answer::LAYOUT);
+    }
+    let i = find::exporter_row(words, fields::read_u64(reference, 32));
+    if i < layout::exporter_count(words) {
+        return in_store(words, store, i);
+    }
+    in_reference(own)
+}
+
+// The number of the next stop, as above.
+pub fn next_stop_answer<'a>(words: &'a [u64], store: &'a [u8], reference: &'a [u8]) -> u32
+    ensures { λ r. ⌜
+        r ≡ replyTo view (Call.nextStop (now (reference .entry))) (memory (now (words .entry)) (now (store .entry))) .number ⌝ }
+{
+    next_stop_place(words, store, reference).answer
+}
+
+// The next stop, a part of the store or of the reference; no bytes where it is refused.
+pub fn next_stop<'a>(words: &'a [u64], store: &'a [u8], reference: &'a [u8]) -> &'a [u8]
+    ensures { λ r. ⌜
+        StopPart (memory (now (words .entry)) (now (store .entry))) (now (reference .entry))
+        (store .entry .ptr) (reference .entry .ptr) (r .ptr) (now r) ⌝ }
+{
+    let x = next_stop_place(words, store, reference);
+    let from = x.from;
+    let to = x.to;
+    if x.in_store {
+        return &store[from..to];
+    }
+    &reference[from..to]
+}

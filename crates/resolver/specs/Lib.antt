@@ -1,4 +1,0 @@
-pub mod Replies
-pub mod Leaving
-pub mod Pinging
-pub mod NextStop

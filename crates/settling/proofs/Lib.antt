@@ -1,0 +1,3 @@
+pub mod Going
+pub mod Settling
+pub mod Staying

@@ -1,0 +1,39 @@
+-- `settling::leave`: the object at the row goes where it does not stay.
+use mathlib.Core.Path.{sym, _∙_}
+use borrow.Author.Needs.{needs}
+use Rattle.settling.proofs.leave.Statement.{statement}
+use Rattle.settling.proofs.leave.Tie as tie
+
+is-staying-requires : tie.Need-is-staying-requires
+is-staying-requires c κs = search needs
+
+same-length : tie.Need-same-length
+same-length c = search needs
+
+returns : tie.Need-returns
+returns c =
+    let start = c .before .before .before .before in
+    ((λ s. rw (sym (c .before .is-staying .ensures s) ∙ c .if1 .taken)), start .pre .2)
+
+remove-object-requires : tie.Need-remove-object-requires
+remove-object-requires c κs = search needs
+
+same-length-2 : tie.Need-same-length-2
+same-length-2 c = search needs
+
+returns-2 : tie.Need-returns-2
+returns-2 c =
+    let b = c .before .before .before .before in
+    let gone = c .before .before .remove-object .ensures in
+    ((λ s. rw (sym (b .before .is-staying .ensures s) ∙ b .if1 .left) (gone .0 s)), gone .1)
+
+pub leave-spec : {M : Type 1} → statement M
+leave-spec =
+    tie.close
+    (tie.spec
+    is-staying-requires
+    same-length
+    returns
+    remove-object-requires
+    same-length-2
+    returns-2)
