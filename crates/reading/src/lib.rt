@@ -2,7 +2,9 @@
 pub use numbers::LiveCounts;
 pub use numbers::MemberCount;
 pub use numbers::census;
+pub use numbers::census_step;
 pub use numbers::members;
+pub use numbers::members_step;
 pub use resolving::Resolved;
 pub use resolving::resolve;
 pub use resolving::resolve_step;

@@ -4,13 +4,9 @@ use kinds::answer;
 use table::find;
 use table::judge;
 use table::layout;
-ghost use mathlib.Core.Path.{_≡_};
-ghost use mathlib.Core.List.{List};
-ghost use Prim.Native.Nat.{ℕ};
-ghost use lib.ListN.{length};
 ghost use Rattle.rules.specs.Calls.{Call};
-ghost use Rattle.table.specs.View.{memory, view, Performed};
-ghost use Rattle.reading.specs.Replies.{censusReply, membersReply, countsOf, memberCountOf};
+ghost use Rattle.table.specs.View.{memory, SoundTable, Stepped, Performed};
+ghost use Rattle.reading.specs.Replies.{censusReply, membersReply};
 
 // The live numbers of the four kinds.
 #[repr(C)]
@@ -44,13 +40,15 @@ pub fn census<'a>(words: &'a [u64], store: &'a [u8]) -> LiveCounts
             sets: 0,
         };
     }
-    counted(words)
+    census_step(words, store)
 }
 
-// The live numbers of an array of the right length.
-fn counted(words: &[u64]) -> LiveCounts
-    requires { ⌜ length (now words) ≡ 8192 ⌝ }
-    ensures { λ r. ⌜ ((s : List ℕ) → r ≡ countsOf (view (memory (now (words .entry)) s))) ⌝ }
+// The same on a sound table.
+pub fn census_step<'a>(words: &'a [u64], store: &'a [u8]) -> LiveCounts
+    requires { ⌜ SoundTable (memory (now words) (now store)) ⌝ }
+    ensures { λ r. ⌜
+        Stepped Call.census (memory (now (words .entry)) (now (store .entry))) (censusReply r)
+        (memory (now (words .entry)) (now (store .entry))) ⌝ }
 {
     LiveCounts {
         answer: answer::DONE,
@@ -73,15 +71,17 @@ pub fn members<'a>(words: &'a [u64], store: &'a [u8], set: SetId) -> MemberCount
             count: 0,
         };
     }
-    member_count(words, set.0)
+    members_step(words, store, set)
 }
 
-// The same for a table that is sound.
-fn member_count(words: &[u64], set: u64) -> MemberCount
-    requires { ⌜ length (now words) ≡ 8192 ⌝ }
-    ensures { λ r. ⌜ ((s : List ℕ) → r ≡ memberCountOf (view (memory (now (words .entry)) s)) set) ⌝ }
+// The same on a sound table.
+pub fn members_step<'a>(words: &'a [u64], store: &'a [u8], set: SetId) -> MemberCount
+    requires { ⌜ SoundTable (memory (now words) (now store)) ⌝ }
+    ensures { λ r. ⌜
+        Stepped (Call.members (set .0)) (memory (now (words .entry)) (now (store .entry))) (membersReply r)
+        (memory (now (words .entry)) (now (store .entry))) ⌝ }
 {
-    let i = find::set_row(words, set);
+    let i = find::set_row(words, set.0);
     if layout::set_count(words) <= i {
         return MemberCount {
             answer: answer::NO_SET,

@@ -1,0 +1,46 @@
+-- `numbers::census_step`: each count is the length of its kind's entries.
+use mathlib.Core.Path.{_≡_, refl, sym, subst}
+use mathlib.Core.List.{List, [], _∷_}
+use Prim.Native.Nat.{ℕ}
+use Rattle.kinds.specs.Refusals.{order}
+use Rattle.rules.specs.Calls.{Call}
+use Rattle.rules.specs.Rules.{liveNumbers, refusals, number, next, results, done}
+use Rattle.table.specs.View.{memory, view, Stepped}
+use Rattle.table.proofs.Entries.{exporters-length, objects-length, interfaces-length, sets-length}
+use Rattle.calls.proofs.Calls.{accepted-step}
+use borrow.Author.Needs.{needs}
+use Rattle.reading.proofs.numbers.census_step.Statement.{statement}
+use Rattle.reading.proofs.numbers.census_step.Tie as tie
+
+exporter-count-requires : tie.Need-exporter-count-requires
+exporter-count-requires c κs = search needs
+
+object-count-requires : tie.Need-object-count-requires
+object-count-requires c κs = search needs
+
+interface-count-requires : tie.Need-interface-count-requires
+interface-count-requires c κs = search needs
+
+set-count-requires : tie.Need-set-count-requires
+set-count-requires c κs = search needs
+
+returns : tie.Need-returns
+unfolding done results number refusals order next
+returns c =
+    let a = c .before .before .before .before .before .before .args in
+    let ws = a .words .now in
+    let m = memory ws (a .store .now) in
+    let counts : liveNumbers (view m) ≡ c .before .before .before .exporter-count .result ∷ c .before .before .object-count .result ∷ c .before .interface-count .result ∷ c .set-count .result ∷ [] =
+    rw (exporters-length ws (a .store .now), objects-length ws, interfaces-length ws, sets-length ws)
+    (cc (c .before .before .before .exporter-count .ensures .0, c .before .before .object-count .ensures .0, c .before .interface-count .ensures .0, c .set-count .ensures .0)) in
+    subst (λ (vs : List ℕ). Stepped Call.census m (record { number = 0; values = vs; part = []; buffer = [] }) m) counts (accepted-step 0 refl refl m refl)
+
+pub census-step-spec : {M : Type 1} → statement M
+census-step-spec =
+    tie.close
+    (tie.spec
+    exporter-count-requires
+    object-count-requires
+    interface-count-requires
+    set-count-requires
+    returns)

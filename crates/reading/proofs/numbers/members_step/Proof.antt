@@ -1,0 +1,70 @@
+-- `numbers::members_step`: a set that is not live is refused; else the bits in the row that is found for it are its members.
+use Prim.Native.Nat.{ℕ, _<_, _≤_}
+use mathlib.Core.Path.{_≡_, refl, sym, subst, ap, _∙_}
+use mathlib.Core.List.{List, [], _∷_}
+use native.Mathlib.Omega.{arith}
+use lib.ListN.{length, getD, length-map}
+use Rattle.columns.specs.Members.{memberRows}
+use Rattle.columns.specs.declared.members.Members.{Members}
+use Rattle.rules.specs.Entries.{PingSet}
+use Rattle.rules.specs.Calls.{Call}
+use Rattle.rules.specs.Rules.{noSet, setOf, refusals, number, next, results, refused, done}
+use Rattle.rules.proofs.ByRow.{setRow, set-row}
+use Rattle.table.specs.View.{setCount, setsOf, memory, view, Stepped}
+use Rattle.table.specs.Edits.{membersAt}
+use Rattle.table.proofs.EditBelow.{row-members}
+use Rattle.calls.proofs.Calls.{refused-step, accepted-step, gone-gives, live-passes, rows-end, set-tested}
+use borrow.Author.Needs.{needs}
+use Rattle.reading.proofs.numbers.members_step.Statement.{statement}
+use Rattle.reading.proofs.numbers.members_step.Tie as tie
+
+-- the row that was found, of as many as were counted
+module _ (ws s : List ℕ) (x : ℕ) {r n : ℕ} (found : r ≡ setRow (view (memory ws s)) x) (counted : n ≡ setCount ws) where
+  gone : n ≤ r → 11 ≡ number (Call.members x) (view (memory ws s))
+  unfolding number refusals
+  gone h = gone-gives (set-tested ws s x found counted) _ _ refl h
+
+  here : r < n → 0 ≡ number (Call.members x) (view (memory ws s))
+  unfolding number refusals
+  here h = rows-end (live-passes (set-tested ws s x found counted) _ _ refl h)
+
+  -- the bits of its row are the members of the set
+  members : r < n → (m : Members) → m ≡ membersAt ws r → length (setOf (view (memory ws s)) x .members) ≡ length (memberRows m)
+  members h m held =
+      ap (λ (p : PingSet). length (p .members)) (set-row (view (memory ws s)) x ∙ ap (λ (k : ℕ). getD (setsOf ws) k noSet) (sym found))
+      ∙ ap length (row-members ws r (rw counted at h))
+      ∙ length-map (memberRows (membersAt ws r)) _
+      ∙ ap (λ (k : Members). length (memberRows k)) (sym held)
+
+set-row-requires : tie.Need-set-row-requires
+set-row-requires c κs = search needs
+
+set-count-requires : tie.Need-set-count-requires
+set-count-requires c κs = search needs
+
+returns : tie.Need-returns
+unfolding refused results
+returns c =
+    let a = c .before .before .before .before .before .args in
+    refused-step 11 (gone (a .words .now) (a .store .now) (a .set .0) (c .before .before .set-row .ensures (a .store .now)) (c .before .set-count .ensures .0) (c .if1 .taken)) (λ z. omega arith)
+
+members-requires : tie.Need-members-requires
+members-requires c κs = search needs
+
+size-requires : tie.Need-size-requires
+size-requires c κs = search needs
+
+returns-2 : tie.Need-returns-2
+unfolding done results next
+returns-2 c =
+    let a = c .before .before .before .before .before .before .before .args in
+    let m = memory (a .words .now) (a .store .now) in
+    let found = c .before .before .before .before .set-row .ensures (a .store .now) in
+    let counted = c .before .before .before .set-count .ensures .0 in
+    let inside = c .before .before .if1 .left in
+    subst (λ (k : ℕ). Stepped (Call.members (a .set .0)) m (record { number = 0; values = k ∷ []; part = []; buffer = [] }) m)
+    (members (a .words .now) (a .store .now) (a .set .0) found counted inside (c .before .members .result) (c .before .members .ensures) ∙ sym (c .size .ensures))
+    (accepted-step 0 (here (a .words .now) (a .store .now) (a .set .0) found counted inside) refl m refl)
+
+pub members-step-spec : {M : Type 1} → statement M
+members-step-spec = tie.close (tie.spec set-row-requires set-count-requires returns members-requires size-requires returns-2)
