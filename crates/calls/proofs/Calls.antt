@@ -8,8 +8,8 @@ use lib.ListN.{length, getD}
 use lib.Dec.{eqb, ltb, leb}
 use Rattle.kinds.specs.Refusals.{Row, order, _gives_}
 use Rattle.kinds.specs.declared.Guid.{Guid}
-use Rattle.columns.specs.Lists.{distinct}
-use Rattle.columns.proofs.Tests.{and-left}
+use Rattle.lists.specs.Lists.{distinct}
+use Rattle.lists.proofs.Tests.{and-left}
 use Rattle.rules.specs.Entries.{Entries, oids}
 use Rattle.rules.specs.Calls.{Call, Reply}
 use Rattle.rules.specs.Rules.{isLiveExporter, isLiveObject, isLiveInterface, isLiveSet, noExporter, exporterOf, number, next, refused, done}

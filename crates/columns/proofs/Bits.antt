@@ -10,11 +10,11 @@ use borrow.Author.Tests.{lt-ltb, le-ltb, eq-eqb, ne-eqb, not-true}
 use lib.ListN.{getD}
 use lib.Pow.{high, low}
 use lib.Dec.{eqb, ltb}
-use Rattle.columns.specs.Lists.{keep, every, tabulate, deleteAt, skip}
+use Rattle.lists.specs.Lists.{keep, every, tabulate, deleteAt, skip}
 use Rattle.columns.specs.Members.{bitOf, isMember, memberRows, Added, Dropped, Cut}
 use Rattle.columns.specs.declared.members.Members.{Members}
-use Rattle.columns.proofs.Tests.{true-or-false, below-or-not}
-use Rattle.columns.proofs.Lists.{every-keep, keep-ext, keep-nil, keep-no, keep-append, keep-map, keep-keep, keep-comm, map-ext, map-map, length-tabulate, getD-tabulate, tabulate-snoc, map-tabulate, every-tabulate, every-tabulate-at, skip-from, getD-delete, delete-tabulate, delete-keep}
+use Rattle.lists.proofs.Tests.{true-or-false, below-or-not}
+use Rattle.lists.proofs.Lists.{every-keep, keep-ext, keep-nil, keep-no, keep-append, keep-map, keep-keep, keep-comm, map-ext, map-map, length-tabulate, getD-tabulate, tabulate-snoc, map-tabulate, every-tabulate, every-tabulate-at, skip-from, getD-delete, delete-tabulate, delete-keep}
 use Rattle.columns.proofs.WordBits.{bit-past}
 
 module _ (m : Members) where

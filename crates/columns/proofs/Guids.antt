@@ -1,30 +1,15 @@
--- Laws of GUIDs and of the columns of their halves.
+-- Laws of the columns of GUIDs' halves.
 use Prim.Native.Nat.{ℕ, _+_, _-_, _<_, _≤_}
-use mathlib.Core.Path.{_≡_, refl, sym, ap, _∙_}
+use mathlib.Core.Path.{_≡_, sym, ap, _∙_}
 use mathlib.Core.List.{List, [], _∷_}
 use native.Mathlib.Omega.{arith}
-use borrow.Author.Tests.{eq-eqb, eqb-true}
-use lib.Dec.{eqb}
 use lib.ListN.{getD, length, drop}
 use Rattle.kinds.specs.declared.Guid.{Guid}
-use Rattle.columns.specs.Lists.{tabulate}
-use Rattle.columns.specs.Guids.{nil, sameGuid, guidAt, guids}
-use Rattle.columns.proofs.Tests.{and-intro, and-left, and-right}
-use Rattle.columns.proofs.Lists.{length-tabulate, getD-tabulate, tabulate-ext}
-use Rattle.columns.proofs.Distinct.{Decides}
+use Rattle.lists.specs.Lists.{tabulate}
+use Rattle.lists.specs.Guids.{nil}
+use Rattle.columns.specs.Guids.{guidAt, guids}
+use Rattle.lists.proofs.Lists.{length-tabulate, getD-tabulate, tabulate-ext}
 use Rattle.columns.proofs.Loops.{table-step, table-end, last-step}
-
--- equality of GUIDs
-pub guid-decides : Decides sameGuid
-guid-decides =
-    record {
-      sound = λ a b e u.
-          record {
-            low = eqb-true (a .low) (b .low) (and-left (eqb (a .low) (b .low)) (eqb (a .high) (b .high)) e) u;
-            high = eqb-true (a .high) (b .high) (and-right (eqb (a .low) (b .low)) (eqb (a .high) (b .high)) e) u;
-          };
-      self = λ g. and-intro (eqb (g .low) (g .low)) (eqb (g .high) (g .high)) (eq-eqb (g .low) (g .low) refl) (eq-eqb (g .high) (g .high) refl);
-    }
 
 -- so many as low halves
 pub length-guids : (lows highs : List ℕ) → length (guids lows highs) ≡ length lows

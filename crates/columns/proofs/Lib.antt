@@ -1,7 +1,3 @@
-pub mod Tests
-pub mod Lists
-pub mod First
-pub mod Distinct
 pub mod Loops
 pub mod Moves
 pub mod Guids
@@ -11,5 +7,4 @@ pub mod RowLoops
 pub mod WordBits
 pub mod Bits
 pub mod Making
-pub mod Elements
 pub mod Ones

@@ -8,10 +8,10 @@ use native.Mathlib.Numerals.{add-one}
 use lib.Dec.{ltb}
 use lib.ListN.{getD, length, take, drop, length-drop, drop-of-length-le}
 use lib.Seq.{drop-cons, take-all}
-use Rattle.columns.specs.Lists.{every, some, firstIndex, tabulate}
-use Rattle.columns.proofs.Tests.{ltb-shift}
-use Rattle.columns.proofs.First.{some-first}
-use Rattle.columns.proofs.Lists.{length-tabulate, getD-tabulate}
+use Rattle.lists.specs.Lists.{every, some, firstIndex, tabulate}
+use Rattle.lists.proofs.Tests.{ltb-shift}
+use Rattle.lists.proofs.First.{some-first}
+use Rattle.lists.proofs.Lists.{length-tabulate, getD-tabulate}
 
 -- ---- the elements from i on
 

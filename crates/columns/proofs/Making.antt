@@ -8,11 +8,11 @@ use native.Mathlib.Nat.{lt-of-le-of-lt}
 use borrow.Author.Tests.{lt-ltb, le-ltb, eq-eqb, ne-eqb}
 use lib.Pow.{high, low, shr-le}
 use lib.Dec.{eqb, ltb}
-use Rattle.columns.specs.Lists.{every, skip}
+use Rattle.lists.specs.Lists.{every, skip}
 use Rattle.columns.specs.Members.{bitOf, isMember, memberRows, putBit, cutBit, InWords, BitPut, Added, Dropped, Cut}
 use Rattle.columns.specs.declared.members.Members.{Members}
-use Rattle.columns.proofs.Tests.{same-or-not, below-or-not}
-use Rattle.columns.proofs.Lists.{skip-below, skip-from}
+use Rattle.lists.proofs.Tests.{same-or-not, below-or-not}
+use Rattle.lists.proofs.Lists.{skip-below, skip-from}
 use Rattle.columns.proofs.WordBits.{bit-shifted, low-bit, bit-zero, none-from, some-bit, some-bit-from, cut-lt, cut-below, cut-from, put-lt, put-here, put-other}
 use Rattle.columns.proofs.Bits.{member-low, member-high, member-past, member-from, member-same, below-holds, below-fails}
 

@@ -6,11 +6,11 @@ use mathlib.Core.List.{List, [], _∷_}
 use mathlib.Core.Logic.{⊎-elim}
 use lib.ListN.{getD, length, set, drop, length-set}
 use lib.Seq.{getD-set-same, getD-set-other}
-use Rattle.columns.specs.Lists.{every, some, distinct}
+use Rattle.lists.specs.Lists.{every, some, distinct}
 use Rattle.columns.specs.Buckets.{Marked}
-use Rattle.columns.proofs.Tests.{true-or-false, same-or-not, and-intro}
-use Rattle.columns.proofs.Lists.{every-mono, every-nil, none-some}
-use Rattle.columns.proofs.Distinct.{Decides, distinct-cons, distinct-head, distinct-tail, distinct-none}
+use Rattle.lists.proofs.Tests.{true-or-false, same-or-not, and-intro}
+use Rattle.lists.proofs.Lists.{every-mono, every-nil, none-some}
+use Rattle.lists.proofs.Distinct.{Decides, distinct-cons, distinct-head, distinct-tail, distinct-none}
 
 module _ {A : Type 0} (bucket : A → ℕ) where
   -- no element

@@ -10,9 +10,10 @@ use lib.Dec.{ltb, leb}
 use lib.ListN.{getD, length, take, drop, set, length-drop, length-append, List·getD-append}
 use lib.Seq.{take-all, take-at, drop-at, length-take-le, getD-drop, paste, paste-suc, drop-paste, length-paste}
 use Rattle.kinds.proofs.Refusing.{by-test}
-use Rattle.columns.specs.Lists.{deleteAt, skip, removedAt, copiedDown}
-use Rattle.columns.proofs.Tests.{and-left, and-right}
-use Rattle.columns.proofs.Lists.{delete-split, length-delete, getD-delete, skip-below}
+use Rattle.lists.specs.Lists.{deleteAt, skip}
+use Rattle.columns.specs.Moved.{removedAt, copiedDown}
+use Rattle.lists.proofs.Tests.{and-left, and-right}
+use Rattle.lists.proofs.Lists.{delete-split, length-delete, getD-delete, skip-below}
 use Rattle.columns.proofs.Loops.{column-step, column-end}
 
 -- a loop that has moved j elements, and moves one more

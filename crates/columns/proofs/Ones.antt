@@ -10,11 +10,11 @@ use borrow.Author.Tests.{eq-eqb, ne-eqb}
 use lib.ListN.{length, length-append}
 use lib.Count.{ones, ones-step}
 use lib.Pow.{shr-lt}
-use Rattle.columns.specs.Lists.{keep, tabulate}
+use Rattle.lists.specs.Lists.{keep, tabulate}
 use Rattle.columns.specs.Members.{bitOf, isMember, memberRows, InWords}
 use Rattle.columns.specs.declared.members.Members.{Members}
-use Rattle.columns.proofs.Tests.{true-or-false, same-or-not}
-use Rattle.columns.proofs.Lists.{keep-append, tabulate-ext}
+use Rattle.lists.proofs.Tests.{true-or-false, same-or-not}
+use Rattle.lists.proofs.Lists.{keep-append, tabulate-ext}
 use Rattle.columns.proofs.WordBits.{bit-shifted}
 use Rattle.columns.proofs.Bits.{member-low, member-high}
 

@@ -7,11 +7,11 @@ use native.Mathlib.Omega.{arith}
 use native.Mathlib.Nat.{mul-le-mul-right, suc-mul}
 use lib.ListN.{length, getD, take, drop, set}
 use lib.Seq.{getD-set-same, getD-set-other}
-use Rattle.columns.specs.Lists.{tabulate, deleteAt}
+use Rattle.lists.specs.Lists.{tabulate, deleteAt}
 use Rattle.columns.specs.Rows.{cell, rowAt, rows, after, Outside, RowPut, RowRemoved}
 use Rattle.columns.specs.declared.rows.Kind.{Kind}
-use Rattle.columns.proofs.Tests.{below-or-not}
-use Rattle.columns.proofs.Lists.{length-tabulate, getD-tabulate, tabulate-ext, tabulate-snoc, tabulate-part, map-tabulate, set-tabulate, delete-tabulate}
+use Rattle.lists.proofs.Tests.{below-or-not}
+use Rattle.lists.proofs.Lists.{length-tabulate, getD-tabulate, tabulate-ext, tabulate-snoc, tabulate-part, map-tabulate, set-tabulate, delete-tabulate}
 
 -- a column ends where a later column starts, or before
 pub column-below : (p a b : ℕ) → a < b → a * p + p ≤ b * p

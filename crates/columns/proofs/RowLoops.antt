@@ -9,11 +9,12 @@ use native.Mathlib.Numerals.{add-one}
 use borrow.Rule.Slice.PartMut.{putMid, same-len-mid}
 use lib.ListN.{length, getD, take, drop, set, length-set, length-drop, List·getD-append}
 use lib.Seq.{ext-getD, getD-set-same, getD-set-other, getD-take, getD-drop, getD-append-add, length-take-le}
-use Rattle.columns.specs.Lists.{skip, removedAt}
+use Rattle.lists.specs.Lists.{skip}
+use Rattle.columns.specs.Moved.{removedAt}
 use Rattle.columns.specs.Rows.{cell, after, RowPut, RowRemoved}
 use Rattle.columns.specs.declared.rows.Kind.{Kind}
-use Rattle.columns.proofs.Tests.{same-or-not}
-use Rattle.columns.proofs.Lists.{skip-lt}
+use Rattle.lists.proofs.Tests.{same-or-not}
+use Rattle.lists.proofs.Lists.{skip-lt}
 use Rattle.columns.proofs.Moves.{length-removed, getD-removed}
 use Rattle.columns.proofs.RowLaws.{column-below, cell-in, cell-same, length-row, rowAt-getD, row-same}
 

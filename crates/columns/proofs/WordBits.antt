@@ -10,7 +10,7 @@ use borrow.Author.Tests.{eq-eqb, ne-eqb}
 use lib.Pow.{shr-lt, shr-le, shr-shr, high, low, field, mod-mod-pow, pow-pos, shl-exact, pow-add}
 use lib.Dec.{eqb}
 use Rattle.columns.specs.Members.{bitOf, putBit, cutBit}
-use Rattle.columns.proofs.Tests.{same-or-not, below-or-not}
+use Rattle.lists.proofs.Tests.{same-or-not, below-or-not}
 
 -- the bits of a word shifted down
 pub bit-shifted : (w k j : ℕ) → bitOf (w / 2 ^ k) j ≡ bitOf w (k + j)

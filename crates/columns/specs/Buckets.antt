@@ -5,7 +5,7 @@ use mathlib.Core.Bool.{Bool, true, false}
 use mathlib.Core.List.{List}
 use lib.ListN.{length, getD}
 use Rattle.kinds.specs.declared.Guid.{Guid}
-use Rattle.columns.specs.Lists.{every}
+use Rattle.lists.specs.Lists.{every}
 
 -- middle bits of a sum of products, so that identifiers that count up by any step spread; the factors are odd and below 2 ^ 30
 unfoldable pub guidBucket : Guid → ℕ

@@ -1,4 +1,4 @@
-pub mod Lists
+pub mod Moved
 pub mod Guids
 pub mod Buckets
 pub mod Rows

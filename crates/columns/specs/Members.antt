@@ -4,7 +4,7 @@ use mathlib.Core.Path.{_≡_}
 use mathlib.Core.Bool.{Bool, cond, not, _&&_, _||_}
 use mathlib.Core.List.{List}
 use lib.Dec.{eqb, ltb}
-use Rattle.columns.specs.Lists.{keep, tabulate, skip}
+use Rattle.lists.specs.Lists.{keep, tabulate, skip}
 use Rattle.columns.specs.declared.members.Members.{Members}
 
 -- bit j of a word is 1

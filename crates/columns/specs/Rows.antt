@@ -4,7 +4,7 @@ use mathlib.Core.Path.{_≡_}
 use mathlib.Core.List.{List}
 use mathlib.Core.Logic.{_⊎_}
 use lib.ListN.{length, getD}
-use Rattle.columns.specs.Lists.{tabulate, skip}
+use Rattle.lists.specs.Lists.{tabulate, skip}
 use Rattle.columns.specs.declared.rows.Kind.{Kind}
 
 -- the place of word j of row i

@@ -8,8 +8,10 @@ ghost use Prim.Native.Nat.{_+_, _-_};
 ghost use mathlib.Core.Bool.{not};
 ghost use lib.ListN.{length, getD, drop};
 ghost use lib.Dec.{eqb, ltb, leb};
-ghost use Rattle.columns.specs.Lists.{every, some, firstIndex, distinct, apart, among, removedAt, copiedDown};
-ghost use Rattle.columns.specs.Guids.{nil, sameGuid, guidAt, guids};
+ghost use Rattle.lists.specs.Lists.{every, some, firstIndex, distinct, apart, among};
+ghost use Rattle.columns.specs.Moved.{removedAt, copiedDown};
+ghost use Rattle.lists.specs.Guids.{nil, sameGuid};
+ghost use Rattle.columns.specs.Guids.{guidAt, guids};
 ghost use Rattle.columns.specs.Buckets.{guidBucket, Marked};
 use kinds::Guid;
 

@@ -5,7 +5,7 @@ ghost use Prim.Native.Nat.{ℕ, _^_, _<_, _≤_};
 ghost use lib.ListN.{length};
 ghost use lib.Count.{ones};
 ghost use lib.Dec.{ltb};
-ghost use Rattle.columns.specs.Lists.{every};
+ghost use Rattle.lists.specs.Lists.{every};
 ghost use Rattle.columns.specs.Members.{isMember, memberRows, putBit, cutBit, BitPut, Added, Dropped, Cut};
 
 // Bit j of low is row j, and bit j of high is row 64 + j.

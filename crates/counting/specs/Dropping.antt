@@ -3,7 +3,7 @@ use Prim.Native.Nat.{ℕ}
 use mathlib.Core.Path.{_≡_}
 use mathlib.Core.Bool.{not}
 use lib.Dec.{eqb}
-use Rattle.columns.specs.Lists.{some}
+use Rattle.lists.specs.Lists.{some}
 use Rattle.rules.specs.Entries.{Interface, Entries}
 use Rattle.rules.specs.Rules.{flag}
 use Rattle.table.specs.Edits.{dropInterface}

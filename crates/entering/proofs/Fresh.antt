@@ -6,7 +6,7 @@ use mathlib.Core.List.{List, [], _∷_}
 use native.Mathlib.Omega.{arith}
 use borrow.Author.Tests.{eq-eqb}
 use lib.ListN.{length, set, drop, length-set}
-use Rattle.columns.specs.Lists.{tabulate}
+use Rattle.lists.specs.Lists.{tabulate}
 use Rattle.columns.specs.Rows.{rows}
 use Rattle.rules.specs.Entries.{fresh}
 use Rattle.rules.proofs.Keeps.{fresh-sound}

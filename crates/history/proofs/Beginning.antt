@@ -9,12 +9,12 @@ use borrow.Author.Tests.{eq-eqb, eqb-true, eqb-false, ltb-true, lt-leb, not-true
 use lib.ListN.{length, getD, length-map}
 use lib.Dec.{eqb, leb}
 use Rattle.kinds.proofs.Refusing.{same-test}
-use Rattle.columns.specs.Lists.{keep, some, every, distinct, tabulate, among}
-use Rattle.columns.proofs.Tests.{true-or-false, and-intro, or-cases}
-use Rattle.columns.proofs.Lists.{some-map, keep-all, keep-map, map-map, getD-map, length-tabulate, tabulate-ext, tabulate-snoc, map-tabulate, tabulate-getD, every-tabulate}
-use Rattle.columns.proofs.First.{some-first, first-at}
-use Rattle.columns.proofs.Distinct.{eqb-decides, distinct-none, distinct-at}
-use Rattle.columns.proofs.Elements.{In, map-in, every-in, in-every, in-some, some-in, in-none, keep-in, keep-ext-in, map-ext-in}
+use Rattle.lists.specs.Lists.{keep, some, every, distinct, tabulate, among}
+use Rattle.lists.proofs.Tests.{true-or-false, and-intro, or-cases}
+use Rattle.lists.proofs.Lists.{some-map, keep-all, keep-map, map-map, getD-map, length-tabulate, tabulate-ext, tabulate-snoc, map-tabulate, tabulate-getD, every-tabulate}
+use Rattle.lists.proofs.First.{some-first, first-at}
+use Rattle.lists.proofs.Distinct.{eqb-decides, distinct-none, distinct-at}
+use Rattle.lists.proofs.Elements.{In, map-in, every-in, in-every, in-some, some-in, in-none, keep-in, keep-ext-in, map-ext-in}
 use Rattle.rules.specs.Entries.{Exporter, Object, Interface, PingSet, Entries, fresh, oxids, oids}
 use Rattle.rules.specs.Sound.{sound, held, hasInterface, overdue}
 use Rattle.rules.specs.Rules.{noExporter, noObject}

@@ -9,11 +9,11 @@ use borrow.Author.Tests.{eq-eqb, ne-eqb, eqb-true, eqb-false, le-leb, lt-leb}
 use lib.Dec.{eqb, leb}
 use Rattle.kinds.specs.declared.Guid.{Guid}
 use Rattle.kinds.proofs.Refusing.{by-test}
-use Rattle.columns.specs.Lists.{keep, some, every}
-use Rattle.columns.specs.Guids.{sameGuid}
-use Rattle.columns.proofs.Tests.{true-or-false, below-or-not, and-right}
-use Rattle.columns.proofs.Lists.{every-map, every-mono, some-map, some-keep, some-not, keep-map, keep-all, keep-keep, map-unread}
-use Rattle.columns.proofs.Distinct.{eqb-decides}
+use Rattle.lists.specs.Lists.{keep, some, every}
+use Rattle.lists.specs.Guids.{sameGuid}
+use Rattle.lists.proofs.Tests.{true-or-false, below-or-not, and-right}
+use Rattle.lists.proofs.Lists.{every-map, every-mono, some-map, some-keep, some-not, keep-map, keep-all, keep-keep, map-unread}
+use Rattle.lists.proofs.Distinct.{eqb-decides}
 use Rattle.rules.specs.Entries.{Interface, Entries, withInterfaces, withCounts}
 use Rattle.rules.specs.Calls.{add, release}
 use Rattle.rules.specs.Sound.{sound, held, hasInterface}
@@ -22,7 +22,7 @@ use Rattle.rules.proofs.SoundLaws.{sound-fields}
 use Rattle.rules.proofs.Keeps.{keeps}
 use Rattle.rules.proofs.ByRow.{nothing-goes}
 use Rattle.history.specs.History.{ObjectLife, InterfaceLife, History, atZero, interfacesAtZero, exporterRemoved, unheard, objectGone, liveExporters, liveObjects, liveInterface, exporterEntry, objectEntry, interfaceEntry, live, granting, taking, atLiveInterface, lived}
-use Rattle.columns.proofs.Elements.{In, map-in, in-some, some-in, keep-in, in-keep, keep-ext-in, kept-changed, one-in}
+use Rattle.lists.proofs.Elements.{In, map-in, in-some, some-in, keep-in, in-keep, keep-ext-in, kept-changed, one-in}
 use Rattle.history.proofs.Lives.{Kept, kept-from, Bounded, still}
 use Rattle.history.proofs.Identities.{owner-oid, one-oid}
 use Rattle.history.proofs.Steps.{interfacesOver, chosen, Step, stepped}

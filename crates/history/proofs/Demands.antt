@@ -9,12 +9,12 @@ use borrow.Author.Tests.{eq-eqb, ne-eqb, eqb-true, eqb-false, le-leb, leb-true, 
 use lib.ListN.{length}
 use lib.Dec.{eqb, ltb, leb}
 use Rattle.kinds.proofs.Refusing.{same-test}
-use Rattle.columns.specs.Lists.{keep, among}
-use Rattle.columns.specs.Guids.{nil, sameGuid}
-use Rattle.columns.proofs.Tests.{true-or-false, same-or-not, and-intro, and-left, and-right, or-cases}
-use Rattle.columns.proofs.Lists.{every-mono}
-use Rattle.columns.proofs.Distinct.{eqb-decides}
-use Rattle.columns.proofs.Guids.{guid-decides}
+use Rattle.lists.specs.Lists.{keep, among}
+use Rattle.lists.specs.Guids.{nil, sameGuid}
+use Rattle.lists.proofs.Tests.{true-or-false, same-or-not, and-intro, and-left, and-right, or-cases}
+use Rattle.lists.proofs.Lists.{every-mono}
+use Rattle.lists.proofs.Distinct.{eqb-decides}
+use Rattle.lists.proofs.Guids.{guid-decides}
 use Rattle.rules.specs.Entries.{Object, Interface, Entries, oids, ipids}
 use Rattle.rules.specs.Sound.{sound, held}
 use Rattle.rules.specs.Rules.{isLiveObject, noInterface, interfaceOf}
@@ -23,7 +23,7 @@ use Rattle.rules.proofs.Groups.{fine-distinct, grouped}
 use Rattle.rules.proofs.ByRow.{oxids-distinct, oids-distinct, sets-distinct}
 use Rattle.history.specs.History.{ObjectLife, InterfaceLife, History, objectGone, liveObjects, liveInterface, objectEntry, interfaceEntry, live}
 use Rattle.history.specs.Runs.{distinctIdentifiers, oneObject, someReference, objectsExported, membersLive, countsGranted, isLatest, goneExactly}
-use Rattle.columns.proofs.Elements.{In, map-in, in-every, every-in, in-some, some-in, in-keep, first-sole, one-in, sole-map, sole-key, keep-one}
+use Rattle.lists.proofs.Elements.{In, map-in, in-every, every-in, in-some, some-in, in-keep, first-sole, one-in, sole-map, sole-key, keep-one}
 use Rattle.history.proofs.Lives.{Kept, serialOfObject}
 use Rattle.history.proofs.Identities.{live-object, one-ipid}
 use Rattle.history.proofs.Room.{agreed}

@@ -10,17 +10,17 @@ use lib.ListN.{length, length-append}
 use lib.Dec.{eqb, leb}
 use Rattle.kinds.specs.declared.Guid.{Guid}
 use Rattle.kinds.proofs.Refusing.{passed}
-use Rattle.columns.specs.Lists.{keep, some, among}
-use Rattle.columns.specs.Guids.{nil, sameGuid}
-use Rattle.columns.proofs.Tests.{true-or-false, and-intro, or-left, or-right}
-use Rattle.columns.proofs.Lists.{some-snoc, every-snoc, keep-snoc, keep-ext, map-append}
-use Rattle.columns.proofs.Distinct.{eqb-decides}
+use Rattle.lists.specs.Lists.{keep, some, among}
+use Rattle.lists.specs.Guids.{nil, sameGuid}
+use Rattle.lists.proofs.Tests.{true-or-false, and-intro, or-left, or-right}
+use Rattle.lists.proofs.Lists.{some-snoc, every-snoc, keep-snoc, keep-ext, map-append}
+use Rattle.lists.proofs.Distinct.{eqb-decides}
 use Rattle.rules.specs.Entries.{Object, Interface, Entries, ipids, withExporters, withInterfaces, withObjects}
 use Rattle.rules.specs.Calls.{enterExporter, enterObject, enterInterface}
 use Rattle.rules.specs.Sound.{sound}
 use Rattle.rules.specs.Rules.{number, next, refusals, isLiveExporter, isLiveObject}
 use Rattle.history.specs.History.{ExporterLife, ObjectLife, InterfaceLife, History, atZero, interfacesAtZero, exporterRemoved, unheard, objectGone, liveExporters, liveObjects, liveInterface, liveSet, noExporterLife, noObjectLife, exporterEntry, objectEntry, interfaceEntry, setEntry, live, withExporterLives, withObjectLives, withInterfaceLives, enteredInterface, exporterSerial, objectSerial, lived}
-use Rattle.columns.proofs.Elements.{In, in-some, in-none, keep-in, in-last, snoc-in, map-ext-in, keep-ext-in, first-sole, some-sole, one-in, sole-by}
+use Rattle.lists.proofs.Elements.{In, in-some, in-none, keep-in, in-last, snoc-in, map-ext-in, keep-ext-in, first-sole, some-sole, one-in, sole-by}
 use Rattle.history.proofs.Steps.{interfacesOver, setsOver, clock-live, now-heard, Step, stepped}
 use Rattle.history.proofs.Lives.{serialOfExporter, serialOfObject, serials-snoc, named-snoc, look, look-snoc, Kept}
 use Rattle.history.proofs.Identities.{live-object, found-exporter, found-object}

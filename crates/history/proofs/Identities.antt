@@ -5,11 +5,11 @@ use mathlib.Core.Bool.{Bool, true, false, not}
 use mathlib.Core.List.{List, map}
 use borrow.Author.Tests.{not-true}
 use lib.Dec.{eqb}
-use Rattle.columns.specs.Lists.{keep, among, distinct}
-use Rattle.columns.specs.Guids.{sameGuid}
-use Rattle.columns.proofs.Lists.{some-map, map-map}
-use Rattle.columns.proofs.Distinct.{eqb-decides, distinct-map-keep}
-use Rattle.columns.proofs.Elements.{In, keep-in, Sole, kept-sole, sole-by, sole-key, sole-image}
+use Rattle.lists.specs.Lists.{keep, among, distinct}
+use Rattle.lists.specs.Guids.{sameGuid}
+use Rattle.lists.proofs.Lists.{some-map, map-map}
+use Rattle.lists.proofs.Distinct.{eqb-decides, distinct-map-keep}
+use Rattle.lists.proofs.Elements.{In, keep-in, Sole, kept-sole, sole-by, sole-key, sole-image}
 use Rattle.rules.specs.Entries.{Exporter, Object, Interface, PingSet}
 use Rattle.rules.specs.Rules.{isLiveExporter, isLiveObject, isLiveSet}
 use Rattle.rules.proofs.ByRow.{oxids-distinct, oids-distinct, sets-distinct, interfaces-distinct}

@@ -8,16 +8,16 @@ use native.Mathlib.Omega.{arith}
 use borrow.Author.Tests.{eqb-true, leb-true, le-leb, ltb-false, not-true}
 use lib.Dec.{eqb, leb}
 use Rattle.kinds.proofs.Refusing.{passed, by-test}
-use Rattle.columns.specs.Lists.{keep, some, among}
-use Rattle.columns.proofs.Tests.{true-or-false}
-use Rattle.columns.proofs.Lists.{some-map, some-kept-none, keep-map, keep-comm, keep-keep, keep-ext, map-map, map-ext, map-unread}
+use Rattle.lists.specs.Lists.{keep, some, among}
+use Rattle.lists.proofs.Tests.{true-or-false}
+use Rattle.lists.proofs.Lists.{some-map, some-kept-none, keep-map, keep-comm, keep-keep, keep-ext, map-map, map-ext, map-unread}
 use Rattle.rules.specs.Entries.{Exporter, Object, Interface, PingSet, Entries, withClock, withExporters, withSets, withMembers}
 use Rattle.rules.specs.Calls.{removeExporter, clock}
 use Rattle.rules.specs.Sound.{sound}
 use Rattle.rules.specs.Rules.{number, next, refusals, withoutObjects}
 use Rattle.rules.proofs.Leaving.{staysAt, setStaysAt, clock-next}
 use Rattle.history.specs.History.{ExporterLife, ObjectLife, InterfaceLife, SetLife, History, atZero, interfacesAtZero, exporterRemoved, unheard, objectGone, liveExporters, liveObjects, liveInterface, liveSet, noExporterLife, exporterEntry, objectEntry, interfaceEntry, setEntry, live, atClock, withExporterLives, removedLife, lived}
-use Rattle.columns.proofs.Elements.{In, some-in, keep-in, map-ext-in, keep-ext-in, kept-changed, first-unread, first-sole, some-sole, kept-sole}
+use Rattle.lists.proofs.Elements.{In, some-in, keep-in, map-ext-in, keep-ext-in, kept-changed, first-unread, first-sole, some-sole, kept-sole}
 use Rattle.history.proofs.Lives.{serialOfExporter, named-sole, Kept, kept-from, still}
 use Rattle.history.proofs.Identities.{live-sole, owner-oid, one-oid, among-oids}
 use Rattle.history.proofs.Steps.{interfacesOver, setsOver, clock-live, Step, stepped}

@@ -8,12 +8,12 @@ use native.Mathlib.Omega.{arith}
 use borrow.Author.Tests.{ne-eqb}
 use lib.ListN.{length, length-map, length-append}
 use lib.Dec.{eqb}
-use Rattle.columns.specs.Lists.{firstOr, distinct}
-use Rattle.columns.proofs.Lists.{map-append, map-map}
-use Rattle.columns.proofs.Distinct.{eqb-decides, distinct-snoc}
+use Rattle.lists.specs.Lists.{firstOr, distinct}
+use Rattle.lists.proofs.Lists.{map-append, map-map}
+use Rattle.lists.proofs.Distinct.{eqb-decides, distinct-snoc}
 use Rattle.rules.specs.Sound.{sound}
 use Rattle.history.specs.History.{ExporterLife, ObjectLife, InterfaceLife, SetLife, History, liveObjects, live, heardLife}
-use Rattle.columns.proofs.Elements.{In, map-in, snoc-in, in-none, Sole, first-sole, sole-by}
+use Rattle.lists.proofs.Elements.{In, map-in, snoc-in, in-none, Sole, first-sole, sole-by}
 
 -- ---- serial numbers
 

@@ -9,10 +9,10 @@ use borrow.Author.Tests.{eq-eqb, not-true, not-false}
 use lib.ListN.{length}
 use lib.Dec.{eqb}
 use Rattle.kinds.proofs.Refusing.{by-test, passed}
-use Rattle.columns.specs.Lists.{keep, some, among, distinct}
-use Rattle.columns.proofs.Tests.{true-or-false, and-right, or-left, or-right}
-use Rattle.columns.proofs.Lists.{some-map, some-snoc, some-append, keep-map, keep-none, keep-ext, keep-snoc, map-map, map-ext, map-append, map-unread}
-use Rattle.columns.proofs.Distinct.{eqb-decides, some-same-keep}
+use Rattle.lists.specs.Lists.{keep, some, among, distinct}
+use Rattle.lists.proofs.Tests.{true-or-false, and-right, or-left, or-right}
+use Rattle.lists.proofs.Lists.{some-map, some-snoc, some-append, keep-map, keep-none, keep-ext, keep-snoc, map-map, map-ext, map-append, map-unread}
+use Rattle.lists.proofs.Distinct.{eqb-decides, some-same-keep}
 use Rattle.rules.specs.Entries.{Object, PingSet, Entries, setNumbers, withNext, withObjects, withSets, heardAt, pingedAt, withSequence, withMembers}
 use Rattle.rules.specs.Calls.{simplePing, complexPing}
 use Rattle.rules.specs.Sound.{sound}
@@ -20,7 +20,7 @@ use Rattle.rules.specs.Rules.{number, next, refusals, isLiveSet, noSet, setOf, 
 use Rattle.rules.proofs.Groups.{grouped, sound-grouped}
 use Rattle.rules.proofs.Pinging.{set-made}
 use Rattle.history.specs.History.{ObjectLife, SetLife, History, atZero, interfacesAtZero, exporterRemoved, unheard, objectGone, liveExporters, liveObjects, liveInterface, liveSet, noObjectLife, exporterEntry, objectEntry, interfaceEntry, setEntry, live, withObjectLives, withSetLives, heardLife, pingedLife, changed, atLiveSet, objectSerials, isMember, pingLives, startSet, lived}
-use Rattle.columns.proofs.Elements.{In, map-in, snoc-in, in-none, keep-in, in-keep, keep-ext-in, changed-kept, first-unread, Sole, first-sole, some-sole, sole-keep, sole-map}
+use Rattle.lists.proofs.Elements.{In, map-in, snoc-in, in-none, keep-in, in-keep, keep-ext-in, changed-kept, first-unread, Sole, first-sole, some-sole, sole-keep, sole-map}
 use Rattle.history.proofs.Lives.{Kept, kept-from, serialOfObject, still}
 use Rattle.history.proofs.Identities.{live-object, found-set, one-oid, among-oids, among-serials}
 use Rattle.history.proofs.Steps.{interfacesOver, setsOver, now-heard, chosen, Step, stepped}

@@ -13,7 +13,7 @@ use Rattle.kinds.proofs.Refusing.{by-test}
 use Rattle.bindings.specs.Bindings.{frontAnswer, listAnswer}
 use Rattle.fields.specs.Fields.{field}
 use Rattle.references.specs.References.{isCustom, tailAnswer, layoutAnswer, referenceAnswer}
-use Rattle.columns.proofs.Tests.{below-or-not}
+use Rattle.lists.proofs.Tests.{below-or-not}
 use Rattle.rules.specs.Entries.{Entries}
 use Rattle.rules.specs.Calls.{Call, reset, enterExporter, removeExporter, enterObject, enterInterface, add, release, simplePing, complexPing, clock, resolve, census, members, nextStop}
 use Rattle.rules.specs.Rules.{refusals, number}

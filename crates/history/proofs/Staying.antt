@@ -9,12 +9,12 @@ use borrow.Author.Tests.{eq-eqb, eqb-true, leb-true, le-leb, not-true}
 use lib.Dec.{eqb, leb}
 use Rattle.kinds.specs.declared.Guid.{Guid}
 use Rattle.kinds.proofs.Refusing.{by-test}
-use Rattle.columns.specs.Guids.{sameGuid}
-use Rattle.columns.proofs.Tests.{true-or-false, and-intro, and-left, and-right}
-use Rattle.columns.proofs.Lists.{map-append}
-use Rattle.columns.proofs.Distinct.{eqb-decides, same-eq}
-use Rattle.columns.proofs.Guids.{guid-decides}
-use Rattle.columns.proofs.Elements.{In, every-in, in-every, in-some, some-in, in-keep, map-in, snoc-in, one-in, first-sole}
+use Rattle.lists.specs.Guids.{sameGuid}
+use Rattle.lists.proofs.Tests.{true-or-false, and-intro, and-left, and-right}
+use Rattle.lists.proofs.Lists.{map-append}
+use Rattle.lists.proofs.Distinct.{eqb-decides, same-eq}
+use Rattle.lists.proofs.Guids.{guid-decides}
+use Rattle.lists.proofs.Elements.{In, every-in, in-every, in-some, some-in, in-keep, map-in, snoc-in, one-in, first-sole}
 use Rattle.rules.specs.Calls.{Call, reset, enterExporter, removeExporter, enterObject, enterInterface, add, release, simplePing, complexPing, clock, resolve, census, members, nextStop}
 use Rattle.rules.specs.Rules.{number}
 use Rattle.rules.proofs.SoundLaws.{none, _and_}

@@ -6,7 +6,7 @@ use mathlib.Core.List.{List, map}
 use native.Mathlib.Omega.{arith}
 use borrow.Author.Tests.{lt-leb}
 use lib.Dec.{eqb, leb}
-use Rattle.columns.specs.Lists.{keep, some, firstOr, among}
+use Rattle.lists.specs.Lists.{keep, some, firstOr, among}
 use Rattle.rules.specs.Entries.{Interface, PingSet}
 use Rattle.rules.specs.Calls.{Call}
 use Rattle.rules.specs.Sound.{sound}

@@ -6,8 +6,8 @@ use mathlib.Core.List.{List, [], _∷_, _++_, map}
 use lib.ListN.{length, getD}
 use lib.Dec.{eqb, leb}
 use Rattle.kinds.specs.declared.Guid.{Guid}
-use Rattle.columns.specs.Lists.{keep, some, every, firstOr, firstIndex, tabulate, among, holding}
-use Rattle.columns.specs.Guids.{nil, sameGuid}
+use Rattle.lists.specs.Lists.{keep, some, every, firstOr, firstIndex, tabulate, among, holding}
+use Rattle.lists.specs.Guids.{nil, sameGuid}
 use Rattle.rules.specs.Entries.{Exporter, Object, Interface, PingSet, Entries, fresh, oxids, oids}
 use Rattle.rules.specs.Calls.{Call, reset, enterExporter, removeExporter, enterObject, enterInterface, add, release, simplePing, complexPing, clock, resolve, census, members, nextStop, Reply}
 use Rattle.rules.specs.Rules.{noExporter, noObject, number, reply}

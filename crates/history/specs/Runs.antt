@@ -6,8 +6,8 @@ use mathlib.Core.List.{List, [], _∷_, map}
 use lib.ListN.{length}
 use lib.Dec.{eqb, ltb, leb}
 use Rattle.kinds.specs.Refusals.{Row, order}
-use Rattle.columns.specs.Lists.{keep, every, distinct, among}
-use Rattle.columns.specs.Guids.{sameGuid}
+use Rattle.lists.specs.Lists.{keep, every, distinct, among}
+use Rattle.lists.specs.Guids.{sameGuid}
 use Rattle.rules.specs.Entries.{Object, Interface, PingSet, Entries, fresh, oxids, oids, setNumbers, ipids}
 use Rattle.rules.specs.Calls.{Call, reset, enterExporter, removeExporter, enterObject, enterInterface, add, release, simplePing, complexPing, clock, resolve, census, members, nextStop, Reply}
 use Rattle.rules.specs.Sound.{sound}

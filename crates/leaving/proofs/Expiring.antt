@@ -7,7 +7,7 @@ use native.Mathlib.Omega.{arith}
 use lib.Dec.{ltb}
 use lib.ListN.{length, getD, length-map}
 use Rattle.kinds.specs.Refusals.{order}
-use Rattle.columns.proofs.Lists.{every-kept, length-keep}
+use Rattle.lists.proofs.Lists.{every-kept, length-keep}
 use Rattle.rules.specs.Entries.{Entries, oids, withClock}
 use Rattle.rules.specs.Calls.{Call}
 use Rattle.rules.specs.Sound.{proper, membersLive}

@@ -7,7 +7,7 @@ use borrow.Author.Tests.{lt-ltb, le-ltb}
 use lib.Dec.{ltb}
 use lib.ListN.{length}
 use Rattle.kinds.specs.Refusals.{order}
-use Rattle.columns.specs.Lists.{deleteAt}
+use Rattle.lists.specs.Lists.{deleteAt}
 use Rattle.rules.specs.Entries.{Entries, withExporters}
 use Rattle.rules.specs.Calls.{Call, numbered}
 use Rattle.rules.specs.Rules.{isLiveExporter, refusals, number, results, refused, done}

@@ -8,11 +8,11 @@ use native.Mathlib.Omega.{arith}
 use borrow.Author.Tests.{le-leb, lt-leb}
 use lib.Dec.{leb}
 use lib.ListN.{length, getD, set, length-map}
-use Rattle.columns.specs.Lists.{tabulate, among}
+use Rattle.lists.specs.Lists.{tabulate, among}
 use Rattle.columns.specs.Members.{isMember}
 use Rattle.columns.specs.declared.members.Members.{Members}
-use Rattle.columns.proofs.Tests.{true-or-false, below-or-not, same-or-not}
-use Rattle.columns.proofs.Lists.{getD-map, getD-tabulate, tabulate-ext, set-tabulate, map-tabulate, tabulate-getD}
+use Rattle.lists.proofs.Tests.{true-or-false, below-or-not, same-or-not}
+use Rattle.lists.proofs.Lists.{getD-map, getD-tabulate, tabulate-ext, set-tabulate, map-tabulate, tabulate-getD}
 use Rattle.rules.specs.Entries.{Object, Entries, oids, withObjects, heardAt}
 use Rattle.rules.specs.Sound.{proper}
 use Rattle.rules.specs.Rules.{noObject}

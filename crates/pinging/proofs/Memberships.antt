@@ -9,13 +9,13 @@ use borrow.Author.Tests.{eqb-true, eq-eqb, ne-eqb, ltb-true, lt-ltb, le-ltb}
 use lib.Dec.{eqb, ltb}
 use lib.ListN.{length, getD, List·getD-eq-default}
 use Rattle.kinds.proofs.Refusing.{true-false}
-use Rattle.columns.specs.Lists.{tabulate, keep, every, some, distinct, firstIndex, among}
+use Rattle.lists.specs.Lists.{tabulate, keep, every, some, distinct, firstIndex, among}
 use Rattle.columns.specs.Members.{isMember, memberRows, InWords, Added, Dropped}
 use Rattle.columns.specs.declared.members.Members.{Members}
-use Rattle.columns.proofs.Tests.{true-or-false, below-or-not, and-left, and-right}
-use Rattle.columns.proofs.Lists.{every-at, every-tabulate, some-map, some-keep, some-tabulate, none-some, some-one, some-append, keep-map, keep-ext-on, tabulate-getD, map-tabulate}
-use Rattle.columns.proofs.First.{first-at}
-use Rattle.columns.proofs.Distinct.{eqb-decides, distinct-at, first-same}
+use Rattle.lists.proofs.Tests.{true-or-false, below-or-not, and-left, and-right}
+use Rattle.lists.proofs.Lists.{every-at, every-tabulate, some-map, some-keep, some-tabulate, none-some, some-one, some-append, keep-map, keep-ext-on, tabulate-getD, map-tabulate}
+use Rattle.lists.proofs.First.{first-at}
+use Rattle.lists.proofs.Distinct.{eqb-decides, distinct-at, first-same}
 use Rattle.columns.proofs.Bits.{below-holds, members-below}
 use Rattle.rules.specs.Sound.{proper}
 use Rattle.pinging.specs.Pinging.{Put}

@@ -11,11 +11,11 @@ use lib.ListN.{length, getD, set, length-append, length-set}
 use lib.Seq.{getD-set-same, set-set}
 use Rattle.kinds.specs.Refusals.{Row, order, _gives_}
 use Rattle.kinds.proofs.Refusing.{passed}
-use Rattle.columns.specs.Lists.{every, among}
+use Rattle.lists.specs.Lists.{every, among}
 use Rattle.columns.specs.Members.{isMember, memberRows}
 use Rattle.columns.specs.declared.members.Members.{Members}
-use Rattle.columns.proofs.Tests.{true-or-false, and-intro, and-left}
-use Rattle.columns.proofs.Lists.{every-snoc}
+use Rattle.lists.proofs.Tests.{true-or-false, and-intro, and-left}
+use Rattle.lists.proofs.Lists.{every-snoc}
 use Rattle.columns.proofs.Bits.{below-none}
 use Rattle.rules.specs.Entries.{PingSet, Entries, oids, withSets, withSequence, withMembers}
 use Rattle.rules.specs.Calls.{Call}

@@ -5,7 +5,7 @@ use mathlib.Core.Bool.{Bool, cond, _&&_}
 use mathlib.Core.List.{List, map}
 use lib.Dec.{eqb, ltb}
 use lib.ListN.{length, getD}
-use Rattle.columns.specs.Lists.{firstIndex, among}
+use Rattle.lists.specs.Lists.{firstIndex, among}
 use Rattle.columns.specs.Members.{isMember, memberRows, InWords}
 use Rattle.columns.specs.declared.members.Members.{Members}
 use Rattle.rules.specs.Entries.{Entries, oids, setNumbers, heardAt}

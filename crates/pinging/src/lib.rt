@@ -12,7 +12,7 @@ ghost use mathlib.Core.Bool.{true};
 ghost use mathlib.Core.List.{List, [], _∷_};
 ghost use Prim.Native.Nat.{ℕ, _-_, _^_, _<_};
 ghost use lib.ListN.{length, getD};
-ghost use Rattle.columns.specs.Lists.{every};
+ghost use Rattle.lists.specs.Lists.{every};
 ghost use Rattle.rules.specs.Entries.{oids};
 ghost use Rattle.rules.specs.Sound.{proper, membersLive};
 ghost use Rattle.rules.specs.Rules.{stale, setMeant, isLiveObject, number};

@@ -17,7 +17,7 @@ use Rattle.bindings.specs.declared.Place.{Place}
 use Rattle.bindings.proofs.Laws.{front}
 use Rattle.references.specs.References.{isCustom, referenceAnswer, tailPlace}
 use Rattle.references.proofs.Laws.{accepted, oxid-at, tail-number, tail-within, tail-bytes}
-use Rattle.columns.specs.Lists.{firstIndex}
+use Rattle.lists.specs.Lists.{firstIndex}
 use Rattle.rules.specs.Entries.{Entries, oxids}
 use Rattle.rules.specs.Calls.{Call, Reply}
 use Rattle.rules.specs.Sound.{listsKept}

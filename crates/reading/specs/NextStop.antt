@@ -7,7 +7,7 @@ use lib.ListN.{length, take, drop, getD}
 use lib.Dec.{eqb}
 use Rattle.bindings.specs.declared.Place.{Place}
 use Rattle.references.specs.References.{tailPlace}
-use Rattle.columns.specs.Lists.{firstIndex}
+use Rattle.lists.specs.Lists.{firstIndex}
 use Rattle.rules.specs.Entries.{oxids}
 use Rattle.rules.specs.Calls.{Call, Reply}
 use Rattle.rules.specs.Rules.{noExporter, isLiveExporter, oxidOf, flag}

@@ -10,13 +10,13 @@ use lib.ListN.{getD, length, set, length-map}
 use lib.Seq.{map-set-same}
 use lib.Dec.{eqb, ltb}
 use Rattle.kinds.specs.declared.Guid.{Guid}
-use Rattle.columns.specs.Lists.{apart, keep, every, some, distinct, firstIndex, deleteAt, among}
-use Rattle.columns.specs.Guids.{nil, sameGuid}
-use Rattle.columns.proofs.Tests.{and-left, and-right}
-use Rattle.columns.proofs.Lists.{every-at, every-set, some-map, none-some, every-kept, keep-passes, keep-all, keep-map, keep-set, map-id-on}
-use Rattle.columns.proofs.First.{some-index, entry-index}
-use Rattle.columns.proofs.Distinct.{eqb-decides, distinct-append, some-same-keep-map, entry-change, entry-remove}
-use Rattle.columns.proofs.Guids.{guid-decides}
+use Rattle.lists.specs.Lists.{apart, keep, every, some, distinct, firstIndex, deleteAt, among}
+use Rattle.lists.specs.Guids.{nil, sameGuid}
+use Rattle.lists.proofs.Tests.{and-left, and-right}
+use Rattle.lists.proofs.Lists.{every-at, every-set, some-map, none-some, every-kept, keep-passes, keep-all, keep-map, keep-set, map-id-on}
+use Rattle.lists.proofs.First.{some-index, entry-index}
+use Rattle.lists.proofs.Distinct.{eqb-decides, distinct-append, some-same-keep-map, entry-change, entry-remove}
+use Rattle.lists.proofs.Guids.{guid-decides}
 use Rattle.rules.specs.Entries.{Exporter, Object, Interface, PingSet, Entries, oxids, oids, setNumbers, interfaceIpids, ipids, withExporters, withObjects, withInterfaces, withSets, withMembers, withCounts}
 use Rattle.rules.specs.Calls.{removeExporter, add, release, clock}
 use Rattle.rules.specs.Sound.{held, hasInterface, sound}

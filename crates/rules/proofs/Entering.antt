@@ -10,12 +10,12 @@ use lib.ListN.{length}
 use lib.Dec.{eqb, leb}
 use Rattle.kinds.specs.declared.Guid.{Guid}
 use Rattle.bindings.specs.Bindings.{listAnswer}
-use Rattle.columns.specs.Lists.{every, some, among}
-use Rattle.columns.specs.Guids.{nil, sameGuid}
-use Rattle.columns.proofs.Tests.{and-intro, or-cases}
-use Rattle.columns.proofs.Lists.{every-snoc, every-mono, some-snoc, map-append, map-unread-at, every-changed-at}
-use Rattle.columns.proofs.Distinct.{eqb-decides}
-use Rattle.columns.proofs.Guids.{guid-decides}
+use Rattle.lists.specs.Lists.{every, some, among}
+use Rattle.lists.specs.Guids.{nil, sameGuid}
+use Rattle.lists.proofs.Tests.{and-intro, or-cases}
+use Rattle.lists.proofs.Lists.{every-snoc, every-mono, some-snoc, map-append, map-unread-at, every-changed-at}
+use Rattle.lists.proofs.Distinct.{eqb-decides}
+use Rattle.lists.proofs.Guids.{guid-decides}
 use Rattle.rules.specs.Entries.{Exporter, Object, Interface, PingSet, Entries, oxids, oids, interfaceIpids, ipids, withExporters, withObjects, withInterfaces, withCounts}
 use Rattle.rules.specs.Sound.{longestList, properGuids, held, overdue}
 use Rattle.rules.specs.Rules.{atInterface}

@@ -8,10 +8,10 @@ use lib.ListN.{length}
 use lib.Dec.{eqb, ltb, leb}
 use Rattle.kinds.proofs.Refusing.{or-false}
 use Rattle.bindings.specs.Bindings.{listAnswer}
-use Rattle.columns.specs.Lists.{every, some, distinct, among}
-use Rattle.columns.proofs.Tests.{and-intro, and-left, and-right}
-use Rattle.columns.proofs.Lists.{every-map, every-ext, every-append, every-snoc, some-map, map-append}
-use Rattle.columns.proofs.Distinct.{Decides, Part, distinct-mid}
+use Rattle.lists.specs.Lists.{every, some, distinct, among}
+use Rattle.lists.proofs.Tests.{and-intro, and-left, and-right}
+use Rattle.lists.proofs.Lists.{every-map, every-ext, every-append, every-snoc, some-map, map-append}
+use Rattle.lists.proofs.Distinct.{Decides, Part, distinct-mid}
 use Rattle.rules.specs.Entries.{Exporter, Object, Interface, PingSet, Entries, oxids, oids, ipids, withNext, withInterfaces, withSets}
 use Rattle.rules.specs.Sound.{longestList, proper, properGuids, held, overdue, sound}
 use Rattle.rules.proofs.SoundLaws.{Sound, sound-fields, sound-made}

@@ -10,7 +10,7 @@ use lib.Dec.{eqb}
 use Rattle.kinds.specs.declared.Guid.{Guid}
 use Rattle.kinds.proofs.Refusing.{or-false, passed, passed-on}
 use Rattle.bindings.specs.Bindings.{listAnswer}
-use Rattle.columns.specs.Lists.{every, distinct, holding, among}
+use Rattle.lists.specs.Lists.{every, distinct, holding, among}
 use Rattle.rules.specs.Entries.{Entries, fresh, oxids, oids}
 use Rattle.rules.specs.Calls.{Call, reset, enterExporter, removeExporter, enterObject, enterInterface, add, release, simplePing, complexPing, clock, resolve, census, members, nextStop}
 use Rattle.rules.specs.Sound.{longestList, sound}

@@ -7,10 +7,10 @@ use native.Mathlib.Omega.{arith}
 use borrow.Author.Tests.{leb-true, le-leb}
 use lib.Dec.{eqb, leb}
 use Rattle.kinds.specs.declared.Guid.{Guid}
-use Rattle.columns.specs.Lists.{keep, every, among}
-use Rattle.columns.specs.Guids.{nil, sameGuid}
-use Rattle.columns.proofs.Lists.{every-map, every-mono, every-mono-on, every-from-at, every-kept, keep-map, keep-passes, map-unread, map-unread-at}
-use Rattle.columns.proofs.Distinct.{eqb-decides, some-same, some-same-keep-map, part-whole, part-keep, part-append}
+use Rattle.lists.specs.Lists.{keep, every, among}
+use Rattle.lists.specs.Guids.{nil, sameGuid}
+use Rattle.lists.proofs.Lists.{every-map, every-mono, every-mono-on, every-from-at, every-kept, keep-map, keep-passes, map-unread, map-unread-at}
+use Rattle.lists.proofs.Distinct.{eqb-decides, some-same, some-same-keep-map, part-whole, part-keep, part-append}
 use Rattle.rules.specs.Entries.{Exporter, Object, Interface, PingSet, Entries, oxids, ipids, withClock, withExporters, withInterfaces, withSets, withMembers}
 use Rattle.rules.specs.Calls.{clock}
 use Rattle.rules.specs.Sound.{properGuids, held, hasInterface, overdue}

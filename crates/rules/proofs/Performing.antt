@@ -1,9 +1,8 @@
--- How a call is shown to be performed: refused by 1, refused by its own rules, accepted, or only looking.
+-- How a call is shown to be performed: refused by 1, or accepted where it looks at the lengths only.
 use Prim.Native.Nat.{ℕ}
 use mathlib.Core.Path.{_≡_, refl, sym, _∙_}
 use mathlib.Core.Bool.{true, false}
 use native.Mathlib.Omega.{arith}
-use borrow.Author.Tests.{ne-eqb}
 use Rattle.rules.specs.Entries.{Entries}
 use Rattle.rules.specs.Calls.{Call, Reply}
 use Rattle.rules.specs.Rules.{number, next, refused, done, reply}
@@ -23,10 +22,6 @@ module _ (view : Memory → Entries) (c : Call) (m : Memory) where
   unfolding replyTo
   reply-unfit h = rw h
 
-  reply-refused : (n : ℕ) → fit view c m ≡ true → number c (view m) ≡ n → (n ≡ 0 → ⊥) → refused n c (view m) ≡ replyTo view c m
-  unfolding replyTo reply
-  reply-refused n h e z = rw (h, e, ne-eqb n 0 z)
-
   reply-done : fit view c m ≡ true → number c (view m) ≡ 0 → done c (view m) ≡ replyTo view c m
   unfolding replyTo reply
   reply-done h e = rw (h, e)
@@ -37,9 +32,6 @@ module _ (view : Memory → Entries) (c : Call) (m : Memory) where
 
   pub unfit : fit view c m ≡ false → Performed view c m (refused 1 c (view m)) m
   unfit h = kept-refusal (refused 1 c (view m)) (λ e. omega (arith, sym (refused-number 1 c (view m)) ∙ e)) (reply-unfit h)
-
-  pub refused-by : (n : ℕ) → fit view c m ≡ true → number c (view m) ≡ n → (n ≡ 0 → ⊥) → Performed view c m (refused n c (view m)) m
-  refused-by n h e z = kept-refusal (refused n c (view m)) (λ p. z (sym (refused-number n c (view m)) ∙ p)) (reply-refused n h e z)
 
   pub accepted : (m′ : Memory) → fit view c m ≡ true → number c (view m) ≡ 0 → soundMemory view m′ ≡ true → view m′ ≡ next c (view m) → Performed view c m (done c (view m)) m′
   accepted m′ h e s v =
@@ -53,10 +45,3 @@ module _ (view : Memory → Entries) (c : Call) (m : Memory) where
 
   pub unsound : lengthsOnly c ≡ false → soundMemory view m ≡ false → Performed view c m (refused 1 c (view m)) m
   unsound l h = unfit (fit-sound l ∙ h)
-
-  pub sound-refused : lengthsOnly c ≡ false → soundMemory view m ≡ true → (n : ℕ) → number c (view m) ≡ n → (n ≡ 0 → ⊥) → Performed view c m (refused n c (view m)) m
-  sound-refused l h n e z = refused-by n (fit-sound l ∙ h) e z
-
-  pub sound-accepted : lengthsOnly c ≡ false → soundMemory view m ≡ true → number c (view m) ≡ 0
-      → (m′ : Memory) → soundMemory view m′ ≡ true → view m′ ≡ next c (view m) → Performed view c m (done c (view m)) m′
-  sound-accepted l h e m′ s v = accepted m′ (fit-sound l ∙ h) e s v

@@ -10,9 +10,9 @@ use lib.ListN.{length, length-append, length-map, length-set}
 use lib.Seq.{map-set-same}
 use lib.Dec.{eqb}
 use Rattle.kinds.proofs.Refusing.{or-false}
-use Rattle.columns.specs.Lists.{distinct, firstIndex, among}
-use Rattle.columns.proofs.Lists.{map-append}
-use Rattle.columns.proofs.First.{first-here, first-right}
+use Rattle.lists.specs.Lists.{distinct, firstIndex, among}
+use Rattle.lists.proofs.Lists.{map-append}
+use Rattle.lists.proofs.First.{first-here, first-right}
 use Rattle.rules.specs.Entries.{PingSet, Entries, setNumbers, pingedAt}
 use Rattle.rules.specs.Calls.{simplePing, complexPing}
 use Rattle.rules.specs.Sound.{sound}

@@ -7,9 +7,9 @@ use native.Mathlib.Omega.{arith}
 use borrow.Author.Tests.{ltb-true, lt-ltb, ne-eqb, le-leb, not-true}
 use lib.Dec.{eqb, ltb, leb}
 use Rattle.kinds.proofs.Refusing.{by-test}
-use Rattle.columns.specs.Lists.{every, among}
-use Rattle.columns.proofs.Lists.{every-nil, every-snoc, every-mono, every-kept, none-some, map-append, map-unread-at, every-changed-at}
-use Rattle.columns.proofs.Distinct.{eqb-decides}
+use Rattle.lists.specs.Lists.{every, among}
+use Rattle.lists.proofs.Lists.{every-nil, every-snoc, every-mono, every-kept, none-some, map-append, map-unread-at, every-changed-at}
+use Rattle.lists.proofs.Distinct.{eqb-decides}
 use Rattle.rules.specs.Entries.{Object, PingSet, Entries, oids, setNumbers, withObjects, heardAt, pingedAt, withSequence, withMembers}
 use Rattle.rules.specs.Sound.{overdue}
 use Rattle.rules.specs.Rules.{setOf, atSet, ping, newMembers, makeSet}

@@ -6,8 +6,8 @@ use mathlib.Core.List.{List, [], _∷_}
 use lib.Dec.{eqb}
 use lib.ListN.{length, getD}
 use borrow.Author.Tests.{eq-eqb, eqb-true}
-use Rattle.columns.specs.Lists.{holding}
-use Rattle.columns.proofs.Tests.{and-left, and-right, holding-nil, holding-cons, holding-head, holding-tail}
+use Rattle.lists.specs.Lists.{holding}
+use Rattle.lists.proofs.Tests.{and-left, and-right, holding-nil, holding-cons, holding-head, holding-tail}
 use Rattle.rules.specs.Entries.{Entries, oxids, oids, ipids, setNumbers}
 use Rattle.rules.specs.Sound.{proper, properGuids, interfaceObjectsLive, objectExportersLive, objectsHaveInterfaces, interfacesHeld, membersLive, heardBefore, pingedBefore, heardRecently, pingedRecently, setsBelowNext, listsKept, sound}
 use Rattle.rules.specs.Contract.{Memory, rightLengths, soundMemory, SoundTable}

@@ -3,7 +3,7 @@ use Prim.Native.Nat.{ℕ}
 use mathlib.Core.Bool.{cond}
 use mathlib.Core.List.{List, map}
 use lib.ListN.{getD, set}
-use Rattle.columns.specs.Lists.{among}
+use Rattle.lists.specs.Lists.{among}
 use Rattle.rules.specs.Entries.{Object, PingSet, Entries, withObjects, withSets, heardAt, pingedAt, withSequence, withMembers}
 use Rattle.rules.specs.Rules.{noSet, newMembers}
 

@@ -10,8 +10,8 @@ use Rattle.kinds.specs.declared.Guid.{Guid}
 use Rattle.fields.specs.Fields.{field}
 use Rattle.bindings.specs.Bindings.{listAnswer}
 use Rattle.references.specs.References.{referenceAnswer, referenceAt, isCustom, tailOf}
-use Rattle.columns.specs.Lists.{keep, some, every, firstOr, among}
-use Rattle.columns.specs.Guids.{nil, sameGuid}
+use Rattle.lists.specs.Lists.{keep, some, every, firstOr, among}
+use Rattle.lists.specs.Guids.{nil, sameGuid}
 use Rattle.rules.specs.Entries.{Exporter, Object, Interface, PingSet, Entries, fresh, oxids, oids, setNumbers, interfaceIpids, ipids, withClock, withNext, withExporters, withObjects, withInterfaces, withSets, heardAt, withCounts, pingedAt, withSequence, withMembers}
 use Rattle.rules.specs.Calls.{Call, reset, enterExporter, removeExporter, enterObject, enterInterface, add, release, simplePing, complexPing, clock, resolve, census, members, nextStop, Reply, Results, only}
 use Rattle.rules.specs.Sound.{longestList, held, hasInterface, overdue}

@@ -6,8 +6,8 @@ use lib.ListN.{length}
 use lib.Dec.{eqb, ltb, leb}
 use Rattle.kinds.specs.declared.Guid.{Guid}
 use Rattle.bindings.specs.Bindings.{listAnswer}
-use Rattle.columns.specs.Lists.{every, some, distinct, among, holding}
-use Rattle.columns.specs.Guids.{nil, sameGuid}
+use Rattle.lists.specs.Lists.{every, some, distinct, among, holding}
+use Rattle.lists.specs.Guids.{nil, sameGuid}
 use Rattle.rules.specs.Entries.{Exporter, Object, Interface, PingSet, Entries, oxids, oids, setNumbers, ipids}
 
 -- the seconds after which what was not heard goes: three ping periods

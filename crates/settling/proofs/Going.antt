@@ -10,13 +10,13 @@ use lib.Dec.{eqb, ltb}
 use lib.ListN.{length, getD, drop, length-map}
 use lib.Seq.{drop-length, drop-cons}
 use Rattle.kinds.proofs.Refusing.{true-false, by-test}
-use Rattle.columns.specs.Lists.{keep, every, some, distinct, deleteAt, among}
-use Rattle.columns.proofs.Tests.{true-or-false, and-intro}
-use Rattle.columns.proofs.Lists.{every-nil, every-from-at, every-map, every-mono, some-none, none-some, keep-all, keep-within, map-map, map-ext, getD-map, map-delete, length-delete}
-use Rattle.columns.proofs.Distinct.{eqb-decides, distinct-delete, among-delete, some-same, part-keep}
+use Rattle.lists.specs.Lists.{keep, every, some, distinct, deleteAt, among}
+use Rattle.lists.proofs.Tests.{true-or-false, and-intro}
+use Rattle.lists.proofs.Lists.{every-nil, every-from-at, every-map, every-mono, some-none, none-some, keep-all, keep-within, map-map, map-ext, getD-map, map-delete, length-delete}
+use Rattle.lists.proofs.Distinct.{eqb-decides, distinct-delete, among-delete, some-same, part-keep}
 use Rattle.columns.specs.Rows.{rowAt}
 use Rattle.columns.specs.Members.{memberRows}
-use Rattle.columns.specs.Lists.{tabulate}
+use Rattle.lists.specs.Lists.{tabulate}
 use Rattle.rules.specs.Entries.{Object, Interface, PingSet, Entries, oids, withObjects, withInterfaces, withSets, withMembers}
 use Rattle.rules.specs.Sound.{membersLive}
 use Rattle.rules.specs.Rules.{noObject, noInterface, noSet, isLiveObject}

@@ -4,8 +4,8 @@ use mathlib.Core.Path.{_≡_}
 use mathlib.Core.Bool.{true}
 use mathlib.Core.List.{List}
 use lib.Dec.{eqb}
-use Rattle.columns.specs.Lists.{distinct}
-use Rattle.columns.proofs.Tests.{and-left, and-right}
+use Rattle.lists.specs.Lists.{distinct}
+use Rattle.lists.proofs.Tests.{and-left, and-right}
 use Rattle.rules.specs.Entries.{oids}
 use Rattle.rules.specs.Sound.{proper, membersLive, sound}
 use Rattle.rules.proofs.SoundLaws.{sound-fields}

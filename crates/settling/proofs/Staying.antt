@@ -6,9 +6,9 @@ use mathlib.Core.List.{List}
 use borrow.Author.Tests.{eq-eqb, ne-eqb}
 use lib.Dec.{eqb, ltb, leb}
 use lib.ListN.{getD}
-use Rattle.columns.specs.Lists.{tabulate, some, firstIndex}
+use Rattle.lists.specs.Lists.{tabulate, some, firstIndex}
 use Rattle.columns.specs.Rows.{rowAt}
-use Rattle.columns.proofs.Distinct.{eqb-decides, same-comm}
+use Rattle.lists.proofs.Distinct.{eqb-decides, same-comm}
 use Rattle.rules.specs.Entries.{Interface}
 use Rattle.rules.specs.Rules.{noObject, noInterface, noSet, isLiveObject}
 use Rattle.rules.proofs.ByRow.{object-live}

@@ -4,7 +4,7 @@ use mathlib.Core.Bool.{Bool, cond, not, _||_}
 use mathlib.Core.List.{map}
 use lib.Dec.{eqb}
 use lib.ListN.{getD}
-use Rattle.columns.specs.Lists.{keep}
+use Rattle.lists.specs.Lists.{keep}
 use Rattle.rules.specs.Entries.{Object, Interface, PingSet, Entries, withObjects, withInterfaces, withSets, withMembers}
 use Rattle.rules.specs.Sound.{hasInterface, overdue}
 use Rattle.rules.specs.Rules.{noObject, noInterface, noSet, isLiveObject, withoutObjects}

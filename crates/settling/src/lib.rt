@@ -8,7 +8,7 @@ ghost use mathlib.Core.List.{List};
 ghost use Prim.Native.Nat.{ℕ, _<_};
 ghost use lib.ListN.{length, getD};
 ghost use lib.Dec.{eqb};
-ghost use Rattle.columns.specs.Lists.{distinct};
+ghost use Rattle.lists.specs.Lists.{distinct};
 ghost use Rattle.rules.specs.Entries.{oids};
 ghost use Rattle.rules.specs.Rules.{noObject};
 ghost use Rattle.table.specs.View.{objectCount, interfaceCount, setCount, memory, view};

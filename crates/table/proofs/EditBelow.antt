@@ -10,12 +10,12 @@ use borrow.Author.Tests.{ltb-true, lt-ltb, eq-eqb, eqb-true}
 use lib.Dec.{eqb, ltb}
 use lib.ListN.{length, getD, List·getD-eq-default}
 use Rattle.kinds.proofs.Refusing.{true-false}
-use Rattle.columns.specs.Lists.{tabulate, every, among}
+use Rattle.lists.specs.Lists.{tabulate, every, among}
 use Rattle.columns.specs.Rows.{rowAt}
 use Rattle.columns.specs.Members.{memberRows}
 use Rattle.columns.specs.declared.members.Members.{Members}
-use Rattle.columns.proofs.Tests.{below-or-not, and-intro}
-use Rattle.columns.proofs.Lists.{every-at, every-at-or, every-from-at, every-map, every-mono, every-snoc, every-delete, every-set, some-find}
+use Rattle.lists.proofs.Tests.{below-or-not, and-intro}
+use Rattle.lists.proofs.Lists.{every-at, every-at-or, every-from-at, every-map, every-mono, every-snoc, every-delete, every-set, some-find}
 use Rattle.rules.specs.Entries.{PingSet, Entries, oids, withMembers}
 use Rattle.rules.specs.Rules.{noSet, makeSet}
 use Rattle.rules.specs.Sound.{membersLive}

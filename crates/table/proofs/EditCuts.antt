@@ -8,7 +8,7 @@ use lib.ListN.{length, getD, set, length-set}
 use lib.Seq.{getD-set-same, getD-set-other}
 use Rattle.columns.specs.Members.{Cut}
 use Rattle.columns.specs.declared.members.Members.{Members}
-use Rattle.columns.proofs.Tests.{same-or-not}
+use Rattle.lists.proofs.Tests.{same-or-not}
 use Rattle.table.specs.View.{setCount}
 use Rattle.table.specs.Edits.{membersAt, MembersCut}
 

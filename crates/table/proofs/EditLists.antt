@@ -11,9 +11,10 @@ use Rattle.fields.specs.Fields.{written}
 use Rattle.fields.proofs.Laws.{part-of, written-front}
 use Rattle.bindings.specs.Bindings.{listLength, listAnswer}
 use Rattle.bindings.proofs.Laws.{list-front-taken}
-use Rattle.columns.specs.Lists.{deleteAt, skip, copiedDown}
-use Rattle.columns.proofs.Tests.{below-or-not}
-use Rattle.columns.proofs.Lists.{tabulate-ext, tabulate-snoc, delete-tabulate, length-delete, getD-delete, skip-below, skip-from}
+use Rattle.lists.specs.Lists.{deleteAt, skip}
+use Rattle.columns.specs.Moved.{copiedDown}
+use Rattle.lists.proofs.Tests.{below-or-not}
+use Rattle.lists.proofs.Lists.{tabulate-ext, tabulate-snoc, delete-tabulate, length-delete, getD-delete, skip-below, skip-from}
 use Rattle.columns.proofs.Moves.{copied-before, copied-part}
 use Rattle.columns.proofs.RowLaws.{length-rows}
 use Rattle.table.specs.View.{exporterKind, exporterCount, slot, listAt, asExporter, memory, view}

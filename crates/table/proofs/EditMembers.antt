@@ -9,12 +9,12 @@ use borrow.Author.Tests.{ltb-true, eq-eqb, eqb-true}
 use lib.Dec.{eqb, ltb}
 use lib.ListN.{length, getD, length-map, List·getD-append}
 use Rattle.kinds.proofs.Refusing.{same-test}
-use Rattle.columns.specs.Lists.{tabulate, every, keep, distinct, deleteAt}
+use Rattle.lists.specs.Lists.{tabulate, every, keep, distinct, deleteAt}
 use Rattle.columns.specs.Rows.{rowAt, rows}
 use Rattle.columns.specs.Members.{memberRows, Cut}
 use Rattle.columns.specs.declared.members.Members.{Members}
-use Rattle.columns.proofs.Lists.{every-tabulate, every-tabulate-at, keep-map, keep-ext-on, getD-map, map-append, map-delete, map-ext-on, map-map, map-tabulate, tabulate-ext}
-use Rattle.columns.proofs.Distinct.{eqb-decides, distinct-at}
+use Rattle.lists.proofs.Lists.{every-tabulate, every-tabulate-at, keep-map, keep-ext-on, getD-map, map-append, map-delete, map-ext-on, map-map, map-tabulate, tabulate-ext}
+use Rattle.lists.proofs.Distinct.{eqb-decides, distinct-at}
 use Rattle.columns.proofs.Bits.{below-cut, cut-values}
 use Rattle.rules.specs.Entries.{Object, PingSet, withMembers}
 use Rattle.rules.specs.Rules.{noObject}

@@ -10,11 +10,11 @@ use borrow.Author.Tests.{eqb-false, leb-true, ltb-true, not-true}
 use lib.Dec.{eqb, ltb, leb}
 use lib.ListN.{length, getD, set, length-set}
 use lib.Seq.{getD-set-same, getD-set-other, set-set}
-use Rattle.columns.specs.Lists.{deleteAt}
+use Rattle.lists.specs.Lists.{deleteAt}
 use Rattle.columns.specs.Rows.{cell, rowAt, rows, after, RowPut, RowRemoved}
 use Rattle.columns.specs.declared.rows.Kind.{Kind}
-use Rattle.columns.proofs.Tests.{and-left, and-right, or-cases}
-use Rattle.columns.proofs.Lists.{map-append, map-set, map-delete}
+use Rattle.lists.proofs.Tests.{and-left, and-right, or-cases}
+use Rattle.lists.proofs.Lists.{map-append, map-set, map-delete}
 use Rattle.columns.proofs.RowLaws.{cell-in, rows-within, rows-outside-set, rows-put, rows-removed, rows-set, length-rows, rows-getD}
 use Rattle.table.specs.View.{liveRows}
 use Rattle.table.specs.Edits.{Only, Pushed, Pulled}

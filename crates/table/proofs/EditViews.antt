@@ -5,10 +5,10 @@ use mathlib.Core.Bool.{Bool, true, _&&_}
 use mathlib.Core.List.{List, [], map}
 use mathlib.Core.Logic.{_⊎_, inl, inr, ⊎-elim}
 use lib.ListN.{length, getD}
-use Rattle.columns.specs.Lists.{tabulate}
+use Rattle.lists.specs.Lists.{tabulate}
 use Rattle.columns.specs.declared.rows.Kind.{Kind}
-use Rattle.columns.proofs.Tests.{and-left, and-right}
-use Rattle.columns.proofs.Lists.{tabulate-ext}
+use Rattle.lists.proofs.Tests.{and-left, and-right}
+use Rattle.lists.proofs.Lists.{tabulate-ext}
 use Rattle.columns.proofs.RowLaws.{length-rows, rows-getD}
 use Rattle.rules.specs.Entries.{Exporter, Object, Interface, PingSet, Entries, withClock, withNext, withExporters, withObjects, withInterfaces, withSets}
 use Rattle.table.specs.View.{exporterKind, objectKind, interfaceKind, setKind, exporterCount, listAt, asExporter, asSet, exportersOf, objectsOf, interfacesOf, setsOf, memory, view}

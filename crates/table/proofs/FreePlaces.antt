@@ -10,7 +10,7 @@ use Rattle.fields.specs.Fields.{field}
 use Rattle.bindings.specs.Bindings.{listLength}
 use Rattle.columns.specs.Rows.{cell, rows}
 use Rattle.columns.specs.declared.rows.Kind.{Kind}
-use Rattle.columns.proofs.Lists.{tabulate-ext}
+use Rattle.lists.proofs.Lists.{tabulate-ext}
 use Rattle.columns.proofs.RowLaws.{row-same, rows-free}
 use Rattle.rules.specs.Entries.{Object}
 use Rattle.rules.specs.Contract as contract

@@ -7,11 +7,12 @@ use borrow.Author.Tests.{not-true, not-false}
 use lib.Dec.{eqb}
 use lib.ListN.{take, drop}
 use Rattle.kinds.specs.declared.Guid.{Guid}
-use Rattle.columns.specs.Lists.{every, distinct, apart, among, holding}
-use Rattle.columns.specs.Guids.{nil, sameGuid, guids}
-use Rattle.columns.proofs.Tests.{holding-fails, holding-passes, holding-last}
-use Rattle.columns.proofs.Lists.{every-map, every-ext, every-append, some-map}
-use Rattle.columns.proofs.Distinct.{distinct-append}
+use Rattle.lists.specs.Lists.{every, distinct, apart, among, holding}
+use Rattle.lists.specs.Guids.{nil, sameGuid}
+use Rattle.columns.specs.Guids.{guids}
+use Rattle.lists.proofs.Tests.{holding-fails, holding-passes, holding-last}
+use Rattle.lists.proofs.Lists.{every-map, every-ext, every-append, some-map}
+use Rattle.lists.proofs.Distinct.{distinct-append}
 use Rattle.rules.specs.Entries.{Entries, Object, Interface}
 use Rattle.rules.specs.Sound.{properGuids, objectsHaveInterfaces}
 

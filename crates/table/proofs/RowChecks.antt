@@ -11,13 +11,13 @@ use lib.ListN.{length, getD, take, drop, length-take, take-append-drop, length-m
 use Rattle.kinds.proofs.Refusing.{same-test}
 use Rattle.bindings.specs.Bindings.{listLength, frontAnswer, listAnswer}
 use Rattle.bindings.proofs.Laws.{front-list, list-front}
-use Rattle.columns.specs.Lists.{every, among, tabulate}
+use Rattle.lists.specs.Lists.{every, among, tabulate}
 use Rattle.columns.specs.Rows.{rowAt, rows}
 use Rattle.columns.specs.Members.{memberRows}
 use Rattle.columns.specs.declared.rows.Kind.{Kind}
-use Rattle.columns.proofs.Tests.{below-or-not, and-intro, and-left}
-use Rattle.columns.proofs.Lists.{every-at, every-map, every-ext, map-tabulate, tabulate-ext, none-some}
-use Rattle.columns.proofs.Distinct.{eqb-decides, same-comm, some-same}
+use Rattle.lists.proofs.Tests.{below-or-not, and-intro, and-left}
+use Rattle.lists.proofs.Lists.{every-at, every-map, every-ext, map-tabulate, tabulate-ext, none-some}
+use Rattle.lists.proofs.Distinct.{eqb-decides, same-comm, some-same}
 use Rattle.columns.proofs.Loops.{table-step, table-end, every-passes, every-fails, every-end}
 use Rattle.columns.proofs.RowLaws.{rowAt-getD, length-rows}
 use Rattle.rules.specs.Entries.{Exporter, Object, oids}

@@ -7,13 +7,13 @@ use native.Mathlib.Omega.{arith}
 use borrow.Author.Tests.{ltb-true}
 use lib.ListN.{length, getD, length-map}
 use lib.Dec.{eqb, ltb}
-use Rattle.columns.specs.Lists.{keep, every, distinct, tabulate}
+use Rattle.lists.specs.Lists.{keep, every, distinct, tabulate}
 use Rattle.columns.specs.Members.{isMember, memberRows}
-use Rattle.columns.proofs.Lists.{every-at, every-at-or, map-tabulate, tabulate-getD}
-use Rattle.columns.proofs.Distinct.{part-keep}
+use Rattle.lists.proofs.Lists.{every-at, every-at-or, map-tabulate, tabulate-getD}
+use Rattle.lists.proofs.Distinct.{part-keep}
 use Rattle.columns.proofs.Bits.{members-below}
 use Rattle.columns.proofs.Ones.{members-ones}
-use Rattle.columns.proofs.Tests.{and-left}
+use Rattle.lists.proofs.Tests.{and-left}
 use Rattle.rules.specs.Entries.{PingSet}
 use Rattle.rules.specs.Rules.{noSet, setOf}
 use Rattle.rules.specs.Contract.{Memory}

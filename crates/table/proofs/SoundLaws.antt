@@ -6,7 +6,7 @@ use mathlib.Core.List.{List, [], _∷_}
 use lib.Dec.{eqb}
 use lib.ListN.{length}
 use Rattle.kinds.proofs.Refusing.{same-test}
-use Rattle.columns.specs.Lists.{holding}
+use Rattle.lists.specs.Lists.{holding}
 use Rattle.rules.specs.Entries.{Entries}
 use Rattle.rules.specs.Sound.{sound}
 use Rattle.rules.specs.Contract as contract

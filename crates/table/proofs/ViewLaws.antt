@@ -8,7 +8,7 @@ use Rattle.kinds.specs.declared.Guid.{Guid}
 use Rattle.columns.specs.Guids.{guids}
 use Rattle.columns.specs.Rows.{cell, rowAt, rows, after}
 use Rattle.columns.specs.declared.rows.Kind.{Kind}
-use Rattle.columns.proofs.Lists.{map-map, map-ext, map-tabulate, tabulate-ext, tabulate-part}
+use Rattle.lists.proofs.Lists.{map-map, map-ext, map-tabulate, tabulate-ext, tabulate-part}
 use Rattle.columns.proofs.Guids.{guids-tabulate}
 use Rattle.columns.proofs.RowLaws.{column-below, column-of-rows, rowAt-getD}
 use Rattle.rules.specs.Entries.{Exporter, Object, Interface, PingSet}

@@ -6,7 +6,7 @@ use mathlib.Core.List.{List, [], _∷_, _++_, map}
 use mathlib.Core.Logic.{_⊎_}
 use lib.ListN.{length, getD, set}
 use lib.Dec.{eqb, ltb}
-use Rattle.columns.specs.Lists.{every, keep, deleteAt}
+use Rattle.lists.specs.Lists.{every, keep, deleteAt}
 use Rattle.columns.specs.Rows.{rows, after}
 use Rattle.columns.specs.Members.{memberRows, Cut}
 use Rattle.columns.specs.declared.members.Members.{Members}

@@ -6,7 +6,7 @@ use mathlib.Core.List.{List, map}
 use lib.ListN.{getD, take, drop}
 use lib.Dec.{eqb}
 use Rattle.bindings.specs.Bindings.{listLength}
-use Rattle.columns.specs.Lists.{tabulate}
+use Rattle.lists.specs.Lists.{tabulate}
 use Rattle.columns.specs.Rows.{rowAt, rows}
 use Rattle.columns.specs.Members.{memberRows}
 use Rattle.columns.specs.declared.rows.Kind.{Kind}

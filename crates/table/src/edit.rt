@@ -10,7 +10,7 @@ ghost use mathlib.Core.List.{List, map};
 ghost use Prim.Native.Nat.{_-_, _^_, _<_, _≤_};
 ghost use lib.ListN.{length, getD};
 ghost use lib.Dec.{eqb};
-ghost use Rattle.columns.specs.Lists.{distinct};
+ghost use Rattle.lists.specs.Lists.{distinct};
 ghost use Rattle.columns.specs.Rows.{after};
 ghost use Rattle.columns.specs.Members.{memberRows};
 ghost use Rattle.bindings.specs.Bindings.{listAnswer};

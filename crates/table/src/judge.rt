@@ -6,7 +6,7 @@ ghost use mathlib.Core.Bool.{true};
 ghost use mathlib.Core.List.{List};
 ghost use Prim.Native.Nat.{ℕ};
 ghost use lib.ListN.{length};
-ghost use Rattle.columns.specs.Lists.{holding};
+ghost use Rattle.lists.specs.Lists.{holding};
 ghost use Rattle.rules.specs.Entries.{oids, ipids};
 ghost use Rattle.rules.specs.Sound.{proper, properGuids, interfacesHeld, membersLive, heardRecently, listsKept};
 ghost use Rattle.table.specs.View.{memory, view, soundMemory};

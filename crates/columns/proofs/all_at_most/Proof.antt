@@ -5,7 +5,7 @@ use borrow.Author.Needs.{needs}
 use borrow.Author.Tests.{lt-leb, le-leb}
 use lib.Dec.{leb}
 use lib.ListN.{length, drop}
-use Rattle.columns.specs.Lists.{every}
+use Rattle.lists.specs.Lists.{every}
 use Rattle.columns.proofs.Loops.{column-step, column-end, every-passes, every-fails, every-end}
 use Rattle.columns.proofs.all_at_most.Statement.{statement}
 use Rattle.columns.proofs.all_at_most.Tie as tie

@@ -8,9 +8,9 @@ use borrow.Author.Needs.{needs}
 use borrow.Author.Tests.{ne-eqb, lt-ltb, le-ltb, le-leb, lt-leb}
 use lib.Dec.{eqb, ltb, leb}
 use lib.ListN.{length}
-use Rattle.columns.specs.Lists.{every}
-use Rattle.columns.proofs.Tests.{below-or-not}
-use Rattle.columns.proofs.Lists.{every-ext}
+use Rattle.lists.specs.Lists.{every}
+use Rattle.lists.proofs.Tests.{below-or-not}
+use Rattle.lists.proofs.Lists.{every-ext}
 use Rattle.columns.proofs.all_below.Statement.{statement}
 use Rattle.columns.proofs.all_below.Tie as tie
 

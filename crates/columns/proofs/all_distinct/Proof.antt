@@ -7,9 +7,9 @@ use native.Mathlib.Omega.{arith}
 use borrow.Author.Needs.{needs}
 use lib.Dec.{eqb}
 use lib.ListN.{length, drop, getD, length-replicate}
-use Rattle.columns.specs.Lists.{some}
+use Rattle.lists.specs.Lists.{some}
 use Rattle.columns.specs.Buckets.{wordBucket}
-use Rattle.columns.proofs.Distinct.{eqb-decides}
+use Rattle.lists.proofs.Distinct.{eqb-decides}
 use Rattle.columns.proofs.Marks.{Passed, passed-none, passed-one, repeated, unmarked}
 use Rattle.columns.proofs.Loops.{last-step, column-end, tail-part, told}
 use Rattle.columns.proofs.all_distinct.Statement.{statement}

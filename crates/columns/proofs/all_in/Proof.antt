@@ -4,7 +4,7 @@ use mathlib.Core.Path.{_≡_, refl, sym, _∙_}
 use borrow.Author.Needs.{needs}
 use lib.ListN.{length, drop}
 use borrow.Author.Tests.{not-true, not-false}
-use Rattle.columns.specs.Lists.{every, among}
+use Rattle.lists.specs.Lists.{every, among}
 use Rattle.columns.proofs.Loops.{column-step, column-end, every-passes, every-fails, every-end}
 use Rattle.columns.proofs.all_in.Statement.{statement}
 use Rattle.columns.proofs.all_in.Tie as tie

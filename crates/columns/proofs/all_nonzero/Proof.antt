@@ -6,7 +6,7 @@ use borrow.Author.Needs.{needs}
 use borrow.Author.Tests.{eq-eqb, ne-eqb}
 use lib.Dec.{eqb}
 use lib.ListN.{length, drop}
-use Rattle.columns.specs.Lists.{every}
+use Rattle.lists.specs.Lists.{every}
 use Rattle.columns.proofs.Loops.{column-step, column-end, every-passes, every-fails, every-end}
 use Rattle.columns.proofs.all_nonzero.Statement.{statement}
 use Rattle.columns.proofs.all_nonzero.Tie as tie

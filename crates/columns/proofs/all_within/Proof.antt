@@ -6,7 +6,7 @@ use lib.ListN.{length, drop}
 use borrow.Author.Tests.{not-true, not-false}
 use mathlib.Core.Bool.{not}
 use lib.Dec.{leb}
-use Rattle.columns.specs.Lists.{every}
+use Rattle.lists.specs.Lists.{every}
 use Rattle.columns.proofs.Loops.{column-step, column-end, every-passes, every-fails, every-end}
 use Rattle.columns.proofs.all_within.Statement.{statement}
 use Rattle.columns.proofs.all_within.Tie as tie

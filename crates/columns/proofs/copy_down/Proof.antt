@@ -6,7 +6,7 @@ use borrow.Author.Needs.{needs}
 use borrow.Author.Tests.{lt-leb}
 use lib.ListN.{length, drop, length-set}
 use lib.Seq.{paste, paste-zero}
-use Rattle.columns.specs.Lists.{copiedDown}
+use Rattle.columns.specs.Moved.{copiedDown}
 use Rattle.columns.proofs.Moves.{move-step, move-copied, short-copied}
 use Rattle.columns.proofs.copy_down.Statement.{statement}
 use Rattle.columns.proofs.copy_down.Tie as tie

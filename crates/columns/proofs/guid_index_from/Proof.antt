@@ -3,8 +3,9 @@ use Prim.Native.Nat.{_-_, _+_}
 use mathlib.Core.Path.{_≡_, refl}
 use borrow.Author.Needs.{needs}
 use lib.ListN.{length, drop}
-use Rattle.columns.specs.Lists.{firstIndex}
-use Rattle.columns.specs.Guids.{sameGuid, guidAt, guids}
+use Rattle.lists.specs.Lists.{firstIndex}
+use Rattle.lists.specs.Guids.{sameGuid}
+use Rattle.columns.specs.Guids.{guidAt, guids}
 use Rattle.columns.proofs.Loops.{first-found, first-passed, first-end, told}
 use Rattle.columns.proofs.Guids.{guids-step, guids-end}
 use Rattle.columns.proofs.guid_index_from.Statement.{statement}

@@ -6,11 +6,13 @@ use mathlib.Core.Logic.{⊎-elim}
 use borrow.Author.Needs.{needs}
 use lib.ListN.{length, drop, length-replicate}
 use Rattle.kinds.specs.declared.Guid.{Guid}
-use Rattle.columns.specs.Lists.{some, apart}
-use Rattle.columns.specs.Guids.{sameGuid, guids}
+use Rattle.lists.specs.Lists.{some, apart}
+use Rattle.lists.specs.Guids.{sameGuid}
+use Rattle.columns.specs.Guids.{guids}
 use Rattle.columns.specs.Buckets.{guidBucket}
 use Rattle.columns.proofs.Loops.{every-passes, every-fails, every-end, told}
-use Rattle.columns.proofs.Guids.{guids-step, guids-end, guid-decides}
+use Rattle.lists.proofs.Guids.{guid-decides}
+use Rattle.columns.proofs.Guids.{guids-step, guids-end}
 use Rattle.columns.proofs.Marks.{unmarked}
 use Rattle.columns.proofs.guids_apart.Statement.{statement}
 use Rattle.columns.proofs.guids_apart.Tie as tie

@@ -6,10 +6,12 @@ use mathlib.Core.Logic.{⊎-elim}
 use native.Mathlib.Omega.{arith}
 use borrow.Author.Needs.{needs}
 use lib.ListN.{length, drop, length-replicate}
-use Rattle.columns.specs.Guids.{sameGuid, guids}
+use Rattle.lists.specs.Guids.{sameGuid}
+use Rattle.columns.specs.Guids.{guids}
 use Rattle.columns.specs.Buckets.{guidBucket}
 use Rattle.columns.proofs.Marks.{Passed, passed-none, passed-one, repeated, unmarked}
-use Rattle.columns.proofs.Guids.{guids-last, guids-end, guid-decides}
+use Rattle.lists.proofs.Guids.{guid-decides}
+use Rattle.columns.proofs.Guids.{guids-last, guids-end}
 use Rattle.columns.proofs.guids_distinct.Statement.{statement}
 use Rattle.columns.proofs.guids_distinct.Tie as tie
 

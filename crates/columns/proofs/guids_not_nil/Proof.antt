@@ -4,11 +4,13 @@ use mathlib.Core.Path.{_≡_, refl, ap, _∙_}
 use borrow.Author.Needs.{needs}
 use lib.ListN.{length, drop}
 use mathlib.Core.Bool.{Bool, not}
-use Rattle.columns.specs.Lists.{every}
-use Rattle.columns.specs.Guids.{nil, sameGuid, guidAt, guids}
-use Rattle.columns.proofs.Distinct.{same-comm}
+use Rattle.lists.specs.Lists.{every}
+use Rattle.lists.specs.Guids.{nil, sameGuid}
+use Rattle.columns.specs.Guids.{guidAt, guids}
+use Rattle.lists.proofs.Distinct.{same-comm}
 use Rattle.columns.proofs.Loops.{every-passes, every-fails, every-end, told}
-use Rattle.columns.proofs.Guids.{guids-step, guids-end, guid-decides}
+use Rattle.lists.proofs.Guids.{guid-decides}
+use Rattle.columns.proofs.Guids.{guids-step, guids-end}
 use Rattle.columns.proofs.guids_not_nil.Statement.{statement}
 use Rattle.columns.proofs.guids_not_nil.Tie as tie
 

@@ -4,7 +4,7 @@ use mathlib.Core.Path.{ap, _∙_}
 use borrow.Author.Needs.{needs}
 use lib.Dec.{ltb, eqb}
 use lib.ListN.{length}
-use Rattle.columns.proofs.First.{some-first}
+use Rattle.lists.proofs.First.{some-first}
 use Rattle.columns.proofs.has.Statement.{statement}
 use Rattle.columns.proofs.has.Tie as tie
 

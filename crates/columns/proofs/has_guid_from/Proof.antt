@@ -1,7 +1,8 @@
 -- `columns::has_guid_from`: the search ends before the end where g is there.
 use borrow.Author.Needs.{needs}
 use lib.ListN.{length}
-use Rattle.columns.specs.Guids.{sameGuid, guids}
+use Rattle.lists.specs.Guids.{sameGuid}
+use Rattle.columns.specs.Guids.{guids}
 use Rattle.columns.proofs.Loops.{some-from}
 use Rattle.columns.proofs.Guids.{length-guids}
 use Rattle.columns.proofs.has_guid_from.Statement.{statement}

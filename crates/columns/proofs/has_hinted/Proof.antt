@@ -2,7 +2,7 @@
 use mathlib.Core.Path.{sym}
 use borrow.Author.Tests.{eq-eqb}
 use lib.Dec.{eqb}
-use Rattle.columns.proofs.Lists.{some-at}
+use Rattle.lists.proofs.Lists.{some-at}
 use borrow.Author.Needs.{needs}
 use Rattle.columns.proofs.has_hinted.Statement.{statement}
 use Rattle.columns.proofs.has_hinted.Tie as tie

@@ -5,7 +5,7 @@ use borrow.Author.Needs.{needs}
 use borrow.Author.Tests.{eq-eqb, ne-eqb}
 use lib.Dec.{eqb}
 use lib.ListN.{length, drop}
-use Rattle.columns.specs.Lists.{firstIndex}
+use Rattle.lists.specs.Lists.{firstIndex}
 use Rattle.columns.proofs.Loops.{column-step, column-end, first-found, first-passed, first-end}
 use Rattle.columns.proofs.index_of.Statement.{statement}
 use Rattle.columns.proofs.index_of.Tie as tie

@@ -4,7 +4,7 @@ use mathlib.Core.Path.{_≡_, ap, _∙_}
 use mathlib.Core.Bool.{not}
 use native.Mathlib.Omega.{arith}
 use lib.Dec.{leb}
-use Rattle.columns.proofs.Tests.{ltb-not}
+use Rattle.lists.proofs.Tests.{ltb-not}
 use Rattle.columns.proofs.is_within.Statement.{statement}
 use Rattle.columns.proofs.is_within.Tie as tie
 

@@ -6,7 +6,7 @@ use borrow.Author.Needs.{needs}
 use borrow.Author.Tests.{le-ltb}
 use lib.ListN.{length, drop, length-set}
 use lib.Seq.{paste, paste-zero}
-use Rattle.columns.specs.Lists.{removedAt}
+use Rattle.columns.specs.Moved.{removedAt}
 use Rattle.columns.proofs.Moves.{move-step, move-removed}
 use Rattle.columns.proofs.remove_at.Statement.{statement}
 use Rattle.columns.proofs.remove_at.Tie as tie

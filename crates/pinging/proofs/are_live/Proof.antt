@@ -2,7 +2,7 @@
 use Prim.Native.Nat.{ℕ}
 use mathlib.Core.Path.{ap, _∙_}
 use mathlib.Core.List.{List}
-use Rattle.columns.specs.Lists.{every, among}
+use Rattle.lists.specs.Lists.{every, among}
 use Rattle.table.proofs.Judging.{column-read}
 use Rattle.table.proofs.ViewLaws.{oids-column}
 use borrow.Author.Needs.{needs}

@@ -8,7 +8,7 @@ use borrow.Author.Needs.{needs}
 use Rattle.rules.specs.Entries.{Entries}
 use Rattle.table.specs.View.{objectCount, memory, view}
 use Rattle.table.proofs.Entries.{objects-length}
-use Rattle.columns.proofs.Lists.{length-tabulate}
+use Rattle.lists.proofs.Lists.{length-tabulate}
 use Rattle.columns.specs.declared.members.Members.{Members}
 use Rattle.pinging.specs.Pinging.{heardRow}
 use Rattle.pinging.proofs.Hearing.{heardFrom, heard-none, heard-row, heard-all}

@@ -6,7 +6,7 @@ use native.Mathlib.Omega.{arith}
 use mathlib.Core.Bool.{true}
 use lib.Dec.{eqb}
 use lib.ListN.{length}
-use Rattle.columns.specs.Lists.{distinct}
+use Rattle.lists.specs.Lists.{distinct}
 use Rattle.rules.specs.Entries.{Entries, oids}
 use Rattle.table.specs.Edits.{membersBelow}
 use borrow.Author.Needs.{needs}

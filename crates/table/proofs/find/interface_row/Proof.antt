@@ -1,7 +1,7 @@
 -- `find::interface_row`: the IPIDs of the interfaces are two columns.
 use mathlib.Core.Path.{ap, _∙_}
-use Rattle.columns.specs.Lists.{firstIndex}
-use Rattle.columns.specs.Guids.{sameGuid}
+use Rattle.lists.specs.Lists.{firstIndex}
+use Rattle.lists.specs.Guids.{sameGuid}
 use Rattle.table.proofs.Judging.{guids-read}
 use Rattle.table.proofs.ViewLaws.{ipids-columns}
 use borrow.Author.Needs.{needs}

@@ -2,9 +2,9 @@
 use mathlib.Core.Path.{_≡_, sym, ap, _∙_}
 use mathlib.Core.Bool.{true, false}
 use mathlib.Core.List.{map}
-use Rattle.columns.specs.Lists.{some}
-use Rattle.columns.specs.Guids.{sameGuid}
-use Rattle.columns.proofs.Lists.{some-append}
+use Rattle.lists.specs.Lists.{some}
+use Rattle.lists.specs.Guids.{sameGuid}
+use Rattle.lists.proofs.Lists.{some-append}
 use Rattle.rules.specs.Entries.{Exporter}
 use Rattle.table.specs.View.{exportersOf}
 use Rattle.table.proofs.Judging.{guids-read}

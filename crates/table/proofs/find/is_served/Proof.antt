@@ -3,8 +3,8 @@ use Prim.Native.Nat.{ℕ}
 use mathlib.Core.Path.{ap, _∙_}
 use mathlib.Core.List.{List}
 use lib.Dec.{eqb}
-use Rattle.columns.specs.Lists.{among}
-use Rattle.columns.proofs.Lists.{some-map}
+use Rattle.lists.specs.Lists.{among}
+use Rattle.lists.proofs.Lists.{some-map}
 use Rattle.rules.specs.Entries.{Interface}
 use Rattle.table.specs.View.{interfacesOf}
 use Rattle.table.proofs.Judging.{column-read}

@@ -1,7 +1,7 @@
 -- `find::set_row`: the identifiers are a column.
 use mathlib.Core.Path.{ap, _∙_}
 use lib.Dec.{eqb}
-use Rattle.columns.specs.Lists.{firstIndex}
+use Rattle.lists.specs.Lists.{firstIndex}
 use Rattle.table.proofs.Judging.{column-read}
 use Rattle.table.proofs.ViewLaws.{set-numbers-column}
 use borrow.Author.Needs.{needs}

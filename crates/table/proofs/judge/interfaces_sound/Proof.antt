@@ -3,7 +3,7 @@ use Prim.Native.Nat.{ℕ}
 use mathlib.Core.Path.{_≡_, refl}
 use mathlib.Core.List.{List}
 use lib.ListN.{drop}
-use Rattle.columns.specs.Lists.{holding}
+use Rattle.lists.specs.Lists.{holding}
 use Rattle.rules.specs.Entries.{Entries}
 use Rattle.rules.specs.Sound.{interfaceObjectsLive}
 use Rattle.table.specs.Clauses.{interfaceClauses}

@@ -5,8 +5,9 @@ use mathlib.Core.Bool.{not}
 use mathlib.Core.List.{List, map}
 use lib.ListN.{drop}
 use Rattle.kinds.specs.declared.Guid.{Guid}
-use Rattle.columns.specs.Lists.{every, distinct, apart, holding}
-use Rattle.columns.specs.Guids.{nil, sameGuid, guids}
+use Rattle.lists.specs.Lists.{every, distinct, apart, holding}
+use Rattle.lists.specs.Guids.{nil, sameGuid}
+use Rattle.columns.specs.Guids.{guids}
 use Rattle.rules.specs.Entries.{Entries, Exporter, ipids, interfaceIpids}
 use Rattle.rules.specs.Sound.{properGuids}
 use Rattle.table.specs.View.{memory, view}

@@ -4,7 +4,7 @@ use mathlib.Core.Path.{_≡_, refl, ap, _∙_}
 use mathlib.Core.List.{List}
 use lib.Dec.{leb}
 use lib.ListN.{drop}
-use Rattle.columns.specs.Lists.{holding}
+use Rattle.lists.specs.Lists.{holding}
 use Rattle.rules.specs.Entries.{Entries, oids}
 use Rattle.rules.specs.Sound.{proper, objectExportersLive, objectsHaveInterfaces, heardBefore}
 use Rattle.table.specs.Clauses.{objectClauses}

@@ -6,8 +6,8 @@ use mathlib.Core.List.{List, map}
 use borrow.Author.Tests.{eq-eqb, ne-eqb}
 use lib.Dec.{leb, ltb}
 use lib.ListN.{drop}
-use Rattle.columns.specs.Lists.{every, holding}
-use Rattle.columns.proofs.Tests.{holding-fails, holding-passes}
+use Rattle.lists.specs.Lists.{every, holding}
+use Rattle.lists.proofs.Tests.{holding-fails, holding-passes}
 use Rattle.rules.specs.Entries.{Entries, PingSet, setNumbers}
 use Rattle.rules.specs.Sound.{proper, overdue, pingedBefore, pingedRecently, setsBelowNext}
 use Rattle.table.specs.Clauses.{setClauses}

@@ -3,8 +3,8 @@ use Prim.Native.Nat.{ℕ}
 use mathlib.Core.Path.{_≡_, sym, _∙_}
 use borrow.Author.Tests.{eq-eqb, ne-eqb, not-false}
 use lib.ListN.{drop}
-use Rattle.columns.specs.Lists.{holding}
-use Rattle.columns.proofs.Tests.{holding-fails, holding-passes, holding-head}
+use Rattle.lists.specs.Lists.{holding}
+use Rattle.lists.proofs.Tests.{holding-fails, holding-passes, holding-head}
 use Rattle.table.specs.View.{memory, soundMemory}
 use Rattle.table.proofs.Judging.{judged-fails, judged-passes, judged-last}
 use Rattle.table.proofs.SoundLaws.{memoryClauses, memory-groups}

@@ -9,10 +9,10 @@ use borrow.Author.Tests.{eq-eqb, ne-eqb, eqb-true, not-true}
 use lib.ListN.{getD, length, set, length-map}
 use lib.Dec.{eqb}
 use Rattle.kinds.proofs.Refusing.{same-test, or-false}
-use Rattle.columns.specs.Lists.{apart, keep, some, every, firstIndex, distinct, deleteAt, skip}
-use Rattle.columns.proofs.Tests.{true-or-false, same-or-not, and-intro, and-left, and-right}
-use Rattle.columns.proofs.First.{first-at, first-only}
-use Rattle.columns.proofs.Lists.{every-append, every-map, every-mono, every-kept, every-ext, some-cons, some-snoc, some-at, some-map, some-append, some-one, some-none, none-some, some-kept-none, some-delete, some-kept, keep-map, keep-passes, getD-map, map-only, delete-keep, some-delete-none, length-delete, getD-delete, skip-not, skip-lt, every-from-at}
+use Rattle.lists.specs.Lists.{apart, keep, some, every, firstIndex, distinct, deleteAt, skip}
+use Rattle.lists.proofs.Tests.{true-or-false, same-or-not, and-intro, and-left, and-right}
+use Rattle.lists.proofs.First.{first-at, first-only}
+use Rattle.lists.proofs.Lists.{every-append, every-map, every-mono, every-kept, every-ext, some-cons, some-snoc, some-at, some-map, some-append, some-one, some-none, none-some, some-kept-none, some-delete, some-kept, keep-map, keep-passes, getD-map, map-only, delete-keep, some-delete-none, length-delete, getD-delete, skip-not, skip-lt, every-from-at}
 
 -- ---- tests that decide equality
 

@@ -8,7 +8,7 @@ use native.Mathlib.Omega.{arith}
 use borrow.Author.Tests.{eqb-true, eqb-false, ltb-true, ltb-false, lt-ltb, le-ltb, lt-leb, le-leb}
 use lib.Dec.{eqb, ltb, leb}
 use Rattle.kinds.proofs.Refusing.{or-false}
-use Rattle.columns.specs.Lists.{holding}
+use Rattle.lists.specs.Lists.{holding}
 
 -- ---- cases
 

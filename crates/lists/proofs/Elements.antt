@@ -4,10 +4,10 @@ use mathlib.Core.Bool.{Bool, true, false, cond, not, _&&_, and-true, or-true, tr
 use mathlib.Core.List.{List, [], _∷_, _++_, map, List·Memᴰ, List·Memᴰ·head, List·Memᴰ·tail, List·Memᴰ·not-nil, List·Memᴰ·eq-of-singleton, List·Memᴰ·append-cases, Memᴰ·append-right, Memᴰ·map, Memᴰ·of-map}
 use mathlib.Core.Logic.{_⊎_, inl, inr, ⊎-elim}
 use lib.ListN.{length}
-use Rattle.columns.specs.Lists.{keep, some, every, firstOr, distinct}
-use Rattle.columns.proofs.Tests.{true-or-false, and-intro, and-left, and-right, or-cases}
-use Rattle.columns.proofs.Lists.{some-map, none-some, keep-all, keep-none, map-map}
-use Rattle.columns.proofs.Distinct.{Decides, same-eq, distinct-head, distinct-tail}
+use Rattle.lists.specs.Lists.{keep, some, every, firstOr, distinct}
+use Rattle.lists.proofs.Tests.{true-or-false, and-intro, and-left, and-right, or-cases}
+use Rattle.lists.proofs.Lists.{some-map, none-some, keep-all, keep-none, map-map}
+use Rattle.lists.proofs.Distinct.{Decides, same-eq, distinct-head, distinct-tail}
 use Rattle.kinds.proofs.Refusing.{same-test}
 
 -- x is an element of xs

@@ -9,8 +9,8 @@ use borrow.Author.Tests.{lt-ltb, le-ltb, not-true, not-false}
 use lib.ListN.{getD, length, take, drop, set, length-drop, length-map}
 use lib.Seq.{take-nil, ext-getD, length-take-le, getD-take, getD-drop}
 use Rattle.kinds.proofs.Refusing.{by-test}
-use Rattle.columns.specs.Lists.{keep, some, every, tabulate, deleteAt, skip}
-use Rattle.columns.proofs.Tests.{true-or-false, below-or-not, and-intro, and-left, and-right, or-cases, or-left, or-right}
+use Rattle.lists.specs.Lists.{keep, some, every, tabulate, deleteAt, skip}
+use Rattle.lists.proofs.Tests.{true-or-false, below-or-not, and-intro, and-left, and-right, or-cases, or-left, or-right}
 
 -- ---- every
 

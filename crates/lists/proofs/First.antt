@@ -9,8 +9,8 @@ use native.Mathlib.Nat.{zero-add}
 use borrow.Author.Tests.{lt-ltb}
 use lib.ListN.{getD, length, length-map}
 use lib.Dec.{ltb, leb·suc-suc}
-use Rattle.columns.specs.Lists.{some, firstOr, firstIndex}
-use Rattle.columns.proofs.Tests.{true-or-false, below-or-not, or-left, or-right}
+use Rattle.lists.specs.Lists.{some, firstOr, firstIndex}
+use Rattle.lists.proofs.Tests.{true-or-false, below-or-not, or-left, or-right}
 
 module _ {A : Type 0} (p : A → Bool) where
   -- of no elements

@@ -1,9 +1,8 @@
 -- What contracts and rules say of lists: filters, tests of every and of some element, the first that passes a test, tables of a function.
-use Prim.Native.Nat.{ℕ, zero, suc, _+_, _-_}
+use Prim.Native.Nat.{ℕ, zero, suc}
 use mathlib.Core.Bool.{Bool, true, false, cond, not, _&&_, _||_}
-use mathlib.Core.List.{List, [], _∷_, _++_}
-use lib.ListN.{length, getD, take, drop}
-use lib.Dec.{eqb, ltb, leb}
+use mathlib.Core.List.{List, [], _∷_}
+use lib.Dec.{eqb, ltb}
 
 module _ {A : Type 0} where
   unfoldable pub keep : (A → Bool) → List A → List A
@@ -59,12 +58,3 @@ holding (b ∷ bs) = b && holding bs
 -- the index that stands at j once index k is taken out
 abbrev pub skip : ℕ → ℕ → ℕ
 skip k j = cond (ltb j k) j (suc j)
-
--- a column without the word at k: the later words move down by one, and the last stays
-unfoldable pub removedAt : ℕ → List ℕ → List ℕ
-removedAt k col = cond (ltb k (length col)) (deleteAt k col ++ (getD col (length col - 1) 0 ∷ [])) col
-
--- n bytes copied from a place to an earlier one; unchanged where the places are not in that order, or the bytes are not all there
-unfoldable pub copiedDown : ℕ → ℕ → ℕ → List ℕ → List ℕ
-copiedDown from to n s =
-    cond (leb to from && leb (from + n) (length s)) (take to s ++ (take n (drop from s) ++ drop (to + n) s)) s

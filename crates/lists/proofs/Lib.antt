@@ -1,0 +1,6 @@
+pub mod Tests
+pub mod Lists
+pub mod First
+pub mod Distinct
+pub mod Elements
+pub mod Guids
