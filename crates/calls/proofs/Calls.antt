@@ -21,8 +21,8 @@ use Rattle.rules.proofs.SoundLaws.{sound-fields, table-fields}
 use Rattle.rules.proofs.ByRow.{exporterRow, objectRow, interfaceRow, setRow, exporter-live, object-live, interface-live, set-live, exporter-row}
 use Rattle.table.specs.View.{exporterCount, objectCount, interfaceCount, setCount, exportersOf, memory, view, soundMemory, SoundTable, Stepped, Performed}
 use Rattle.table.specs.Edits.{membersBelow}
-use Rattle.table.proofs.EditBelow.{nonzero, live-below}
-use Rattle.table.proofs.Entries.{exporters-length, objects-length, interfaces-length, sets-length}
+use Rattle.table.proofs.edit.Below.{nonzero, live-below}
+use Rattle.table.proofs.LiveRows.{exporters-length, objects-length, interfaces-length, sets-length}
 
 -- ---- calls
 

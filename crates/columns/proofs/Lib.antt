@@ -1,10 +1,3 @@
 pub mod Loops
 pub mod Moves
 pub mod Guids
-pub mod Marks
-pub mod RowLaws
-pub mod RowLoops
-pub mod WordBits
-pub mod Bits
-pub mod Making
-pub mod Ones

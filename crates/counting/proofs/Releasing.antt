@@ -17,7 +17,7 @@ use Rattle.rules.specs.Contract.{Memory}
 use Rattle.rules.proofs.ByRow.{interfaceRow, interfaceIn, lessened, interface-live, release-counted, release-empty, counted-values, empty-values}
 use Rattle.table.specs.View.{interfaceCount, interfacesOf, memory, view, SoundTable, Stepped}
 use Rattle.table.specs.Edits.{changeInterface}
-use Rattle.table.proofs.Entries.{interfaces-length}
+use Rattle.table.proofs.LiveRows.{interfaces-length}
 use Rattle.counting.specs.Dropping.{InterfaceDropped}
 use Rattle.counting.specs.Replies.{releaseReply}
 use Rattle.calls.proofs.Calls.{live-row, refused-step, accepted-step}

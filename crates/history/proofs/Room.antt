@@ -19,7 +19,7 @@ use Rattle.rules.specs.Calls.{Call, reset, enterExporter, removeExporter, enter
 use Rattle.rules.specs.Rules.{refusals, number}
 use Rattle.rules.specs.Contract.{Memory}
 use Rattle.table.specs.View.{view}
-use Rattle.table.proofs.Entries.{exporters-length, objects-length, interfaces-length, sets-length}
+use Rattle.table.proofs.LiveRows.{exporters-length, objects-length, interfaces-length, sets-length}
 use Rattle.history.specs.Runs.{agree, above, needsFullKind, roomExactly}
 
 -- ---- rows of refusals

@@ -16,7 +16,7 @@ use Rattle.rules.proofs.SoundLaws.{sound-fields}
 use Rattle.rules.proofs.Leaving.{staysAt, setStaysAt, clock-next}
 use Rattle.table.specs.View.{objectCount, interfaceCount, setCount, memory, view, SoundTable, Stepped}
 use Rattle.table.specs.Edits.{Became}
-use Rattle.table.proofs.Entries.{objects-length, interfaces-length, sets-length}
+use Rattle.table.proofs.LiveRows.{objects-length, interfaces-length, sets-length}
 use Rattle.settling.specs.Leaving.{settled, setsLeft}
 use Rattle.leaving.specs.Replies.{clockReply}
 use Rattle.settling.specs.declared.Leaving.the-variants.{Unheard}

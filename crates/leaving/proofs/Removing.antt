@@ -14,7 +14,7 @@ use Rattle.rules.specs.Rules.{isLiveExporter, refusals, number, results, refuse
 use Rattle.rules.proofs.ByRow.{exporterRow, exporter-live, remove-exporter-row}
 use Rattle.table.specs.View.{exporterCount, memory, view, SoundTable, Stepped}
 use Rattle.table.specs.Edits.{Became, dropExporter}
-use Rattle.table.proofs.Entries.{exporters-length}
+use Rattle.table.proofs.LiveRows.{exporters-length}
 use Rattle.settling.specs.Leaving.{settled}
 use Rattle.settling.specs.declared.Leaving.{Leaving}
 use Rattle.settling.specs.declared.Leaving.the-variants.{Exported}

@@ -16,7 +16,7 @@ use Rattle.lists.proofs.Tests.{true-or-false, below-or-not, and-left, and-right
 use Rattle.lists.proofs.Lists.{every-at, every-tabulate, some-map, some-keep, some-tabulate, none-some, some-one, some-append, keep-map, keep-ext-on, tabulate-getD, map-tabulate}
 use Rattle.lists.proofs.First.{first-at}
 use Rattle.lists.proofs.Distinct.{eqb-decides, distinct-at, first-same}
-use Rattle.columns.proofs.Bits.{below-holds, members-below}
+use Rattle.columns.proofs.members.Bits.{below-holds, members-below}
 use Rattle.rules.specs.Sound.{proper}
 use Rattle.pinging.specs.Pinging.{Put}
 

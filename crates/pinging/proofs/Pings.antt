@@ -16,7 +16,7 @@ use Rattle.columns.specs.Members.{isMember, memberRows}
 use Rattle.columns.specs.declared.members.Members.{Members}
 use Rattle.lists.proofs.Tests.{true-or-false, and-intro, and-left}
 use Rattle.lists.proofs.Lists.{every-snoc}
-use Rattle.columns.proofs.Bits.{below-none}
+use Rattle.columns.proofs.members.Bits.{below-none}
 use Rattle.rules.specs.Entries.{PingSet, Entries, oids, withSets, withSequence, withMembers}
 use Rattle.rules.specs.Calls.{Call}
 use Rattle.rules.specs.Sound.{proper, membersLive, sound}
@@ -28,10 +28,10 @@ use Rattle.rules.proofs.PingRows.{complex-ping-row, complex-ping-new}
 use Rattle.rules.specs.PingRows.{changeSet, heardNow, pingedRow, updatedRow}
 use Rattle.table.specs.View.{objectCount, setCount, setsOf, memory, view}
 use Rattle.table.specs.Edits.{membersAt, Became}
-use Rattle.table.proofs.Entries.{sets-length}
-use Rattle.table.proofs.EditViews.{oidsOf}
-use Rattle.table.proofs.EditMembers.{oids-length, below-at}
-use Rattle.table.proofs.EditBelow.{nonzero, row-members, live-below}
+use Rattle.table.proofs.LiveRows.{sets-length}
+use Rattle.table.proofs.edit.Views.{oidsOf}
+use Rattle.table.proofs.edit.Members.{oids-length, below-at}
+use Rattle.table.proofs.edit.Below.{nonzero, row-members, live-below}
 use Rattle.pinging.specs.Pinging.{memberOids, withSetMeant, rowMeant, Put}
 use Rattle.calls.proofs.Calls.{row-passes, two-rows}
 use Rattle.pinging.proofs.Memberships.{new-members}

@@ -12,9 +12,10 @@ use Rattle.kinds.proofs.Refusing.{or-false, passed, passed-on}
 use Rattle.bindings.specs.Bindings.{listAnswer}
 use Rattle.lists.specs.Lists.{every, distinct, holding, among}
 use Rattle.rules.specs.Entries.{Entries, fresh, oxids, oids}
-use Rattle.rules.specs.Calls.{Call, reset, enterExporter, removeExporter, enterObject, enterInterface, add, release, simplePing, complexPing, clock, resolve, census, members, nextStop}
+use Rattle.rules.specs.Calls.{reset, enterExporter, removeExporter, enterObject, enterInterface, add, release, simplePing, complexPing, clock, resolve, census, members, nextStop}
 use Rattle.rules.specs.Sound.{longestList, sound}
 use Rattle.rules.specs.Rules.{refusals, number, next}
+use Rattle.rules.specs.Contract.{Keeps}
 use Rattle.rules.proofs.Groups.{Grouped, grouped, sound-grouped}
 use Rattle.rules.proofs.Entering.{exporter-entered, object-entered, interface-entered, counts-added}
 use Rattle.rules.proofs.Leaving.{exporter-removed, clock-set, counts-taken}
@@ -58,7 +59,7 @@ module _ (e : Entries) (g : Grouped e) where
   clock-case t h = clock-set e t g (ltb-false t (e .clock) (passed _ 2 _ (omega arith) h .0))
 
 -- each accepted call leaves sound entries
-pub keeps : (c : Call) (e : Entries) → sound e ≡ true → number c e ≡ 0 → sound (next c e) ≡ true
+pub keeps : Keeps
 unfolding next
 keeps (reset t) e s h = fresh-sound t
 keeps (enterExporter x u b) e s h = sound-grouped _ (exporter-case e (grouped e s) x u b h)

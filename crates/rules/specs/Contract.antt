@@ -8,7 +8,7 @@ use lib.Dec.{eqb}
 use Rattle.rules.specs.Entries.{Entries}
 use Rattle.rules.specs.Calls.{Call, reset, enterExporter, removeExporter, enterObject, enterInterface, add, release, simplePing, complexPing, clock, resolve, census, members, nextStop, Reply}
 use Rattle.rules.specs.Sound.{sound}
-use Rattle.rules.specs.Rules.{next, refused, reply}
+use Rattle.rules.specs.Rules.{number, next, refused, reply}
 
 -- what is lent to every call: the array's words and the store's bytes
 pub record Memory : Type 0 where
@@ -35,6 +35,10 @@ lengthsOnly (resolve x buffer) = false
 lengthsOnly census = false
 lengthsOnly (members s) = false
 lengthsOnly (nextStop r) = false
+
+-- an accepted call leaves sound entries
+abbrev pub Keeps : Type 0
+Keeps = (c : Call) (e : Entries) → sound e ≡ true → number c e ≡ 0 → sound (next c e) ≡ true
 
 -- view decodes the live entries; it is the table's
 module _ (view : Memory → Entries) where

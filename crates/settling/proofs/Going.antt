@@ -24,9 +24,9 @@ use Rattle.rules.proofs.ByRow.{nothing-goes}
 use Rattle.rules.proofs.Leaving.{setStaysAt}
 use Rattle.table.specs.View.{objectCount, setCount, setsOf, memory, view}
 use Rattle.table.specs.Edits.{membersAt, membersBelow, dropObject, dropInterface, dropSet}
-use Rattle.table.proofs.Entries.{sets-length, set-at}
-use Rattle.table.proofs.EditMembers.{oids-length, below-at}
-use Rattle.table.proofs.EditViews.{oidsOf}
+use Rattle.table.proofs.LiveRows.{sets-length, set-at}
+use Rattle.table.proofs.edit.Members.{oids-length, below-at}
+use Rattle.table.proofs.edit.Views.{oidsOf}
 use Rattle.settling.specs.Leaving.{stays, objectsLeft, interfacesLeft, setsLeft, leftAt, interfaceLeftAt, setLeftAt}
 use Rattle.settling.specs.declared.Leaving.{Leaving}
 use Rattle.settling.specs.declared.Leaving.the-variants.{Exported, Unserved, Unheard}

@@ -11,7 +11,7 @@ use Rattle.rules.specs.Sound.{proper, membersLive, sound}
 use Rattle.rules.proofs.SoundLaws.{sound-fields}
 use Rattle.table.specs.View.{memory, view}
 use Rattle.table.specs.Edits.{membersBelow}
-use Rattle.table.proofs.EditBelow.{nonzero, live-below}
+use Rattle.table.proofs.edit.Below.{nonzero, live-below}
 
 module _ (ws s : List ℕ) where
   pub asked : proper (oids (view (memory ws s))) ≡ true → membersLive (view (memory ws s)) ≡ true

@@ -14,8 +14,8 @@ use Rattle.rules.specs.Rules.{noObject, noInterface, noSet, isLiveObject}
 use Rattle.rules.proofs.ByRow.{object-live}
 use Rattle.rules.proofs.Leaving.{setStaysAt}
 use Rattle.table.specs.View.{objectCount, interfaceCount, setCount, objectsOf, interfacesOf, setsOf, memory, view}
-use Rattle.table.proofs.Entries.{objects-length, object-at, interface-at, set-at}
-use Rattle.table.proofs.EditViews.{oidsOf}
+use Rattle.table.proofs.LiveRows.{objects-length, object-at, interface-at, set-at}
+use Rattle.table.proofs.edit.Views.{oidsOf}
 use Rattle.settling.specs.Leaving.{stays}
 use Rattle.settling.specs.declared.Leaving.the-variants.{Exported, Unserved, Unheard}
 use Rattle.calls.proofs.Calls.{live-row}

@@ -1,5 +1,4 @@
--- Free places decide nothing: the live entries are made of words 0 and 1, the numbers of live rows, the words of the live rows and
--- the bytes of the live lists.
+-- Free places decide nothing.
 use Prim.Native.Nat.{ℕ, _<_}
 use mathlib.Core.Path.{_≡_, refl, ap}
 use mathlib.Core.List.{List, map}
@@ -8,36 +7,14 @@ use lib.ListN.{length, getD, take, length-take, length-drop}
 use lib.Seq.{ext-getD, getD-take}
 use Rattle.fields.specs.Fields.{field}
 use Rattle.bindings.specs.Bindings.{listLength}
-use Rattle.columns.specs.Rows.{cell, rows}
+use Rattle.columns.specs.Rows.{rows}
 use Rattle.columns.specs.declared.rows.Kind.{Kind}
 use Rattle.lists.proofs.Lists.{tabulate-ext}
-use Rattle.columns.proofs.RowLaws.{row-same, rows-free}
+use Rattle.columns.proofs.rows.Laws.{row-same, rows-free}
 use Rattle.rules.specs.Entries.{Object}
 use Rattle.rules.specs.Contract as contract
-use Rattle.table.specs.View.{exporterKind, objectKind, interfaceKind, setKind, exporterCount, objectCount, interfaceCount, setCount, slot, asObject, asInterface, asSet, exportersOf, objectsOf, interfacesOf, setsOf, memory, view, soundMemory}
-
--- the words of the first n rows of a kind are the same
-abbrev pub SameRows : Kind → ℕ → List ℕ → List ℕ → Type 0
-SameRows k n ws ws′ = (j i : ℕ) → j < k .width → i < n → getD ws′ (cell k j i) 0 ≡ getD ws (cell k j i) 0
-
--- the bytes of the list at the front of s are the same in s′
-abbrev pub SameList : List ℕ → List ℕ → Type 0
-SameList s s′ = (x : ℕ) → x < listLength s → getD s′ x 0 ≡ getD s x 0
-
--- two tables that agree on every live place
-pub record SameLive (ws store ws′ store′ : List ℕ) : Type 0 where
-  pub clock : getD ws′ 0 0 ≡ getD ws 0 0
-  pub next : getD ws′ 1 0 ≡ getD ws 1 0
-  pub exporterCounts : exporterCount ws′ ≡ exporterCount ws
-  pub objectCounts : objectCount ws′ ≡ objectCount ws
-  pub interfaceCounts : interfaceCount ws′ ≡ interfaceCount ws
-  pub setCounts : setCount ws′ ≡ setCount ws
-  pub exporters : SameRows exporterKind (exporterCount ws) ws ws′
-  pub objects : SameRows objectKind (objectCount ws) ws ws′
-  pub interfaces : SameRows interfaceKind (interfaceCount ws) ws ws′
-  pub sets : SameRows setKind (setCount ws) ws ws′
-  pub storeLengths : length store′ ≡ length store
-  pub lists : (i : ℕ) → i < exporterCount ws → SameList (slot store i) (slot store′ i)
+use Rattle.table.specs.FreePlaces.{SameRows, SameList, SameLive, FreePlaces, FreePlacesSound}
+use Rattle.table.specs.View.{exporterKind, objectKind, interfaceKind, setKind, exporterCount, slot, asObject, asInterface, asSet, exportersOf, objectsOf, interfacesOf, setsOf, memory, view, soundMemory}
 
 -- the same bytes from the start
 same-start : (n : ℕ) (s s′ : List ℕ) → length s′ ≡ length s → ((x : ℕ) → x < n → getD s′ x 0 ≡ getD s x 0) → take n s′ ≡ take n s
@@ -90,9 +67,9 @@ module _ (ws store ws′ store′ : List ℕ) (same : SameLive ws store ws′ st
       (ap (λ (os : List Object). asSet (map (λ (o : Object). o .oid) os)) same-objects)
       (same .sets)
 
-  -- the live entries are the same, whatever any other word or byte holds
-  pub free-places : view (memory ws′ store′) ≡ view (memory ws store)
-  free-places =
+  -- the live entries
+  same-view : view (memory ws′ store′) ≡ view (memory ws store)
+  same-view =
       λ u.
       record {
         clock = same .clock u;
@@ -103,7 +80,9 @@ module _ (ws store ws′ store′ : List ℕ) (same : SameLive ws store ws′ st
         sets = same-sets u;
       }
 
-  -- and so is the judgement
-  pub free-places-sound : length ws′ ≡ length ws → soundMemory (memory ws′ store′) ≡ soundMemory (memory ws store)
-  unfolding contract.soundMemory
-  free-places-sound l = rw (l, same .storeLengths, free-places)
+pub free-places : FreePlaces
+free-places ws store ws′ store′ same = same-view ws store ws′ store′ same
+
+pub free-places-sound : FreePlacesSound
+unfolding contract.soundMemory
+free-places-sound ws store ws′ store′ same l = rw (l, same .storeLengths, free-places ws store ws′ store′ same)

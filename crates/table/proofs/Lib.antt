@@ -1,14 +1,4 @@
-pub mod ViewLaws
-pub mod Entries
-pub mod Judging
-pub mod RowChecks
-pub mod SoundLaws
 pub mod FreePlaces
-pub mod EditRows
-pub mod EditViews
-pub mod EditChanges
-pub mod EditMembers
-pub mod EditLists
-pub mod EditCuts
-pub mod EditBelow
 pub mod Sizes
+pub mod Columns
+pub mod LiveRows

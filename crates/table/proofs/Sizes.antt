@@ -11,8 +11,8 @@ use Rattle.lists.specs.Lists.{keep, every, distinct, tabulate}
 use Rattle.columns.specs.Members.{isMember, memberRows}
 use Rattle.lists.proofs.Lists.{every-at, every-at-or, map-tabulate, tabulate-getD}
 use Rattle.lists.proofs.Distinct.{part-keep}
-use Rattle.columns.proofs.Bits.{members-below}
-use Rattle.columns.proofs.Ones.{members-ones}
+use Rattle.columns.proofs.members.Bits.{members-below}
+use Rattle.columns.proofs.members.Ones.{members-ones}
 use Rattle.lists.proofs.Tests.{and-left}
 use Rattle.rules.specs.Entries.{PingSet}
 use Rattle.rules.specs.Rules.{noSet, setOf}
@@ -22,10 +22,10 @@ use Rattle.rules.proofs.ByRow.{setRow, set-live, set-row, oids-distinct}
 use Rattle.table.specs.View.{objectCount, setCount, setsOf, view}
 use Rattle.table.specs.Edits.{membersAt}
 use Rattle.table.specs.Sizes.{wordsFit, SetsSized}
-use Rattle.table.proofs.Entries.{sets-length}
-use Rattle.table.proofs.EditViews.{oidsOf}
-use Rattle.table.proofs.EditMembers.{oids-length, below-at}
-use Rattle.table.proofs.EditBelow.{row-members, live-below}
+use Rattle.table.proofs.LiveRows.{sets-length}
+use Rattle.table.proofs.edit.Views.{oidsOf}
+use Rattle.table.proofs.edit.Members.{oids-length, below-at}
+use Rattle.table.proofs.edit.Below.{row-members, live-below}
 
 -- at most 128 objects are live
 places : (ws : List ℕ) → objectCount ws < 129

@@ -3,3 +3,4 @@ pub mod Clauses
 pub mod Edits
 pub mod Found
 pub mod Sizes
+pub mod FreePlaces

@@ -10,7 +10,7 @@ use lib.ListN.{length, drop, getD, length-replicate}
 use Rattle.lists.specs.Lists.{some}
 use Rattle.columns.specs.Buckets.{wordBucket}
 use Rattle.lists.proofs.Distinct.{eqb-decides}
-use Rattle.columns.proofs.Marks.{Passed, passed-none, passed-one, repeated, unmarked}
+use Rattle.columns.proofs.buckets.Marks.{Passed, passed-none, passed-one, repeated, unmarked}
 use Rattle.columns.proofs.Loops.{last-step, column-end, tail-part, told}
 use Rattle.columns.proofs.all_distinct.Statement.{statement}
 use Rattle.columns.proofs.all_distinct.Tie as tie

@@ -9,7 +9,7 @@ use lib.ListN.{length, drop, length-replicate}
 use Rattle.lists.specs.Guids.{sameGuid}
 use Rattle.columns.specs.Guids.{guids}
 use Rattle.columns.specs.Buckets.{guidBucket}
-use Rattle.columns.proofs.Marks.{Passed, passed-none, passed-one, repeated, unmarked}
+use Rattle.columns.proofs.buckets.Marks.{Passed, passed-none, passed-one, repeated, unmarked}
 use Rattle.lists.proofs.Guids.{guid-decides}
 use Rattle.columns.proofs.Guids.{guids-last, guids-end}
 use Rattle.columns.proofs.guids_distinct.Statement.{statement}

@@ -17,7 +17,7 @@ use Rattle.table.specs.View.{interfaceCount, interfacesOf, memory, view}
 use Rattle.table.specs.Found.{heldAt}
 use Rattle.table.specs.Edits.{changeInterface}
 use Rattle.table.specs.declared.find.Held.{Held}
-use Rattle.table.proofs.Entries.{interfaces-length}
+use Rattle.table.proofs.LiveRows.{interfaces-length}
 use Rattle.calls.proofs.Calls.{refused-step, accepted-step, row-gives, row-passes, gone-gives, live-passes, rows-end, two-rows, interface-tested}
 use borrow.Author.Needs.{needs}
 use Rattle.counting.proofs.add_step.Statement.{statement}

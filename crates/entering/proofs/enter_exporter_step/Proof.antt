@@ -3,7 +3,7 @@ use mathlib.Core.Path.{sym, _∙_}
 use native.Mathlib.Omega.{arith}
 use Rattle.rules.specs.Rules.{next, results, refused, done}
 use Rattle.table.specs.View.{memory, view}
-use Rattle.table.proofs.Entries.{exporters-length}
+use Rattle.table.proofs.LiveRows.{exporters-length}
 use Rattle.calls.proofs.Calls.{refused-step, accepted-step}
 use Rattle.entering.proofs.Places.{exporter-fits}
 use borrow.Author.Needs.{needs}

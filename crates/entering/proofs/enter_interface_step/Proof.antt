@@ -3,7 +3,7 @@ use mathlib.Core.Path.{sym, _∙_}
 use native.Mathlib.Omega.{arith}
 use Rattle.rules.specs.Rules.{next, results, refused, done}
 use Rattle.table.specs.View.{memory, view}
-use Rattle.table.proofs.Entries.{interfaces-length}
+use Rattle.table.proofs.LiveRows.{interfaces-length}
 use Rattle.calls.proofs.Calls.{refused-step, accepted-step}
 use Rattle.entering.proofs.Places.{interface-fits}
 use borrow.Author.Needs.{needs}

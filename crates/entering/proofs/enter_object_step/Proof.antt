@@ -9,7 +9,7 @@ use Rattle.rules.specs.Calls.{Call}
 use Rattle.rules.specs.Rules.{next, results, refused, done}
 use Rattle.table.specs.View.{memory, view}
 use Rattle.table.specs.Edits.{addInterface}
-use Rattle.table.proofs.Entries.{objects-length, interfaces-length}
+use Rattle.table.proofs.LiveRows.{objects-length, interfaces-length}
 use Rattle.calls.proofs.Calls.{sound-below, refused-step, accepted-step}
 use Rattle.entering.proofs.Places.{object-fits}
 use borrow.Author.Needs.{needs}

@@ -14,7 +14,7 @@ use Rattle.rules.specs.Entries.{Entries, ipids}
 use Rattle.rules.specs.Calls.{Call}
 use Rattle.rules.specs.Rules.{refusals, number, isLiveExporter}
 use Rattle.table.specs.View.{memory, view}
-use Rattle.table.proofs.Entries.{exporters-length}
+use Rattle.table.proofs.LiveRows.{exporters-length}
 use Rattle.calls.proofs.Calls.{row-gives, row-passes, rows-end, identifier-rows, exporter-tested, full-tested}
 use borrow.Author.Needs.{needs}
 use Rattle.entering.proofs.exporter_number.Statement.{statement}

@@ -3,8 +3,8 @@ use Prim.Native.Nat.{ℕ}
 use mathlib.Core.Path.{ap, _∙_}
 use mathlib.Core.List.{List}
 use Rattle.lists.specs.Lists.{every, among}
-use Rattle.table.proofs.Judging.{column-read}
-use Rattle.table.proofs.ViewLaws.{oids-column}
+use Rattle.table.proofs.judge.Clauses.{column-read}
+use Rattle.table.proofs.Columns.{oids-column}
 use borrow.Author.Needs.{needs}
 use Rattle.pinging.proofs.are_live.Statement.{statement}
 use Rattle.pinging.proofs.are_live.Tie as tie

@@ -11,7 +11,7 @@ use Rattle.rules.specs.Entries.{Entries}
 use Rattle.rules.specs.Calls.{Call}
 use Rattle.rules.specs.Rules.{number, isLiveSet, setOf, stale}
 use Rattle.table.specs.View.{memory, view}
-use Rattle.table.proofs.Entries.{sets-length}
+use Rattle.table.proofs.LiveRows.{sets-length}
 use Rattle.calls.proofs.Calls.{row-gives, row-passes, gone-gives, live-passes, rows-end, set-tested, full-tested}
 use Rattle.pinging.proofs.Pings.{newRows, liveRows, complex-rows, new-rows, live-rows, stale-tested}
 use borrow.Author.Needs.{needs}

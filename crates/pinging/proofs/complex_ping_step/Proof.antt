@@ -4,7 +4,7 @@ use native.Mathlib.Omega.{arith}
 use Rattle.rules.specs.Calls.{Call}
 use Rattle.rules.specs.Rules.{number, results, refused, done}
 use Rattle.table.specs.View.{memory, view, SoundTable}
-use Rattle.table.proofs.Entries.{sets-length}
+use Rattle.table.proofs.LiveRows.{sets-length}
 use Rattle.calls.proofs.Calls.{refused-step, accepted-step}
 use Rattle.pinging.proofs.Pings.{new-fits, update-asked, ping-asked, pinged-next}
 use borrow.Author.Needs.{needs}

@@ -7,7 +7,7 @@ use lib.ListN.{length}
 use borrow.Author.Needs.{needs}
 use Rattle.rules.specs.Entries.{Entries}
 use Rattle.table.specs.View.{objectCount, memory, view}
-use Rattle.table.proofs.Entries.{objects-length}
+use Rattle.table.proofs.LiveRows.{objects-length}
 use Rattle.lists.proofs.Lists.{length-tabulate}
 use Rattle.columns.specs.declared.members.Members.{Members}
 use Rattle.pinging.specs.Pinging.{heardRow}

@@ -6,7 +6,7 @@ use borrow.Author.Needs.{needs}
 use Rattle.rules.specs.Entries.{Entries, pingedAt}
 use Rattle.table.specs.View.{setCount}
 use Rattle.rules.specs.PingRows.{changeSet}
-use Rattle.table.proofs.Entries.{sets-length}
+use Rattle.table.proofs.LiveRows.{sets-length}
 use Rattle.pinging.proofs.Pings.{row-heard}
 use Rattle.pinging.proofs.ping_row.Statement.{statement}
 use Rattle.pinging.proofs.ping_row.Tie as tie

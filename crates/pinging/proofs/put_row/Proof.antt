@@ -3,7 +3,7 @@ use native.Mathlib.Omega.{arith}
 use borrow.Author.Needs.{needs}
 use Rattle.rules.specs.Entries.{oids}
 use Rattle.table.specs.View.{memory, view}
-use Rattle.table.proofs.EditMembers.{oids-length}
+use Rattle.table.proofs.edit.Members.{oids-length}
 use Rattle.pinging.proofs.Memberships.{put-none, put-added, put-dropped}
 use Rattle.pinging.proofs.put_row.Statement.{statement}
 use Rattle.pinging.proofs.put_row.Tie as tie

@@ -2,7 +2,7 @@
 use mathlib.Core.Path.{refl, sym, _∙_}
 use borrow.Author.Tests.{eq-eqb, ne-eqb}
 use borrow.Author.Needs.{needs}
-use Rattle.table.proofs.Entries.{sets-length}
+use Rattle.table.proofs.LiveRows.{sets-length}
 use Rattle.pinging.proofs.row_meant.Statement.{statement}
 use Rattle.pinging.proofs.row_meant.Tie as tie
 

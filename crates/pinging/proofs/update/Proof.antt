@@ -5,7 +5,7 @@ use lib.ListN.{length, length-set}
 use borrow.Author.Needs.{needs}
 use Rattle.rules.specs.Entries.{Entries}
 use Rattle.table.specs.View.{setCount, setsOf}
-use Rattle.table.proofs.Entries.{sets-length}
+use Rattle.table.proofs.LiveRows.{sets-length}
 use Rattle.pinging.proofs.Pings.{row-updated}
 use Rattle.pinging.proofs.update.Statement.{statement}
 use Rattle.pinging.proofs.update.Tie as tie

@@ -8,7 +8,7 @@ use borrow.Author.Needs.{needs}
 use Rattle.settling.specs.Leaving.{interfacesLeft}
 use Rattle.rules.specs.Rules.{noInterface}
 use Rattle.table.specs.View.{memory, view}
-use Rattle.table.proofs.Entries.{interfaces-length}
+use Rattle.table.proofs.LiveRows.{interfaces-length}
 use Rattle.settling.proofs.Going.{InterfacesGoing, interfaceStays, going-none, interfaces-row, interfaces-all}
 use Rattle.settling.proofs.drop_interfaces.Statement.{statement}
 use Rattle.settling.proofs.drop_interfaces.Tie as tie

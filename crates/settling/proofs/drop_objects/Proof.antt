@@ -13,7 +13,7 @@ use borrow.Author.Needs.{needs}
 use Rattle.settling.specs.Leaving.{stays, objectsLeft}
 use Rattle.rules.specs.Rules.{noObject}
 use Rattle.table.specs.View.{memory, view}
-use Rattle.table.proofs.Entries.{objects-length}
+use Rattle.table.proofs.LiveRows.{objects-length}
 use Rattle.settling.proofs.Going.{ObjectsGoing, going-none, objects-row, objects-all, distinct-left, below-live}
 use Rattle.settling.proofs.drop_objects.Statement.{statement}
 use Rattle.settling.proofs.drop_objects.Tie as tie

@@ -9,7 +9,7 @@ use Rattle.settling.specs.Leaving.{setsLeft}
 use Rattle.rules.proofs.Leaving.{setStaysAt}
 use Rattle.rules.specs.Rules.{noSet}
 use Rattle.table.specs.View.{memory, view}
-use Rattle.table.proofs.Entries.{sets-length}
+use Rattle.table.proofs.LiveRows.{sets-length}
 use Rattle.settling.proofs.Going.{SetsGoing, going-none, sets-row, sets-all}
 use Rattle.settling.proofs.drop_sets.Statement.{statement}
 use Rattle.settling.proofs.drop_sets.Tie as tie

@@ -4,7 +4,7 @@ use native.Mathlib.Omega.{arith}
 use mathlib.Core.Path.{refl}
 use lib.Pow.{pow-pos}
 use Rattle.columns.specs.Members.{cutBit}
-use Rattle.columns.proofs.WordBits.{unit, cut-lt}
+use Rattle.columns.proofs.members.WordBits.{unit, cut-lt}
 use borrow.Author.Needs.{needs}
 use Rattle.columns.proofs.members.cut_bit.Statement.{statement}
 use Rattle.columns.proofs.members.cut_bit.Tie as tie

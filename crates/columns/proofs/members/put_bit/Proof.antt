@@ -3,7 +3,7 @@ use Prim.Native.Nat.{_^_, _<_}
 use native.Mathlib.Omega.{arith}
 use lib.Pow.{pow-pos, shr-le}
 use Rattle.columns.specs.Members.{putBit}
-use Rattle.columns.proofs.WordBits.{unit, put-lt}
+use Rattle.columns.proofs.members.WordBits.{unit, put-lt}
 use borrow.Author.Needs.{needs}
 use Rattle.columns.proofs.members.put_bit.Statement.{statement}
 use Rattle.columns.proofs.members.put_bit.Tie as tie

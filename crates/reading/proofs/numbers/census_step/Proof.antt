@@ -1,12 +1,12 @@
 -- `numbers::census_step`: each count is the length of its kind's entries.
-use mathlib.Core.Path.{_≡_, refl, sym, subst}
+use mathlib.Core.Path.{_≡_, refl, subst}
 use mathlib.Core.List.{List, [], _∷_}
 use Prim.Native.Nat.{ℕ}
 use Rattle.kinds.specs.Refusals.{order}
 use Rattle.rules.specs.Calls.{Call}
 use Rattle.rules.specs.Rules.{liveNumbers, refusals, number, next, results, done}
 use Rattle.table.specs.View.{memory, view, Stepped}
-use Rattle.table.proofs.Entries.{exporters-length, objects-length, interfaces-length, sets-length}
+use Rattle.table.proofs.LiveRows.{exporters-length, objects-length, interfaces-length, sets-length}
 use Rattle.calls.proofs.Calls.{accepted-step}
 use borrow.Author.Needs.{needs}
 use Rattle.reading.proofs.numbers.census_step.Statement.{statement}

@@ -12,7 +12,7 @@ use Rattle.rules.specs.Rules.{noSet, setOf, refusals, number, next, results, re
 use Rattle.rules.proofs.ByRow.{setRow, set-row}
 use Rattle.table.specs.View.{setCount, setsOf, memory, view, Stepped}
 use Rattle.table.specs.Edits.{membersAt}
-use Rattle.table.proofs.EditBelow.{row-members}
+use Rattle.table.proofs.edit.Below.{row-members}
 use Rattle.calls.proofs.Calls.{refused-step, accepted-step, gone-gives, live-passes, rows-end, set-tested}
 use borrow.Author.Needs.{needs}
 use Rattle.reading.proofs.numbers.members_step.Statement.{statement}

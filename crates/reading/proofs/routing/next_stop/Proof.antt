@@ -1,5 +1,5 @@
 -- `routing::next_stop`: the bytes of the place, in the store or in the reference.
-use Rattle.reading.proofs.Stopping.{found-part}
+use Rattle.reading.proofs.routing.Stopping.{found-part}
 use borrow.Author.Needs.{needs}
 use Rattle.reading.proofs.routing.next_stop.Statement.{statement}
 use Rattle.reading.proofs.routing.next_stop.Tie as tie

@@ -2,7 +2,7 @@
 use mathlib.Core.Path.{refl}
 use native.Mathlib.Omega.{arith}
 use Rattle.calls.proofs.Calls.{sound-table, unsound-call}
-use Rattle.reading.proofs.Stopping.{refused-stop}
+use Rattle.reading.proofs.routing.Stopping.{refused-stop}
 use borrow.Author.Needs.{needs}
 use Rattle.reading.proofs.routing.next_stop_place.Statement.{statement}
 use Rattle.reading.proofs.routing.next_stop_place.Tie as tie

@@ -3,7 +3,7 @@ use Prim.Native.Nat.{_≤_, _-_}
 use borrow.Author.Needs.{needs}
 use native.Mathlib.Omega.{arith}
 use lib.ListN.{length-set}
-use Rattle.table.proofs.EditCuts.{CutTo, cut-none, cut-one, cut-all}
+use Rattle.table.proofs.edit.Cuts.{CutTo, cut-none, cut-one, cut-all}
 use Rattle.table.proofs.edit.cut_members.Statement.{statement}
 use Rattle.table.proofs.edit.cut_members.Tie as tie
 

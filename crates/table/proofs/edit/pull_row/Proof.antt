@@ -1,6 +1,6 @@
 -- `table::edit::pull_row`: what `remove_row` leaves, with the new count.
 use borrow.Author.Needs.{needs}
-use Rattle.table.proofs.EditRows.{row-pulled}
+use Rattle.table.proofs.edit.Rows.{row-pulled}
 use Rattle.table.proofs.edit.pull_row.Statement.{statement}
 use Rattle.table.proofs.edit.pull_row.Tie as tie
 

@@ -1,6 +1,6 @@
 -- `table::edit::push_row`: what `put_row` leaves, with the new count.
 use borrow.Author.Needs.{needs}
-use Rattle.table.proofs.EditRows.{row-pushed}
+use Rattle.table.proofs.edit.Rows.{row-pushed}
 use Rattle.table.proofs.edit.push_row.Statement.{statement}
 use Rattle.table.proofs.edit.push_row.Tie as tie
 

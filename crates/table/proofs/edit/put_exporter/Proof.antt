@@ -2,7 +2,7 @@
 use native.Mathlib.Omega.{arith}
 use Prim.Native.Nat.{_+_, _*_, _≤_}
 use lib.ListN.{length}
-use Rattle.table.proofs.EditLists.{exporter-pushed, slotted, slotted-list, slotted-others}
+use Rattle.table.proofs.edit.Lists.{exporter-pushed, slotted, slotted-list, slotted-others}
 use borrow.Author.Needs.{needs}
 use Rattle.table.proofs.edit.put_exporter.Statement.{statement}
 use Rattle.table.proofs.edit.put_exporter.Tie as tie

@@ -1,6 +1,6 @@
 -- `table::edit::put_interface`: a row of the interfaces is entered.
 use native.Mathlib.Omega.{arith}
-use Rattle.table.proofs.EditChanges.{interface-entered}
+use Rattle.table.proofs.edit.Changes.{interface-entered}
 use borrow.Author.Needs.{needs}
 use Rattle.table.proofs.edit.put_interface.Statement.{statement}
 use Rattle.table.proofs.edit.put_interface.Tie as tie

@@ -1,6 +1,6 @@
 -- `table::edit::put_object`: a row of the objects is entered.
 use native.Mathlib.Omega.{arith}
-use Rattle.table.proofs.EditMembers.{object-pushed}
+use Rattle.table.proofs.edit.Members.{object-pushed}
 use borrow.Author.Needs.{needs}
 use Rattle.table.proofs.edit.put_object.Statement.{statement}
 use Rattle.table.proofs.edit.put_object.Tie as tie

@@ -1,6 +1,6 @@
 -- `table::edit::put_set`: a row of the sets is entered, and word 1 stored.
 use native.Mathlib.Omega.{arith}
-use Rattle.table.proofs.EditChanges.{set-made}
+use Rattle.table.proofs.edit.Changes.{set-made}
 use borrow.Author.Needs.{needs}
 use Rattle.table.proofs.edit.put_set.Statement.{statement}
 use Rattle.table.proofs.edit.put_set.Tie as tie

@@ -4,7 +4,7 @@ use Prim.Native.Nat.{_+_, _-_, _*_, _≤_, _<_}
 use mathlib.Core.Path.{_≡_}
 use lib.ListN.{length}
 use Rattle.columns.specs.Moved.{copiedDown}
-use Rattle.table.proofs.EditLists.{exporter-pulled, lists-moved}
+use Rattle.table.proofs.edit.Lists.{exporter-pulled, lists-moved}
 use borrow.Author.Needs.{needs}
 use Rattle.table.proofs.edit.remove_exporter.Statement.{statement}
 use Rattle.table.proofs.edit.remove_exporter.Tie as tie

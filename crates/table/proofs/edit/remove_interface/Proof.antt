@@ -1,5 +1,5 @@
 -- `table::edit::remove_interface`: a row of the interfaces is taken out.
-use Rattle.table.proofs.EditChanges.{interface-pulled}
+use Rattle.table.proofs.edit.Changes.{interface-pulled}
 use borrow.Author.Needs.{needs}
 use Rattle.table.proofs.edit.remove_interface.Statement.{statement}
 use Rattle.table.proofs.edit.remove_interface.Tie as tie

@@ -3,7 +3,7 @@ use Prim.Native.Nat.{_<_}
 use native.Mathlib.Omega.{arith}
 use Rattle.table.specs.View.{objectKind}
 use Rattle.table.specs.Edits.{Pulled}
-use Rattle.table.proofs.EditMembers.{object-pulled, pulled-below}
+use Rattle.table.proofs.edit.Members.{object-pulled, pulled-below}
 use borrow.Author.Needs.{needs}
 use Rattle.table.proofs.edit.remove_object.Statement.{statement}
 use Rattle.table.proofs.edit.remove_object.Tie as tie

@@ -1,5 +1,5 @@
 -- `table::edit::remove_set`: a row of the sets is taken out.
-use Rattle.table.proofs.EditChanges.{set-pulled}
+use Rattle.table.proofs.edit.Changes.{set-pulled}
 use borrow.Author.Needs.{needs}
 use Rattle.table.proofs.edit.remove_set.Statement.{statement}
 use Rattle.table.proofs.edit.remove_set.Tie as tie

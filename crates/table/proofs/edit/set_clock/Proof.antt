@@ -1,8 +1,8 @@
 -- `table::edit::set_clock`: a store of word 0 alone.
 use lib.Seq.{getD-set-same}
 use native.Mathlib.Omega.{arith}
-use Rattle.table.proofs.EditRows.{noRows, only-word}
-use Rattle.table.proofs.EditViews.{became-clock}
+use Rattle.table.proofs.edit.Rows.{noRows, only-word}
+use Rattle.table.proofs.edit.Views.{became-clock}
 use borrow.Author.Needs.{needs}
 use Rattle.table.proofs.edit.set_clock.Statement.{statement}
 use Rattle.table.proofs.edit.set_clock.Tie as tie

@@ -1,7 +1,7 @@
 -- `table::edit::set_counts`: a store of words 5 and 6 of an interface's row.
 use native.Mathlib.Omega.{arith}
 use lib.ListN.{length-set}
-use Rattle.table.proofs.EditChanges.{counts-stored}
+use Rattle.table.proofs.edit.Changes.{counts-stored}
 use borrow.Author.Needs.{needs}
 use Rattle.table.proofs.edit.set_counts.Statement.{statement}
 use Rattle.table.proofs.edit.set_counts.Tie as tie

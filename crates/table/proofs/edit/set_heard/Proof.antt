@@ -1,5 +1,5 @@
 -- `table::edit::set_heard`: a store of word 3 of an object's row.
-use Rattle.table.proofs.EditChanges.{heard-stored}
+use Rattle.table.proofs.edit.Changes.{heard-stored}
 use borrow.Author.Needs.{needs}
 use Rattle.table.proofs.edit.set_heard.Statement.{statement}
 use Rattle.table.proofs.edit.set_heard.Tie as tie

@@ -1,7 +1,7 @@
 -- `table::edit::set_members`: a store of words 3 and 4 of a set's row.
 use native.Mathlib.Omega.{arith}
 use lib.ListN.{length-set}
-use Rattle.table.proofs.EditChanges.{members-stored}
+use Rattle.table.proofs.edit.Changes.{members-stored}
 use borrow.Author.Needs.{needs}
 use Rattle.table.proofs.edit.set_members.Statement.{statement}
 use Rattle.table.proofs.edit.set_members.Tie as tie

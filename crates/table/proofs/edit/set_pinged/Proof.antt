@@ -1,5 +1,5 @@
 -- `table::edit::set_pinged`: a store of word 2 of a set's row.
-use Rattle.table.proofs.EditChanges.{pinged-stored}
+use Rattle.table.proofs.edit.Changes.{pinged-stored}
 use borrow.Author.Needs.{needs}
 use Rattle.table.proofs.edit.set_pinged.Statement.{statement}
 use Rattle.table.proofs.edit.set_pinged.Tie as tie

@@ -1,6 +1,6 @@
 -- `table::edit::set_sequence`: a store of word 1 of a set's row.
 use native.Mathlib.Omega.{arith}
-use Rattle.table.proofs.EditChanges.{sequence-stored}
+use Rattle.table.proofs.edit.Changes.{sequence-stored}
 use borrow.Author.Needs.{needs}
 use Rattle.table.proofs.edit.set_sequence.Statement.{statement}
 use Rattle.table.proofs.edit.set_sequence.Tie as tie

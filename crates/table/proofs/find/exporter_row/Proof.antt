@@ -2,8 +2,8 @@
 use mathlib.Core.Path.{ap, _∙_}
 use lib.Dec.{eqb}
 use Rattle.lists.specs.Lists.{firstIndex}
-use Rattle.table.proofs.Judging.{column-read}
-use Rattle.table.proofs.ViewLaws.{oxids-column}
+use Rattle.table.proofs.judge.Clauses.{column-read}
+use Rattle.table.proofs.Columns.{oxids-column}
 use borrow.Author.Needs.{needs}
 use Rattle.table.proofs.find.exporter_row.Statement.{statement}
 use Rattle.table.proofs.find.exporter_row.Tie as tie

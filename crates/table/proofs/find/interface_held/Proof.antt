@@ -1,9 +1,9 @@
 -- `find::interface_held`: the words of the interface's row.
 use native.Mathlib.Omega.{arith}
-use Rattle.columns.proofs.RowLaws.{rowAt-getD}
+use Rattle.columns.proofs.rows.Laws.{rowAt-getD}
 use Rattle.rules.specs.Rules.{noInterface}
 use Rattle.table.specs.View.{interfaceKind}
-use Rattle.table.proofs.Entries.{interface-at}
+use Rattle.table.proofs.LiveRows.{interface-at}
 use borrow.Author.Needs.{needs}
 use Rattle.table.proofs.find.interface_held.Statement.{statement}
 use Rattle.table.proofs.find.interface_held.Tie as tie

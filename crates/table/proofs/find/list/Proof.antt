@@ -9,8 +9,8 @@ use Rattle.bindings.specs.Bindings.{listLength, frontAnswer}
 use Rattle.bindings.proofs.Laws.{front}
 use Rattle.rules.specs.Rules.{noExporter}
 use Rattle.table.specs.View.{slot}
-use Rattle.table.proofs.RowChecks.{front-kept}
-use Rattle.table.proofs.Entries.{exporter-at}
+use Rattle.table.proofs.judge.Checks.{front-kept}
+use Rattle.table.proofs.LiveRows.{exporter-at}
 use borrow.Author.Needs.{needs}
 use Rattle.table.proofs.find.list.Statement.{statement}
 use Rattle.table.proofs.find.list.Tie as tie

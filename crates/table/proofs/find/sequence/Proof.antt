@@ -1,9 +1,9 @@
 -- `find::sequence`: a word of the set's row.
 use native.Mathlib.Omega.{arith}
-use Rattle.columns.proofs.RowLaws.{rowAt-getD}
+use Rattle.columns.proofs.rows.Laws.{rowAt-getD}
 use Rattle.rules.specs.Rules.{noSet}
 use Rattle.table.specs.View.{setKind}
-use Rattle.table.proofs.Entries.{set-at}
+use Rattle.table.proofs.LiveRows.{set-at}
 use borrow.Author.Needs.{needs}
 use Rattle.table.proofs.find.sequence.Statement.{statement}
 use Rattle.table.proofs.find.sequence.Tie as tie

@@ -2,8 +2,8 @@
 use mathlib.Core.Path.{ap, _∙_}
 use lib.Dec.{eqb}
 use Rattle.lists.specs.Lists.{firstIndex}
-use Rattle.table.proofs.Judging.{column-read}
-use Rattle.table.proofs.ViewLaws.{set-numbers-column}
+use Rattle.table.proofs.judge.Clauses.{column-read}
+use Rattle.table.proofs.Columns.{set-numbers-column}
 use borrow.Author.Needs.{needs}
 use Rattle.table.proofs.find.set_row.Statement.{statement}
 use Rattle.table.proofs.find.set_row.Tie as tie

@@ -1,9 +1,9 @@
 -- `find::unknown`: two words of the exporter's row.
 use native.Mathlib.Omega.{arith}
-use Rattle.columns.proofs.RowLaws.{rowAt-getD}
+use Rattle.columns.proofs.rows.Laws.{rowAt-getD}
 use Rattle.rules.specs.Rules.{noExporter}
 use Rattle.table.specs.View.{exporterKind}
-use Rattle.table.proofs.Entries.{exporter-at}
+use Rattle.table.proofs.LiveRows.{exporter-at}
 use borrow.Author.Needs.{needs}
 use Rattle.table.proofs.find.unknown.Statement.{statement}
 use Rattle.table.proofs.find.unknown.Tie as tie

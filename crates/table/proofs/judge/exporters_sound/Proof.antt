@@ -3,8 +3,8 @@ use mathlib.Core.Path.{_≡_, refl, ap, _∙_}
 use Rattle.rules.specs.Entries.{oxids}
 use Rattle.rules.specs.Sound.{proper}
 use Rattle.table.specs.View.{memory, view}
-use Rattle.table.proofs.ViewLaws.{oxids-column}
-use Rattle.table.proofs.Judging.{judged-fails, judged-passes, judged-last, column-read}
+use Rattle.table.proofs.Columns.{oxids-column}
+use Rattle.table.proofs.judge.Clauses.{judged-fails, judged-passes, judged-last, column-read}
 use borrow.Author.Needs.{needs}
 use Rattle.table.proofs.judge.exporters_sound.Statement.{statement}
 use Rattle.table.proofs.judge.exporters_sound.Tie as tie

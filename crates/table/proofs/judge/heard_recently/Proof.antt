@@ -2,7 +2,7 @@
 use Prim.Native.Nat.{_≤_, _-_}
 use mathlib.Core.Path.{_≡_, refl, _∙_}
 use borrow.Author.Needs.{needs}
-use Rattle.table.proofs.RowChecks.{everyRow, everyFrom, row-passes, row-fails, rows-done, recentRow, recent-rows}
+use Rattle.table.proofs.judge.Checks.{everyRow, everyFrom, row-passes, row-fails, rows-done, recentRow, recent-rows}
 use Rattle.table.proofs.judge.heard_recently.Statement.{statement}
 use Rattle.table.proofs.judge.heard_recently.Tie as tie
 

@@ -8,8 +8,8 @@ use Rattle.rules.specs.Entries.{Entries}
 use Rattle.rules.specs.Sound.{interfaceObjectsLive}
 use Rattle.table.specs.Clauses.{interfaceClauses}
 use Rattle.table.specs.View.{memory, view}
-use Rattle.table.proofs.ViewLaws.{oids-column, interface-objects-column}
-use Rattle.table.proofs.Judging.{judged-fails, judged-passes, judged-last, column-read, column-in}
+use Rattle.table.proofs.Columns.{oids-column, interface-objects-column}
+use Rattle.table.proofs.judge.Clauses.{judged-fails, judged-passes, judged-last, column-read, column-in}
 use borrow.Author.Needs.{needs}
 use Rattle.table.proofs.judge.interfaces_sound.Statement.{statement}
 use Rattle.table.proofs.judge.interfaces_sound.Tie as tie

@@ -11,8 +11,8 @@ use Rattle.columns.specs.Guids.{guids}
 use Rattle.rules.specs.Entries.{Entries, Exporter, ipids, interfaceIpids}
 use Rattle.rules.specs.Sound.{properGuids}
 use Rattle.table.specs.View.{memory, view}
-use Rattle.table.proofs.ViewLaws.{unknowns-columns, ipids-columns}
-use Rattle.table.proofs.Judging.{judged-fails, judged-passes, judged-last, guids-read, pairClauses, pair-proper}
+use Rattle.table.proofs.Columns.{unknowns-columns, ipids-columns}
+use Rattle.table.proofs.judge.Clauses.{judged-fails, judged-passes, judged-last, guids-read, pairClauses, pair-proper}
 use borrow.Author.Needs.{needs}
 use Rattle.table.proofs.judge.ipids_proper.Statement.{statement}
 use Rattle.table.proofs.judge.ipids_proper.Tie as tie

@@ -8,7 +8,7 @@ use borrow.Author.Tests.{eq-eqb, ne-eqb}
 use native.Mathlib.Omega.{arith}
 use lib.ListN.{take, drop}
 use Rattle.bindings.specs.Bindings.{frontAnswer}
-use Rattle.table.proofs.RowChecks.{everyRow, everyFrom, row-passes, row-fails, rows-done, keptRow, kept-rows}
+use Rattle.table.proofs.judge.Checks.{everyRow, everyFrom, row-passes, row-fails, rows-done, keptRow, kept-rows}
 use Rattle.table.proofs.judge.lists_kept.Statement.{statement}
 use Rattle.table.proofs.judge.lists_kept.Tie as tie
 

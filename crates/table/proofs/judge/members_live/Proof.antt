@@ -3,7 +3,7 @@ use Prim.Native.Nat.{_≤_, _-_}
 use mathlib.Core.Path.{_≡_, refl, _∙_}
 use borrow.Author.Needs.{needs}
 use Rattle.lists.proofs.Tests.{and-left}
-use Rattle.table.proofs.RowChecks.{everyRow, everyFrom, row-passes, row-fails, rows-done, belowRow, members-rows}
+use Rattle.table.proofs.judge.Checks.{everyRow, everyFrom, row-passes, row-fails, rows-done, belowRow, members-rows}
 use Rattle.table.proofs.judge.members_live.Statement.{statement}
 use Rattle.table.proofs.judge.members_live.Tie as tie
 

@@ -9,8 +9,8 @@ use Rattle.rules.specs.Entries.{Entries, oids}
 use Rattle.rules.specs.Sound.{proper, objectExportersLive, objectsHaveInterfaces, heardBefore}
 use Rattle.table.specs.Clauses.{objectClauses}
 use Rattle.table.specs.View.{memory, view}
-use Rattle.table.proofs.ViewLaws.{oxids-column, oids-column, object-exporters-column, heard-column, interface-objects-column}
-use Rattle.table.proofs.Judging.{judged-fails, judged-passes, judged-last, column-read, column-test, column-in, have-interfaces}
+use Rattle.table.proofs.Columns.{oxids-column, oids-column, object-exporters-column, heard-column, interface-objects-column}
+use Rattle.table.proofs.judge.Clauses.{judged-fails, judged-passes, judged-last, column-read, column-test, column-in, have-interfaces}
 use borrow.Author.Needs.{needs}
 use Rattle.table.proofs.judge.objects_sound.Statement.{statement}
 use Rattle.table.proofs.judge.objects_sound.Tie as tie

@@ -12,8 +12,8 @@ use Rattle.rules.specs.Entries.{Entries, PingSet, setNumbers}
 use Rattle.rules.specs.Sound.{proper, overdue, pingedBefore, pingedRecently, setsBelowNext}
 use Rattle.table.specs.Clauses.{setClauses}
 use Rattle.table.specs.View.{memory, view}
-use Rattle.table.proofs.ViewLaws.{set-numbers-column, pinged-column}
-use Rattle.table.proofs.Judging.{judged-fails, judged-passes, judged-last, column-read, column-test}
+use Rattle.table.proofs.Columns.{set-numbers-column, pinged-column}
+use Rattle.table.proofs.judge.Clauses.{judged-fails, judged-passes, judged-last, column-read, column-test}
 use borrow.Author.Needs.{needs}
 use Rattle.table.proofs.judge.sets_sound.Statement.{statement}
 use Rattle.table.proofs.judge.sets_sound.Tie as tie

@@ -6,8 +6,8 @@ use lib.ListN.{drop}
 use Rattle.lists.specs.Lists.{holding}
 use Rattle.lists.proofs.Tests.{holding-fails, holding-passes, holding-head}
 use Rattle.table.specs.View.{memory, soundMemory}
-use Rattle.table.proofs.Judging.{judged-fails, judged-passes, judged-last}
-use Rattle.table.proofs.SoundLaws.{memoryClauses, memory-groups}
+use Rattle.table.proofs.judge.Clauses.{judged-fails, judged-passes, judged-last}
+use Rattle.table.proofs.judge.Groups.{memoryClauses, memory-groups}
 use borrow.Author.Needs.{needs}
 use Rattle.table.proofs.judge.sound.Statement.{statement}
 use Rattle.table.proofs.judge.sound.Tie as tie

@@ -1,5 +1,5 @@
 -- `columns::members::Members::added`: bit j is put to 1.
-use Rattle.columns.proofs.Making.{put-added}
+use Rattle.columns.proofs.members.Making.{put-added}
 use borrow.Author.Needs.{needs}
 use Rattle.columns.proofs.members.Members.added.Statement.{statement}
 use Rattle.columns.proofs.members.Members.added.Tie as tie

@@ -1,6 +1,6 @@
 -- `columns::members::Members::below`: a word shifted down by n is 0 where it has no bit at n or above.
-use Rattle.columns.proofs.Bits.{below-past}
-use Rattle.columns.proofs.Making.{below-left, below-low, below-high}
+use Rattle.columns.proofs.members.Bits.{below-past}
+use Rattle.columns.proofs.members.Making.{below-left, below-low, below-high}
 use borrow.Author.Needs.{needs}
 use Rattle.columns.proofs.members.Members.below.Statement.{statement}
 use Rattle.columns.proofs.members.Members.below.Tie as tie

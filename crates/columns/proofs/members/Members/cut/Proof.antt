@@ -2,7 +2,7 @@
 use Prim.Native.Nat.{ℕ, _+_, _*_, _%_, _^_}
 use mathlib.Core.Path.{refl, ap}
 use native.Mathlib.Omega.{arith}
-use Rattle.columns.proofs.Making.{cut-made-low, cut-made-high, cut-none}
+use Rattle.columns.proofs.members.Making.{cut-made-low, cut-made-high, cut-none}
 use borrow.Author.Needs.{needs}
 use Rattle.columns.proofs.members.Members.cut.Statement.{statement}
 use Rattle.columns.proofs.members.Members.cut.Tie as tie

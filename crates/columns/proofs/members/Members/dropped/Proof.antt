@@ -1,5 +1,5 @@
 -- `columns::members::Members::dropped`: bit j is put to 0.
-use Rattle.columns.proofs.Making.{put-dropped}
+use Rattle.columns.proofs.members.Making.{put-dropped}
 use borrow.Author.Needs.{needs}
 use Rattle.columns.proofs.members.Members.dropped.Statement.{statement}
 use Rattle.columns.proofs.members.Members.dropped.Tie as tie

@@ -1,7 +1,7 @@
 -- `columns::members::Members::has`: a row below 64 is a bit of the low word, one below 128 of the high word.
 use mathlib.Core.Path.{sym}
 use Rattle.columns.specs.Members.{bitOf}
-use Rattle.columns.proofs.Bits.{member-low, member-high, member-past}
+use Rattle.columns.proofs.members.Bits.{member-low, member-high, member-past}
 use borrow.Author.Needs.{needs}
 use Rattle.columns.proofs.members.Members.has.Statement.{statement}
 use Rattle.columns.proofs.members.Members.has.Tie as tie

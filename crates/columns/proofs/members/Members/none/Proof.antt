@@ -1,6 +1,6 @@
 -- `columns::members::Members::none`: a word 0 has no bit.
 use mathlib.Core.Path.{refl}
-use Rattle.columns.proofs.Making.{zero-member}
+use Rattle.columns.proofs.members.Making.{zero-member}
 use Rattle.columns.proofs.members.Members.none.Statement.{statement}
 use Rattle.columns.proofs.members.Members.none.Tie as tie
 

@@ -1,7 +1,7 @@
 -- `columns::members::Members::put`: the bit is put in the word that has row j.
 use mathlib.Core.Path.{refl}
 use native.Mathlib.Omega.{arith}
-use Rattle.columns.proofs.Making.{put-low, put-high, put-none}
+use Rattle.columns.proofs.members.Making.{put-low, put-high, put-none}
 use borrow.Author.Needs.{needs}
 use Rattle.columns.proofs.members.Members.put.Statement.{statement}
 use Rattle.columns.proofs.members.Members.put.Tie as tie

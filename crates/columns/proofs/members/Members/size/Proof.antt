@@ -3,7 +3,7 @@ use Prim.Native.Nat.{_+_}
 use mathlib.Core.Path.{sym, _∙_}
 use native.Mathlib.Omega.{arith}
 use borrow.Author.Needs.{needs}
-use Rattle.columns.proofs.Ones.{members-ones}
+use Rattle.columns.proofs.members.Ones.{members-ones}
 use Rattle.columns.proofs.members.Members.size.Statement.{statement}
 use Rattle.columns.proofs.members.Members.size.Tie as tie
 

@@ -22,9 +22,9 @@ use Rattle.rules.specs.Sound.{membersLive}
 use Rattle.table.specs.View.{objectCount, setCount, setsOf, memory, view}
 use Rattle.rules.specs.PingRows.{changeSet}
 use Rattle.table.specs.Edits.{membersAt, membersBelow, Became, dropSet}
-use Rattle.table.proofs.Entries.{sets-length, set-at}
-use Rattle.table.proofs.EditViews.{oidsOf}
-use Rattle.table.proofs.EditMembers.{Below, oids-length, below-at, below-from}
+use Rattle.table.proofs.LiveRows.{sets-length, set-at}
+use Rattle.table.proofs.edit.Views.{oidsOf}
+use Rattle.table.proofs.edit.Members.{Below, oids-length, below-at, below-from}
 
 -- no number is 0
 abbrev pub nonzero : List ℕ → Bool

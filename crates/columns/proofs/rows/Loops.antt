@@ -16,7 +16,7 @@ use Rattle.columns.specs.declared.rows.Kind.{Kind}
 use Rattle.lists.proofs.Tests.{same-or-not}
 use Rattle.lists.proofs.Lists.{skip-lt}
 use Rattle.columns.proofs.Moves.{length-removed, getD-removed}
-use Rattle.columns.proofs.RowLaws.{column-below, cell-in, cell-same, length-row, rowAt-getD, row-same}
+use Rattle.columns.proofs.rows.Laws.{column-below, cell-in, cell-same, length-row, rowAt-getD, row-same}
 
 -- where the next column starts
 pub next-column : (k : Kind) (j at : ℕ) → at ≡ k .base + j * k .places → at + k .places ≡ k .base + (j + 1) * k .places

@@ -15,8 +15,8 @@ use Rattle.columns.specs.Members.{bitOf, isMember, memberRows, InWords}
 use Rattle.columns.specs.declared.members.Members.{Members}
 use Rattle.lists.proofs.Tests.{true-or-false, same-or-not}
 use Rattle.lists.proofs.Lists.{keep-append, tabulate-ext}
-use Rattle.columns.proofs.WordBits.{bit-shifted}
-use Rattle.columns.proofs.Bits.{member-low, member-high}
+use Rattle.columns.proofs.members.WordBits.{bit-shifted}
+use Rattle.columns.proofs.members.Bits.{member-low, member-high}
 
 -- a table in two parts
 tabulate-append : {A : Type 0} (a b : ℕ) (f : ℕ → A) → tabulate (a + b) f ≡ tabulate a f ++ tabulate b (λ i. f (a + i))

@@ -13,7 +13,7 @@ use Rattle.rules.specs.Contract as contract
 use Rattle.rules.proofs.SoundLaws.{Sound, sound-fields, clause-at, none, _and_}
 use Rattle.table.specs.Clauses.{exporterClauses, objectClauses, interfaceClauses, setClauses}
 use Rattle.table.specs.View.{memory, view, soundMemory}
-use Rattle.table.proofs.Judging.{clauses-after}
+use Rattle.table.proofs.judge.Clauses.{clauses-after}
 
 -- the groups, each of which holds or not
 abbrev groups : Entries → List Bool

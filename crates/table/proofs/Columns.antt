@@ -10,7 +10,7 @@ use Rattle.columns.specs.Rows.{cell, rowAt, rows, after}
 use Rattle.columns.specs.declared.rows.Kind.{Kind}
 use Rattle.lists.proofs.Lists.{map-map, map-ext, map-tabulate, tabulate-ext, tabulate-part}
 use Rattle.columns.proofs.Guids.{guids-tabulate}
-use Rattle.columns.proofs.RowLaws.{column-below, column-of-rows, rowAt-getD}
+use Rattle.columns.proofs.rows.Laws.{column-below, column-of-rows, rowAt-getD}
 use Rattle.rules.specs.Entries.{Exporter, Object, Interface, PingSet}
 use Rattle.table.specs.View.{exporterKind, objectKind, interfaceKind, setKind, exporterCount, objectCount, interfaceCount, setCount, asExporter, asObject, asInterface, exportersOf, objectsOf, interfacesOf, setsOf}
 

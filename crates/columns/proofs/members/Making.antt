@@ -13,8 +13,8 @@ use Rattle.columns.specs.Members.{bitOf, isMember, memberRows, putBit, c
 use Rattle.columns.specs.declared.members.Members.{Members}
 use Rattle.lists.proofs.Tests.{same-or-not, below-or-not}
 use Rattle.lists.proofs.Lists.{skip-below, skip-from}
-use Rattle.columns.proofs.WordBits.{bit-shifted, low-bit, bit-zero, none-from, some-bit, some-bit-from, cut-lt, cut-below, cut-from, put-lt, put-here, put-other}
-use Rattle.columns.proofs.Bits.{member-low, member-high, member-past, member-from, member-same, below-holds, below-fails}
+use Rattle.columns.proofs.members.WordBits.{bit-shifted, low-bit, bit-zero, none-from, some-bit, some-bit-from, cut-lt, cut-below, cut-from, put-lt, put-here, put-other}
+use Rattle.columns.proofs.members.Bits.{member-low, member-high, member-past, member-from, member-same, below-holds, below-fails}
 
 -- ---- no member
 

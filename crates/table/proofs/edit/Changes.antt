@@ -10,15 +10,15 @@ use Rattle.lists.specs.Lists.{tabulate}
 use Rattle.columns.specs.Rows.{rowAt}
 use Rattle.columns.specs.Members.{memberRows}
 use Rattle.columns.specs.declared.members.Members.{Members}
-use Rattle.columns.proofs.Bits.{members-none}
-use Rattle.columns.proofs.Making.{zero-member}
+use Rattle.columns.proofs.members.Bits.{members-none}
+use Rattle.columns.proofs.members.Making.{zero-member}
 use Rattle.rules.specs.Entries.{withNext, Object, Interface, PingSet, heardAt, withCounts, pingedAt, withSequence, withMembers}
 use Rattle.rules.specs.Rules.{makeSet, noObject, noInterface, noSet}
 use Rattle.table.specs.View.{objectKind, interfaceKind, setKind, objectCount, interfaceCount, setCount, asObject, asInterface, asSet, objectsOf, interfacesOf, setsOf}
 use Rattle.rules.specs.PingRows.{changeSet}
 use Rattle.table.specs.Edits.{Only, Pushed, Pulled, Became, addInterface, addSet, dropInterface, dropSet, changeObject, changeInterface}
-use Rattle.table.proofs.EditRows.{live, noRows, only-word, only-stored, only-stored-two, live-stored, live-stored-two, made-pushed, made-pulled, made-changed}
-use Rattle.table.proofs.EditViews.{oidsOf, sets-kept, became-objects, became-interfaces, became-sets, became-next}
+use Rattle.table.proofs.edit.Rows.{live, noRows, only-word, only-stored, only-stored-two, live-stored, live-stored-two, made-pushed, made-pulled, made-changed}
+use Rattle.table.proofs.edit.Views.{oidsOf, sets-kept, became-objects, became-interfaces, became-sets, became-next}
 
 -- ---- rows that are entered, taken out, or changed
 

@@ -15,7 +15,7 @@ use Rattle.columns.specs.Members.{bitOf, isMember, memberRows, Added, Dr
 use Rattle.columns.specs.declared.members.Members.{Members}
 use Rattle.lists.proofs.Tests.{true-or-false, below-or-not}
 use Rattle.lists.proofs.Lists.{every-keep, keep-ext, keep-nil, keep-no, keep-append, keep-map, keep-keep, keep-comm, map-ext, map-map, length-tabulate, getD-tabulate, tabulate-snoc, map-tabulate, every-tabulate, every-tabulate-at, skip-from, getD-delete, delete-tabulate, delete-keep}
-use Rattle.columns.proofs.WordBits.{bit-past}
+use Rattle.columns.proofs.members.WordBits.{bit-past}
 
 module _ (m : Members) where
   -- a row below 64 is a bit of the low word

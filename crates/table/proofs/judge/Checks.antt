@@ -19,10 +19,10 @@ use Rattle.lists.proofs.Tests.{below-or-not, and-intro, and-left}
 use Rattle.lists.proofs.Lists.{every-at, every-map, every-ext, map-tabulate, tabulate-ext, none-some}
 use Rattle.lists.proofs.Distinct.{eqb-decides, same-comm, some-same}
 use Rattle.columns.proofs.Loops.{table-step, table-end, every-passes, every-fails, every-end}
-use Rattle.columns.proofs.RowLaws.{rowAt-getD, length-rows}
+use Rattle.columns.proofs.rows.Laws.{rowAt-getD, length-rows}
 use Rattle.rules.specs.Entries.{Exporter, Object, oids}
 use Rattle.rules.specs.Rules.{noExporter}
-use Rattle.table.proofs.Entries.{exporters-length, exporter-at}
+use Rattle.table.proofs.LiveRows.{exporters-length, exporter-at}
 use Rattle.rules.specs.Sound.{heardRecently, interfacesHeld, membersLive, listsKept}
 use Rattle.table.specs.Clauses.{recent, heldWords}
 use Rattle.table.specs.View.{exporterKind, objectKind, interfaceKind, setKind, exporterCount, objectCount, interfaceCount, setCount, slot, listAt, asExporter, asObject, asInterface, asSet, exportersOf, objectsOf, interfacesOf, setsOf, memory, view}

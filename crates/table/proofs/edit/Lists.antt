@@ -16,11 +16,11 @@ use Rattle.columns.specs.Moved.{copiedDown}
 use Rattle.lists.proofs.Tests.{below-or-not}
 use Rattle.lists.proofs.Lists.{tabulate-ext, tabulate-snoc, delete-tabulate, length-delete, getD-delete, skip-below, skip-from}
 use Rattle.columns.proofs.Moves.{copied-before, copied-part}
-use Rattle.columns.proofs.RowLaws.{length-rows}
+use Rattle.columns.proofs.rows.Laws.{length-rows}
 use Rattle.table.specs.View.{exporterKind, exporterCount, slot, listAt, asExporter, memory, view}
 use Rattle.table.specs.Edits.{Pushed, Pulled, addExporter, dropExporter}
-use Rattle.table.proofs.EditRows.{live, live-pushed, live-pulled}
-use Rattle.table.proofs.EditViews.{exportersFrom, exporters-from, became-exporters}
+use Rattle.table.proofs.edit.Rows.{live, live-pushed, live-pulled}
+use Rattle.table.proofs.edit.Views.{exportersFrom, exporters-from, became-exporters}
 
 -- ---- slots
 

@@ -27,8 +27,8 @@ use Rattle.rules.proofs.Performing.{unsound}
 use Rattle.rules.proofs.SoundLaws.{table-fields}
 use Rattle.rules.proofs.ByRow.{exporterRow}
 use Rattle.table.specs.View.{exporterCount, slot, exportersOf, memory, view, soundMemory, Performed}
-use Rattle.table.proofs.RowChecks.{front-kept}
-use Rattle.table.proofs.Entries.{exporter-at}
+use Rattle.table.proofs.judge.Checks.{front-kept}
+use Rattle.table.proofs.LiveRows.{exporter-at}
 use Rattle.reading.specs.NextStop.{refusedStop, stopInStore, stopInReference, stopPlace, stopStart, stopReply, placeReply, StopFound, StopPart, OneCall}
 use Rattle.reading.specs.declared.routing.StopPlace.{StopPlace}
 use Rattle.calls.proofs.Calls.{refused-step, accepted-step, step-call, row-gives, row-passes, exporter-in-row}

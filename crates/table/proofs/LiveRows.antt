@@ -6,7 +6,7 @@ use lib.ListN.{length, getD, length-map}
 use Rattle.columns.specs.Rows.{rowAt, rows}
 use Rattle.columns.specs.declared.rows.Kind.{Kind}
 use Rattle.lists.proofs.Lists.{length-tabulate, getD-tabulate, getD-map}
-use Rattle.columns.proofs.RowLaws.{length-rows, rows-getD}
+use Rattle.columns.proofs.rows.Laws.{length-rows, rows-getD}
 use Rattle.rules.specs.Entries.{Exporter, Object, Interface, PingSet}
 use Rattle.table.specs.View.{exporterKind, objectKind, interfaceKind, setKind, exporterCount, objectCount, interfaceCount, setCount, listAt, asExporter, asObject, asInterface, asSet, exportersOf, objectsOf, interfacesOf, setsOf}
 

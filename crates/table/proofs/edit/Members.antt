@@ -15,14 +15,14 @@ use Rattle.columns.specs.Members.{memberRows, Cut}
 use Rattle.columns.specs.declared.members.Members.{Members}
 use Rattle.lists.proofs.Lists.{every-tabulate, every-tabulate-at, keep-map, keep-ext-on, getD-map, map-append, map-delete, map-ext-on, map-map, map-tabulate, tabulate-ext}
 use Rattle.lists.proofs.Distinct.{eqb-decides, distinct-at}
-use Rattle.columns.proofs.Bits.{below-cut, cut-values}
+use Rattle.columns.proofs.members.Bits.{below-cut, cut-values}
 use Rattle.rules.specs.Entries.{Object, PingSet, withMembers}
 use Rattle.rules.specs.Rules.{noObject}
 use Rattle.table.specs.View.{objectKind, setKind, objectCount, setCount, asObject, asSet, objectsOf, setsOf}
 use Rattle.table.specs.Edits.{Only, Pushed, Pulled, MembersCut, membersAt, membersBelow, Became, addObject, dropObject}
-use Rattle.table.proofs.Entries.{objects-length}
-use Rattle.table.proofs.EditRows.{live, live-kept, made-pushed, made-pulled}
-use Rattle.table.proofs.EditViews.{oidsOf, became-objects, exporters-kept, objects-kept, interfaces-kept}
+use Rattle.table.proofs.LiveRows.{objects-length}
+use Rattle.table.proofs.edit.Rows.{live, live-kept, made-pushed, made-pulled}
+use Rattle.table.proofs.edit.Views.{oidsOf, became-objects, exporters-kept, objects-kept, interfaces-kept}
 
 -- ---- members below the number of objects
 

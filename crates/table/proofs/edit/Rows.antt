@@ -15,10 +15,10 @@ use Rattle.columns.specs.Rows.{cell, rowAt, rows, after, RowPut, RowRemoved}
 use Rattle.columns.specs.declared.rows.Kind.{Kind}
 use Rattle.lists.proofs.Tests.{and-left, and-right, or-cases}
 use Rattle.lists.proofs.Lists.{map-append, map-set, map-delete}
-use Rattle.columns.proofs.RowLaws.{cell-in, rows-within, rows-outside-set, rows-put, rows-removed, rows-set, length-rows, rows-getD}
+use Rattle.columns.proofs.rows.Laws.{cell-in, rows-within, rows-outside-set, rows-put, rows-removed, rows-set, length-rows, rows-getD}
 use Rattle.table.specs.View.{liveRows}
 use Rattle.table.specs.Edits.{Only, Pushed, Pulled}
-use Rattle.table.proofs.Entries.{made-at}
+use Rattle.table.proofs.LiveRows.{made-at}
 
 -- the live rows of a kind, whose count is the word at
 abbrev pub live : Kind → ℕ → List ℕ → List (List ℕ)

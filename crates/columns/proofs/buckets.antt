@@ -1,0 +1,2 @@
+-- Absence and distinctness by buckets.
+pub mod Marks

@@ -1,0 +1,2 @@
+-- What the proofs of the next stop use.
+pub mod Stopping

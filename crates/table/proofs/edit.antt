@@ -1,0 +1,8 @@
+-- What the edits make of rows, members and entries.
+pub mod Rows
+pub mod Views
+pub mod Changes
+pub mod Cuts
+pub mod Lists
+pub mod Members
+pub mod Below
