@@ -146,7 +146,9 @@ static void calls(void) {
     IS(rimonakh_enter_exporter(TABLE, 0x51, 0x61, 0x62, LIST), 0);
     IS(rimonakh_enter_object(TABLE, 0x41, 0x51, 0x71, 0x72, 0x11, 0x12, 5, false), 0);
     IS(rimonakh_enter_interface(TABLE, 0x41, 0x73, 0x74, 0x11, 0x12, 1), 0);
-    IS(rimonakh_add(TABLE, 0x71, 0x72, 1, 2), 0);
+    IS(rimonakh_add(TABLE, 3, 0x71, 0x72, 1, 2), 0);
+    IS(rimonakh_add(TABLE, 8, 0x71, 0x72, 1, 2), RIMONAKH_NO_CLIENT);
+    IS(rimonakh_drop_client(TABLE, 2), 0);
     rimonakh_pinged ping = rimonakh_complex_ping(TABLE, 0, 1, oids, 1, oids, 0);
     IS(ping.answer, 0);
     IS(ping.set, 1);
@@ -164,7 +166,7 @@ static void calls(void) {
     IS(found.unknown.low, 0x61);
     IS(found.unknown.high, 0x62);
     IS(memcmp(buffer, list, sizeof list), 0);
-    rimonakh_released gone = rimonakh_release(TABLE, 0x71, 0x72, 9, 2);
+    rimonakh_released gone = rimonakh_release(TABLE, 3, 0x71, 0x72, 9, 2);
     IS(gone.answer, 0);
     IS(gone.public_refs, 6);
     IS(gone.private_refs, 2);

@@ -101,7 +101,7 @@ static uint64_t take_up(const uint8_t *reference, size_t length) {
     print_address(list, resolved.length);
     printf("\n");
     done("client: takes 2 public and 1 private references more",
-         rimonakh_add(TABLE, block.ipid.low, block.ipid.high, 2, 1));
+         rimonakh_add(TABLE, 0, block.ipid.low, block.ipid.high, 2, 1));
     pinged = rimonakh_complex_ping(TABLE, 0, 1, &block.oid, 1, &block.oid, 0); /* a list of one, and an empty one */
     step("client: pings with the object in a new set", pinged.answer);
     printf(", set %" PRIu64 ", backoff %u\n", pinged.set, (unsigned)pinged.backoff);
@@ -123,11 +123,17 @@ static void census(void) {
 }
 
 static void give_back(void) {
-    rimonakh_released released = rimonakh_release(TABLE, IPID.low, IPID.high, 7, 1);
+    rimonakh_released released = rimonakh_release(TABLE, 0, IPID.low, IPID.high, 7, 1);
     step("client: gives 7 public and 1 private references back", released.answer);
     printf(", took %" PRIu32 " and %" PRIu32 ", %s, %s\n", released.public_refs, released.private_refs,
            released.interfaces ? "the interface went" : "no interface went",
            released.objects ? "the object went" : "no object went");
+}
+
+static void count_members(uint64_t set) {
+    rimonakh_member_count members = rimonakh_members(TABLE, set);
+    step("client: counts the members of its set", members.answer);
+    printf(", %zu\n", members.count);
 }
 
 int main(void) {
@@ -137,7 +143,6 @@ int main(void) {
     size_t list_len = tcp_list("10.1.4.20[49500]", list);
     size_t length;
     rimonakh_resolved resolved;
-    rimonakh_member_count members;
     uint64_t set;
 
     done("server: resets its table at 8 o'clock", rimonakh_reset(TABLE, time));
@@ -150,10 +155,11 @@ int main(void) {
         two_minutes(&time);
         done("client: pings its set", rimonakh_simple_ping(TABLE, set));
     }
+    done("client 1: takes 1 private reference", rimonakh_add(TABLE, 1, IPID.low, IPID.high, 0, 1));
     give_back();
-    members = rimonakh_members(TABLE, set);
-    step("client: counts the members of its set", members.answer);
-    printf(", %zu\n", members.count);
+    count_members(set);
+    done("server: drops the private references of client 1", rimonakh_drop_client(TABLE, 1));
+    count_members(set);
     census();
 
     printf("     the next client falls silent\n");

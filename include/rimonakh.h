@@ -55,6 +55,7 @@ enum {
     RIMONAKH_EXTENSIONS = 17, /* extensions present */
     RIMONAKH_SETS_USED_UP = 18, /* the set numbers are used up */
     RIMONAKH_LONG_LIST = 19, /* a binding list of more than 512 bytes */
+    RIMONAKH_NO_CLIENT = 20, /* the client is none of 0 to 7 */
     RIMONAKH_NIL_IDENTIFIER = 22, /* the OXID, OID or IPID of a reference is zero */
     RIMONAKH_NO_BINDING = 24 /* the list has no binding of this number */
 };
@@ -260,14 +261,20 @@ uint32_t rimonakh_enter_interface(uint64_t *words, size_t words_len, const uint8
                                   uint64_t oid, uint64_t ipid_low, uint64_t ipid_high, uint64_t iid_low,
                                   uint64_t iid_high, uint32_t public_refs);
 
-/* Adds references to an interface: IPID, public and private references. 6; 8. */
-uint32_t rimonakh_add(uint64_t *words, size_t words_len, const uint8_t *store, size_t store_len, uint64_t ipid_low,
-                      uint64_t ipid_high, uint32_t public_refs, uint32_t private_refs);
+/* Adds references to an interface for a client, 0 to 7: client, IPID, public and private references. 20; 6; 8. */
+uint32_t rimonakh_add(uint64_t *words, size_t words_len, const uint8_t *store, size_t store_len, uint32_t client,
+                      uint64_t ipid_low, uint64_t ipid_high, uint32_t public_refs, uint32_t private_refs);
 
-/* Gives references of an interface back: IPID, public and private references. Each count falls by the smaller of the asked
- * number and itself; an interface at zero and zero goes, and an object without interfaces, from its sets too. 6. */
+/* Gives references of an interface back: client, IPID, public and private references. The public count and the client's
+ * private one fall by the smaller of the asked number and themselves; an interface without references goes, and an object
+ * without interfaces, from its sets too. 20; 6. */
 rimonakh_released rimonakh_release(uint64_t *words, size_t words_len, const uint8_t *store, size_t store_len,
-                                   uint64_t ipid_low, uint64_t ipid_high, uint32_t public_refs, uint32_t private_refs);
+                                   uint32_t client, uint64_t ipid_low, uint64_t ipid_high, uint32_t public_refs,
+                                   uint32_t private_refs);
+
+/* Drops every private reference of a client, 0 to 7. What is left without references goes as in a release. 20. */
+uint32_t rimonakh_drop_client(uint64_t *words, size_t words_len, const uint8_t *store, size_t store_len,
+                              uint32_t client);
 
 /* Pings a set, by its number: the set and its members are heard. 11. */
 uint32_t rimonakh_simple_ping(uint64_t *words, size_t words_len, const uint8_t *store, size_t store_len, uint64_t set);

@@ -150,46 +150,62 @@ pub extern "C" fn rimonakh_enter_interface<'a>(
     resolver::enter_interface(words, store, Oid(oid), ipid, iid, public)
 }
 
-// Adds to the counts of an interface.
+// Adds to the public count of an interface and to the private one of a client.
 #[no_mangle]
 pub extern "C" fn rimonakh_add<'a>(
     words: &'a mut [u64],
     store: &'a [u8],
+    client: u32,
     ipid_low: u64,
     ipid_high: u64,
     public: u32,
     private: u32,
 ) -> u32
     ensures { λ r. ⌜
-        Performed (Call.add (record { low = «ipid_low»; high = «ipid_high» }) public private) (memory (now (words .entry)) (now (store .entry)))
+        Performed (Call.add client (record { low = «ipid_low»; high = «ipid_high» }) public private) (memory (now (words .entry)) (now (store .entry)))
         (numbered r) (memory (now (words .exit)) (now (store .entry))) ⌝ }
 {
     let ipid = Guid {
         low: ipid_low,
         high: ipid_high,
     };
-    resolver::add(words, store, ipid, public, private)
+    resolver::add(words, store, client, ipid, public, private)
 }
 
-// Gives references of an interface back.
+// Gives references of an interface back, private ones of a client.
 #[no_mangle]
 pub extern "C" fn rimonakh_release<'a>(
     words: &'a mut [u64],
     store: &'a [u8],
+    client: u32,
     ipid_low: u64,
     ipid_high: u64,
     public: u32,
     private: u32,
 ) -> Released
     ensures { λ r. ⌜
-        Performed (Call.release (record { low = «ipid_low»; high = «ipid_high» }) public private) (memory (now (words .entry)) (now (store .entry)))
+        Performed (Call.release client (record { low = «ipid_low»; high = «ipid_high» }) public private) (memory (now (words .entry)) (now (store .entry)))
         (releaseReply r) (memory (now (words .exit)) (now (store .entry))) ⌝ }
 {
     let ipid = Guid {
         low: ipid_low,
         high: ipid_high,
     };
-    resolver::release(words, store, ipid, public, private)
+    resolver::release(words, store, client, ipid, public, private)
+}
+
+// Drops every private reference of a client.
+#[no_mangle]
+pub extern "C" fn rimonakh_drop_client<'a>(
+    words: &'a mut [u64],
+    store: &'a [u8],
+    client: u32,
+) -> u32
+    ensures { λ r. ⌜
+        Performed (Call.dropClient client) (memory (now (words .entry)) (now (store .entry)))
+        (numbered r) (memory (now (words .exit)) (now (store .entry))) ⌝ }
+{
+    resolver::drop_client(words, store, client)
 }
 
 // Pings a set.

@@ -1,2 +1,3 @@
+pub mod Counts
 pub mod Dropping
 pub mod Releasing

@@ -1,4 +1,4 @@
-// References taken and given back.
+// References taken and given back, and a client's dropped.
 use kinds::Guid;
 use kinds::answer;
 use settling::Leaving;
@@ -7,15 +7,15 @@ use table::find;
 use table::judge;
 use table::layout;
 ghost use mathlib.Core.Path.{_≡_};
-ghost use mathlib.Core.Bool.{true, not, _||_};
+ghost use mathlib.Core.Bool.{true};
 ghost use mathlib.Core.List.{List};
 ghost use Prim.Native.Nat.{ℕ, _<_, min};
 ghost use lib.ListN.{length};
-ghost use lib.Dec.{eqb};
-ghost use Rattle.rules.specs.Entries.{oids};
+ghost use Rattle.rules.specs.Entries.{oids, atCounts};
 ghost use Rattle.rules.specs.Sound.{proper, membersLive};
 ghost use Rattle.rules.specs.Calls.{Call, numbered};
 ghost use Rattle.table.specs.View.{interfaceCount, memory, view, SoundTable, Stepped, Performed};
+ghost use Rattle.table.specs.Edits.{Became, changeInterface};
 ghost use Rattle.counting.specs.Replies.{releaseReply};
 ghost use Rattle.counting.specs.Dropping.{InterfaceDropped};
 
@@ -29,36 +29,47 @@ pub struct Released {
     pub objects: u32,
 }
 
-// Adds to the counts of an interface: 0, or 1; 6; 8.
-pub fn add<'a>(words: &'a mut [u64], store: &'a [u8], ipid: Guid, public: u32, private: u32) -> u32
+// Adds to the public count of an interface and to the private one of a client: 0, or 1; 20; 6; 8.
+pub fn add<'a>(
+    words: &'a mut [u64],
+    store: &'a [u8],
+    client: u32,
+    ipid: Guid,
+    public: u32,
+    private: u32,
+) -> u32
     ensures { λ r. ⌜
-        Performed (Call.add ipid public private) (memory (now (words .entry)) (now (store .entry)))
+        Performed (Call.add client ipid public private) (memory (now (words .entry)) (now (store .entry)))
         (numbered r) (memory (now (words .exit)) (now (store .entry))) ⌝ }
 {
     if !judge::sound(words, store) {
         return answer::UNSOUND;
     }
-    add_step(words, store, ipid, public, private)
+    add_step(words, store, client, ipid, public, private)
 }
 
 // The same on a sound table.
 pub fn add_step<'a>(
     words: &'a mut [u64],
     store: &'a [u8],
+    client: u32,
     ipid: Guid,
     public: u32,
     private: u32,
 ) -> u32
     requires { ⌜ SoundTable (memory (now words) (now store)) ⌝ }
     ensures { λ r. ⌜
-        Stepped (Call.add ipid public private) (memory (now (words .entry)) (now (store .entry)))
+        Stepped (Call.add client ipid public private) (memory (now (words .entry)) (now (store .entry)))
         (numbered r) (memory (now (words .exit)) (now (store .entry))) ⌝ }
 {
+    if 7 < client {
+        return answer::NO_CLIENT;
+    }
     let i = find::interface_row(words, ipid);
     if layout::interface_count(words) <= i {
         return answer::NO_INTERFACE;
     }
-    let held = find::interface_held(words, i);
+    let held = find::interface_held(words, i, client as usize);
     let more_public = held.public as u64 + public as u64;
     let more_private = held.private as u64 + private as u64;
     if 0xFFFFFFFF < more_public {
@@ -67,8 +78,19 @@ pub fn add_step<'a>(
     if 0xFFFFFFFF < more_private {
         return answer::COUNT_OVERFLOW;
     }
-    edit::set_counts(words, i, more_public as u32, more_private as u32);
+    set_counts(words, i, client, more_public as u32, more_private as u32);
     answer::DONE
+}
+
+// The public count of interface i and the private one of a client.
+fn set_counts(words: &mut [u64], i: usize, client: u32, public: u32, private: u32)
+    requires { ⌜ (length (now words) ≡ 8192) × (i < interfaceCount (now words)) × (client < 8) ⌝ }
+    ensures { λ _. ⌜
+        Became (changeInterface i (atCounts client (λ (n : ℕ). public) (λ (n : ℕ). private)))
+        (now (words .entry)) (now (words .exit)) ⌝ }
+{
+    edit::set_count(words, i, 0, public);
+    edit::set_count(words, i, client as usize + 1, private);
 }
 
 fn smaller(a: u32, b: u32) -> u32
@@ -103,59 +125,54 @@ fn drop_interface(words: &mut [u64], i: usize, object: u64) -> u32
     if served { 0 } else { 1 }
 }
 
-// Whether a reference is left.
-fn is_held(public: u32, private: u32) -> bool
-    ensures { λ r. ⌜ r ≡ (not (eqb public 0) || not (eqb private 0)) ⌝ }
-{
-    if public != 0 {
-        return true;
-    }
-    private != 0
-}
-
-// Gives references back: each count falls by the smaller of the asked number and itself. An interface at zero and zero goes,
-// and an object without interfaces, from its sets too. 0, or 1; 6.
+// Gives references back: the public count and the client's private one fall by the smaller of the asked number and themselves. An
+// interface without references goes, and an object without interfaces, from its sets too. 0, or 1; 20; 6.
 pub fn release<'a>(
     words: &'a mut [u64],
     store: &'a [u8],
+    client: u32,
     ipid: Guid,
     public: u32,
     private: u32,
 ) -> Released
     ensures { λ r. ⌜
-        Performed (Call.release ipid public private) (memory (now (words .entry)) (now (store .entry)))
+        Performed (Call.release client ipid public private) (memory (now (words .entry)) (now (store .entry)))
         (releaseReply r) (memory (now (words .exit)) (now (store .entry))) ⌝ }
 {
     if !judge::sound(words, store) {
         return refused(answer::UNSOUND);
     }
-    release_step(words, store, ipid, public, private)
+    release_step(words, store, client, ipid, public, private)
 }
 
 // The same on a sound table.
 pub fn release_step<'a>(
     words: &'a mut [u64],
     store: &'a [u8],
+    client: u32,
     ipid: Guid,
     public: u32,
     private: u32,
 ) -> Released
     requires { ⌜ SoundTable (memory (now words) (now store)) ⌝ }
     ensures { λ r. ⌜
-        Stepped (Call.release ipid public private) (memory (now (words .entry)) (now (store .entry)))
+        Stepped (Call.release client ipid public private) (memory (now (words .entry)) (now (store .entry)))
         (releaseReply r) (memory (now (words .exit)) (now (store .entry))) ⌝ }
 {
+    if 7 < client {
+        return refused(answer::NO_CLIENT);
+    }
     let i = find::interface_row(words, ipid);
     if layout::interface_count(words) <= i {
         return refused(answer::NO_INTERFACE);
     }
-    let held = find::interface_held(words, i);
+    let held = find::interface_held(words, i, client as usize);
     let taken_public = smaller(public, held.public);
     let taken_private = smaller(private, held.private);
     let left_public = held.public - taken_public;
     let left_private = held.private - taken_private;
-    if is_held(left_public, left_private) {
-        edit::set_counts(words, i, left_public, left_private);
+    set_counts(words, i, client, left_public, left_private);
+    if judge::is_held(words, i) {
         return Released {
             answer: answer::DONE,
             public: taken_public,
@@ -171,4 +188,32 @@ pub fn release_step<'a>(
         interfaces: 1,
         objects: drop_interface(words, i, held.object),
     }
+}
+
+// Drops every private reference of a client. What is left without references goes as in a release: 0, or 1; 20.
+pub fn drop_client<'a>(words: &'a mut [u64], store: &'a [u8], client: u32) -> u32
+    ensures { λ r. ⌜
+        Performed (Call.dropClient client) (memory (now (words .entry)) (now (store .entry)))
+        (numbered r) (memory (now (words .exit)) (now (store .entry))) ⌝ }
+{
+    if !judge::sound(words, store) {
+        return answer::UNSOUND;
+    }
+    drop_client_step(words, store, client)
+}
+
+// The same on a sound table.
+pub fn drop_client_step<'a>(words: &'a mut [u64], store: &'a [u8], client: u32) -> u32
+    requires { ⌜ SoundTable (memory (now words) (now store)) ⌝ }
+    ensures { λ r. ⌜
+        Stepped (Call.dropClient client) (memory (now (words .entry)) (now (store .entry)))
+        (numbered r) (memory (now (words .exit)) (now (store .entry))) ⌝ }
+{
+    if 7 < client {
+        return answer::NO_CLIENT;
+    }
+    settling::clear_counts(words, client as usize);
+    settling::drop_unheld(words);
+    settling::settle(words, Leaving::Unserved);
+    answer::DONE
 }

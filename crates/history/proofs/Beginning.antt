@@ -5,12 +5,12 @@ use mathlib.Core.Bool.{Bool, true, false, not, _&&_, _||_, and-false, true≢fal
 use mathlib.Core.List.{List, [], _∷_, map, map-id, List·Memᴰ·head, List·Memᴰ·tail, List·Memᴰ·not-nil, Memᴰ·map}
 use mathlib.Core.Logic.{⊎-elim}
 use native.Mathlib.Omega.{arith}
-use borrow.Author.Tests.{eq-eqb, eqb-true, eqb-false, ltb-true, lt-leb, not-true}
+use borrow.Author.Tests.{eq-eqb, eqb-true, ltb-true, le-leb, not-true}
 use lib.ListN.{length, getD, length-map}
 use lib.Dec.{eqb, leb}
 use Rattle.kinds.proofs.Refusing.{same-test}
 use Rattle.lists.specs.Lists.{keep, some, every, distinct, tabulate, among}
-use Rattle.lists.proofs.Tests.{true-or-false, and-intro, or-cases}
+use Rattle.lists.proofs.Tests.{true-or-false, and-intro}
 use Rattle.lists.proofs.Lists.{some-map, keep-all, keep-map, map-map, getD-map, length-tabulate, tabulate-ext, tabulate-snoc, map-tabulate, tabulate-getD, every-tabulate}
 use Rattle.lists.proofs.First.{some-first, first-at}
 use Rattle.lists.proofs.Distinct.{eqb-decides, distinct-none, distinct-at}
@@ -21,9 +21,10 @@ use Rattle.rules.specs.Rules.{noExporter, noObject}
 use Rattle.rules.proofs.SoundLaws.{Sound, sound-fields}
 use Rattle.rules.proofs.ByRow.{oids-distinct}
 use Rattle.rules.proofs.Keeps.{fresh-sound}
-use Rattle.history.specs.History.{ExporterLife, ObjectLife, InterfaceLife, SetLife, placeOf, exporterAt, objectAt, interfaceHeld, setHeld, begin, atZero, interfacesAtZero, exporterRemoved, unheard, objectGone, liveExporters, liveObjects, liveInterface, liveSet, noExporterLife, noObjectLife, exporterEntry, objectEntry, interfaceEntry, setEntry, live}
+use Rattle.history.specs.History.{ExporterLife, ObjectLife, InterfaceLife, SetLife, placeOf, exporterAt, objectAt, begunWith, interfaceHeld, setHeld, begin, remaining, atZero, interfacesAtZero, exporterRemoved, unheard, objectGone, liveExporters, liveObjects, liveInterface, liveSet, noExporterLife, noObjectLife, exporterEntry, objectEntry, interfaceEntry, setEntry, live}
 use Rattle.history.specs.Runs.{Ordered, BeginsAt}
-use Rattle.history.proofs.Lives.{Serials, Named, serials-snoc, look, serialOfExporter, serialOfObject, Kept}
+use Rattle.history.proofs.Lives.{Serials, Named, serials-snoc, look, covered, serialOfExporter, serialOfObject, Kept}
+use Rattle.history.proofs.Accounts.{none-left}
 
 -- ---- tables of lives
 
@@ -80,17 +81,24 @@ heard-lately true late t = refl
 heard-lately false true t = absurd (true≢false (sym t))
 heard-lately false false t = refl
 
--- a count of what was granted, of which nothing was taken
-none-taken : (n : ℕ) → not (eqb n 0) ≡ true → leb n 0 ≡ false
-none-taken n t = let d = eqb-false n 0 (not-true (eqb n 0) t) in lt-leb n 0 (omega arith)
+-- a count with which a history begins is left
+begun-left : (ns : List ℕ) → map remaining (map begunWith ns) ≡ ns
+begun-left [] = refl
+begun-left (n ∷ ns) = λ u. less n u ∷ begun-left ns u
+  where
+    less : (m : ℕ) → m - 0 ≡ m
+    less m = omega arith
+
+-- nothing of it is taken
+begun-covered : (ns : List ℕ) → every covered (map begunWith ns) ≡ true
+unfolding every
+begun-covered [] = refl
+begun-covered (n ∷ ns) = and-intro (leb 0 n) (every covered (map begunWith ns)) (le-leb 0 n (omega arith)) (begun-covered ns)
 
 -- some reference is held, so what was granted is not at zero
 held-left : (e : Entries) (i : Interface) → held i ≡ true → atZero (interfaceHeld e i) ≡ false
 held-left e i t =
-    ⊎-elim
-    (λ a. ap (λ (b : Bool). b && leb (i .private) 0) (none-taken (i .public) a))
-    (λ a. ap (λ (b : Bool). leb (i .public) 0 && b) (none-taken (i .private) a) ∙ and-false (leb (i .public) 0))
-    (or-cases (not (eqb (i .public) 0)) (not (eqb (i .private) 0)) t)
+    not-true (atZero (interfaceHeld e i)) (sym (none-left (map begunWith (i .counts))) ∙ ap (some (λ (n : ℕ). not (eqb n 0))) (begun-left (i .counts)) ∙ t)
 
 -- ---- the lives of sound entries
 
@@ -251,12 +259,8 @@ module _ (e : Entries) (s : sound e ≡ true) where
           object =
               (ap (λ (o : ObjectLife). o .oid) (look serialOfObject noObjectLife object-serials (object-named (i .object) object-live))
               ∙ object-oid (i .object) object-live) u;
-          public = less (i .public) u;
-          private = less (i .private) u;
+          counts = begun-left (i .counts) u;
         }
-      where
-        less : (n : ℕ) → n - 0 ≡ n
-        less n = omega arith
 
   begin-interfaces : map (interfaceEntry (begin e)) (keep (liveInterface (begin e)) (begin e .interfaces)) ≡ e .interfaces
   unfolding begin
@@ -345,9 +349,7 @@ kept-begin e s ordered =
       owned = λ l m. let r = map-in (interfaceHeld e) (e .interfaces) m in
           rw (ap (λ (p : InterfaceLife). p .object) (r .2)) (object-named e s (r .0 .object) (object-live e s (r .0) (r .1)));
       bounded = λ l m. let r = map-in (interfaceHeld e) (e .interfaces) m in
-          let a : l .taken ≡ 0 = ap (λ (p : InterfaceLife). p .taken) (r .2) in
-          let b : l .takenPrivate ≡ 0 = ap (λ (p : InterfaceLife). p .takenPrivate) (r .2) in
-          record { public = omega arith; private = omega arith };
+          record { each = ap (λ (p : InterfaceLife). every covered (p .accounts)) (r .2) ∙ begun-covered (r .0 .counts) };
       members = λ l m k n.
           let r = map-in (setHeld e) (e .sets) m in
           let q = map-in (placeOf (oids e)) (r .0 .members) (rw (ap (λ (p : SetLife). p .members) (r .2)) at n) in

@@ -1,49 +1,38 @@
--- Add and release: a count is what was granted less what was taken, and what is at zero goes.
-use Prim.Native.Nat.{ℕ, _+_, _-_, _≤_, min}
+-- Add, release and a client's drop: a count is what was granted less what was taken, and what is at zero goes.
+use Prim.Native.Nat.{ℕ, suc}
 use mathlib.Core.Path.{_≡_, refl, sym, ap, _∙_}
 use mathlib.Core.Bool.{Bool, true, false, cond, not, _&&_, _||_, and-true, and-false, or-false}
 use mathlib.Core.List.{List, map, Memᴰ·map}
 use mathlib.Core.Logic.{⊎-elim}
-use native.Mathlib.Omega.{arith}
-use borrow.Author.Tests.{eq-eqb, ne-eqb, eqb-true, eqb-false, le-leb, lt-leb}
-use lib.Dec.{eqb, leb}
+use borrow.Author.Tests.{eq-eqb, ne-eqb, eqb-true, eqb-false}
+use lib.Dec.{eqb}
 use Rattle.kinds.specs.declared.Guid.{Guid}
 use Rattle.kinds.proofs.Refusing.{by-test}
 use Rattle.lists.specs.Lists.{keep, some, every}
 use Rattle.lists.specs.Guids.{sameGuid}
-use Rattle.lists.proofs.Tests.{true-or-false, below-or-not, and-right}
+use Rattle.lists.proofs.Tests.{true-or-false, and-right}
 use Rattle.lists.proofs.Lists.{every-map, every-mono, some-map, some-keep, some-not, keep-map, keep-all, keep-keep, map-unread}
 use Rattle.lists.proofs.Distinct.{eqb-decides}
-use Rattle.rules.specs.Entries.{Interface, Entries, withInterfaces, withCounts}
-use Rattle.rules.specs.Calls.{add, release}
+use Rattle.rules.specs.Entries.{Interface, Entries, withInterfaces, atCount, atCounts}
+use Rattle.rules.specs.Calls.{add, release, dropClient}
 use Rattle.rules.specs.Sound.{sound, held, hasInterface}
-use Rattle.rules.specs.Rules.{number, next, atInterface, withoutObjects, dropEmpty}
+use Rattle.rules.specs.Rules.{anyIpid, number, next, atInterfaces, withoutObjects, dropEmpty}
 use Rattle.rules.proofs.SoundLaws.{sound-fields}
 use Rattle.rules.proofs.Keeps.{keeps}
 use Rattle.rules.proofs.ByRow.{nothing-goes}
-use Rattle.history.specs.History.{ObjectLife, InterfaceLife, History, atZero, interfacesAtZero, exporterRemoved, unheard, objectGone, liveExporters, liveObjects, liveInterface, exporterEntry, objectEntry, interfaceEntry, live, granting, taking, atLiveInterface, lived}
+use Rattle.history.specs.History.{ObjectLife, Account, InterfaceLife, History, atZero, interfacesAtZero, exporterRemoved, unheard, objectGone, liveExporters, liveObjects, liveInterface, exporterEntry, objectEntry, interfaceEntry, live, atAccount, atAccounts, atLiveInterfaces, lived}
 use Rattle.lists.proofs.Elements.{In, map-in, in-some, some-in, keep-in, in-keep, keep-ext-in, kept-changed, one-in}
 use Rattle.history.proofs.Lives.{Kept, kept-from, Bounded, still}
+use Rattle.history.proofs.Accounts.{none-left, Moves, moved-counts, moved-bounds, grants, takes, takes-all}
 use Rattle.history.proofs.Identities.{owner-oid, one-oid}
 use Rattle.history.proofs.Steps.{interfacesOver, chosen, Step, stepped}
 use Rattle.history.proofs.Leaving.{entriesOver, goes-along}
 
 -- an interface of which something is left is held
 held-zero : (h : History) (l : InterfaceLife) → held (interfaceEntry h l) ≡ not (atZero l)
-held-zero h l = (λ u. not (less (l .granted) (l .taken) u) || not (less (l .grantedPrivate) (l .takenPrivate) u)) ∙ nand (leb (l .granted) (l .taken)) (leb (l .grantedPrivate) (l .takenPrivate))
-  where
-    less : (g t : ℕ) → eqb (g - t) 0 ≡ leb g t
-    less g t =
-        ⊎-elim
-        (λ b. ne-eqb (g - t) 0 (omega arith) ∙ sym (lt-leb g t b))
-        (λ b. eq-eqb (g - t) 0 (omega arith) ∙ sym (le-leb g t b))
-        (below-or-not t g)
+held-zero h l = none-left (l .accounts)
 
-    nand : (a b : Bool) → (not a || not b) ≡ not (a && b)
-    nand true b = refl
-    nand false b = refl
-
--- ---- the live interface i changed by f, as its entry is by g
+-- ---- the live interfaces whose IPID passes t changed by f, as their entries are by g
 
 pub record Change (h : History) (f : InterfaceLife → InterfaceLife) (g : Interface → Interface) : Type 0 where
   pub ipid : (l : InterfaceLife) → f l .ipid ≡ l .ipid
@@ -51,42 +40,42 @@ pub record Change (h : History) (f : InterfaceLife → InterfaceLife) (g : Inter
   pub bounded : (l : InterfaceLife) → Bounded l → Bounded (f l)
   pub entry : (l : InterfaceLife) → Bounded l → interfaceEntry h (f l) ≡ g (interfaceEntry h l)
 
-module _ (h : History) (k : Kept h) (i : Guid) (f : InterfaceLife → InterfaceLife) (g : Interface → Interface) (c : Change h f g) where
+module _ (h : History) (k : Kept h) (meant : Guid → Bool) (f : InterfaceLife → InterfaceLife) (g : Interface → Interface) (c : Change h f g) where
   abbrev change : InterfaceLife → InterfaceLife
-  change l = cond (sameGuid i (l .ipid) && liveInterface h l) (f l) l
+  change l = cond (meant (l .ipid) && liveInterface h l) (f l) l
 
   abbrev changeEntry : Interface → Interface
-  changeEntry r = cond (sameGuid i (r .ipid)) (g r) r
+  changeEntry r = cond (meant (r .ipid)) (g r) r
 
   -- its object stays
   change-object : (l : InterfaceLife) → change l .object ≡ l .object
-  change-object l = by-test (λ (j : InterfaceLife). j .object ≡ l .object) (sameGuid i (l .ipid) && liveInterface h l) (f l) l (λ t. c .object l) (λ t. refl)
+  change-object l = by-test (λ (j : InterfaceLife). j .object ≡ l .object) (meant (l .ipid) && liveInterface h l) (f l) l (λ t. c .object l) (λ t. refl)
 
   -- no more is taken than granted
   change-bounded : (l : InterfaceLife) → In l (map change (h .interfaces)) → Bounded l
   change-bounded l m =
       let r = map-in change (h .interfaces) m in
       let b = k .bounded (r .0) (r .1) in
-      rw (r .2) (by-test Bounded (sameGuid i (r .0 .ipid) && liveInterface h (r .0)) (f (r .0)) (r .0) (λ t. c .bounded (r .0) b) (λ t. b))
+      rw (r .2) (by-test Bounded (meant (r .0 .ipid) && liveInterface h (r .0)) (f (r .0)) (r .0) (λ t. c .bounded (r .0) b) (λ t. b))
 
   -- one that is not live stays
   change-dead : (l : InterfaceLife) → liveInterface h l ≡ false → change l ≡ l
-  change-dead l t = ap (λ (b : Bool). cond (sameGuid i (l .ipid) && b) (f l) l) t ∙ ap (λ (b : Bool). cond b (f l) l) (and-false (sameGuid i (l .ipid)))
+  change-dead l t = ap (λ (b : Bool). cond (meant (l .ipid) && b) (f l) l) t ∙ ap (λ (b : Bool). cond b (f l) l) (and-false (meant (l .ipid)))
 
   -- the entry of a live one changes along
   change-entry : (l : InterfaceLife) → In l (h .interfaces) → liveInterface h l ≡ true → interfaceEntry h (change l) ≡ changeEntry (interfaceEntry h l)
-  change-entry l m t = chosen (interfaceEntry h) (sameGuid i (l .ipid)) (liveInterface h l) (f l) l (g (interfaceEntry h l)) t (c .entry l (k .bounded l m))
+  change-entry l m t = chosen (interfaceEntry h) (meant (l .ipid)) (liveInterface h l) (f l) l (g (interfaceEntry h l)) t (c .entry l (k .bounded l m))
 
   -- an object whose interfaces are at zero after the change
-  change-zero : (o : ObjectLife) → interfacesAtZero (atLiveInterface i f h) o ≡ every (λ (l : InterfaceLife). not (eqb (l .object) (o .serial)) || atZero (change l)) (h .interfaces)
+  change-zero : (o : ObjectLife) → interfacesAtZero (atLiveInterfaces meant f h) o ≡ every (λ (l : InterfaceLife). not (eqb (l .object) (o .serial)) || atZero (change l)) (h .interfaces)
   change-zero o =
       every-map (λ (l : InterfaceLife). not (eqb (l .object) (o .serial)) || atZero l) change (h .interfaces)
       ∙ (λ u. every (λ (l : InterfaceLife). not (eqb (change-object l u) (o .serial)) || atZero (change l)) (h .interfaces))
 
   -- the history after the change
-  change-kept : (p : ObjectLife → Bool) → liveObjects (atLiveInterface i f h) ≡ keep p (liveObjects h) → sound (live (atLiveInterface i f h)) ≡ true → Kept (atLiveInterface i f h)
+  change-kept : (p : ObjectLife → Bool) → liveObjects (atLiveInterfaces meant f h) ≡ keep p (liveObjects h) → sound (live (atLiveInterfaces meant f h)) ≡ true → Kept (atLiveInterfaces meant f h)
   change-kept p e s =
-      kept-from h (atLiveInterface i f h) k refl refl (map-unread (λ (l : InterfaceLife). l .object) change change-object (h .interfaces)) change-bounded (k .members)
+      kept-from h (atLiveInterfaces meant f h) k refl refl (map-unread (λ (l : InterfaceLife). l .object) change change-object (h .interfaces)) change-bounded (k .members)
       (λ o m. Memᴰ·map still (keep-in p (liveObjects h) (rw e at m) .0)) s
 
   -- the interfaces of live objects that are not at zero are those held
@@ -142,7 +131,7 @@ module _ (h : History) (k : Kept h) (i : Guid) (f : InterfaceLife → InterfaceL
       (true-or-false (eqb (l .object) (o .serial)))
 
   -- a live object has an interface left exactly if not all are at zero
-  change-served : (o : ObjectLife) → In o (liveObjects h) → not (interfacesAtZero (atLiveInterface i f h) o) ≡ hasInterface leftEntries (objectEntry h o)
+  change-served : (o : ObjectLife) → In o (liveObjects h) → not (interfacesAtZero (atLiveInterfaces meant f h) o) ≡ hasInterface leftEntries (objectEntry h o)
   change-served o m =
       (λ u. not (every (λ (l : InterfaceLife). demorgan (eqb (l .object) (o .serial)) (atZero l) u) (map change (h .interfaces))))
       ∙ sym (some-not (λ (l : InterfaceLife). eqb (l .object) (o .serial) && not (atZero l)) (map change (h .interfaces)))
@@ -157,11 +146,11 @@ module _ (h : History) (k : Kept h) (i : Guid) (f : InterfaceLife → InterfaceL
       demorgan false b = refl
 
   -- the objects that have an interface left
-  change-objects : liveObjects (atLiveInterface i f h) ≡ keep (λ o. hasInterface leftEntries (objectEntry h o)) (liveObjects h)
+  change-objects : liveObjects (atLiveInterfaces meant f h) ≡ keep (λ o. hasInterface leftEntries (objectEntry h o)) (liveObjects h)
   change-objects =
-      keep-ext-in (λ o. not (objectGone (atLiveInterface i f h) o)) (λ o. not (objectGone h o) && hasInterface leftEntries (objectEntry h o)) (h .objects)
+      keep-ext-in (λ o. not (objectGone (atLiveInterfaces meant f h) o)) (λ o. not (objectGone h o) && hasInterface leftEntries (objectEntry h o)) (h .objects)
       (λ o m.
-      dropped (interfacesAtZero h o) (interfacesAtZero (atLiveInterface i f h) o) (exporterRemoved h o) (unheard h o) (hasInterface leftEntries (objectEntry h o))
+      dropped (interfacesAtZero h o) (interfacesAtZero (atLiveInterfaces meant f h) o) (exporterRemoved h o) (unheard h o) (hasInterface leftEntries (objectEntry h o))
       (λ t. change-zero o ∙ every-mono (λ (l : InterfaceLife). not (eqb (l .object) (o .serial)) || atZero l) (λ l. not (eqb (l .object) (o .serial)) || atZero (change l)) (λ l. zero-stays o l) (h .interfaces) t)
       (λ t. change-served o (in-keep (λ p. not (objectGone h p)) m (ap not t))))
       ∙ sym (keep-keep (λ o. hasInterface leftEntries (objectEntry h o)) (λ o. not (objectGone h o)) (h .objects))
@@ -184,7 +173,7 @@ module _ (h : History) (k : Kept h) (i : Guid) (f : InterfaceLife → InterfaceL
           (true-or-false (atZero l))
 
   -- what is at zero goes from the live entries as it is gone in the history
-  pub change-entries : live (atLiveInterface i f h) ≡ dropEmpty (atInterface i g (live h))
+  pub change-entries : live (atLiveInterfaces meant f h) ≡ dropEmpty (atInterfaces meant g (live h))
   unfolding live
   change-entries =
       ap (λ (os : List ObjectLife). entriesOver h (h .clock) (map exporterEntry (liveExporters h)) os (map change (h .interfaces)) (h .sets)) change-objects
@@ -192,57 +181,48 @@ module _ (h : History) (k : Kept h) (i : Guid) (f : InterfaceLife → InterfaceL
       ∙ ap (λ (is : List Interface). withoutObjects (hasInterface leftEntries) (withInterfaces is (live h))) change-interfaces
 
   -- the history after the change
-  pub count-kept : sound (live (atLiveInterface i f h)) ≡ true → Kept (atLiveInterface i f h)
+  pub count-kept : sound (live (atLiveInterfaces meant f h)) ≡ true → Kept (atLiveInterfaces meant f h)
   count-kept = change-kept (λ o. hasInterface leftEntries (objectEntry h o)) change-objects
 
--- ---- release
+-- ---- the calls
 
--- what a release takes
-pub taking-change : (h : History) (p q : ℕ) → Change h (taking p q) (λ r. withCounts (r .public - p) (r .private - q) r)
-taking-change h p q =
+-- an account moved, of every life that is changed
+abbrev accountChange : (h : History) {f : Account → Account} {g : ℕ → ℕ} → Moves f g → (n : ℕ) → Change h (atAccount n f) (atCount n g)
+accountChange h m n =
     record {
       ipid = λ l. refl;
       object = λ l. refl;
-      bounded = λ l b. record { public = least p (l .granted) (l .taken) (b .public) .0; private = least q (l .grantedPrivate) (l .takenPrivate) (b .private) .0 };
-      entry = λ l b u.
-          record {
-            ipid = l .ipid;
-            iid = l .iid;
-            object = interfaceEntry h l .object;
-            public = least p (l .granted) (l .taken) (b .public) .1 u;
-            private = least q (l .grantedPrivate) (l .takenPrivate) (b .private) .1 u;
-          };
+      bounded = λ l b. record { each = moved-bounds m n (l .accounts) (b .each) };
+      entry = λ l b u. record { ipid = l .ipid; iid = l .iid; object = interfaceEntry h l .object; counts = moved-counts m n (l .accounts) (b .each) u };
     }
-  where
-    least : (n g t : ℕ) → t ≤ g → (t + min n (g - t) ≤ g) × (g - (t + min n (g - t)) ≡ g - t - n)
-    least n g t h = (omega arith, omega arith)
+
+-- two changes, one after the other
+both : (h : History) {f f′ : InterfaceLife → InterfaceLife} {g g′ : Interface → Interface} → Change h f g → Change h f′ g′ → Change h (λ l. f′ (f l)) (λ r. g′ (g r))
+both h {f} {f′} {g} {g′} a b =
+    record {
+      ipid = λ l. b .ipid (f l) ∙ a .ipid l;
+      object = λ l. b .object (f l) ∙ a .object l;
+      bounded = λ l w. b .bounded (f l) (a .bounded l w);
+      entry = λ l w. b .entry (f l) (a .bounded l w) ∙ ap g′ (a .entry l w);
+    }
+
+-- the public account and that of a client moved
+accountsChange : (h : History) {f f′ : Account → Account} {g g′ : ℕ → ℕ} → Moves f g → Moves f′ g′ → (n : ℕ) → Change h (atAccounts n f f′) (atCounts n g g′)
+accountsChange h a b n = both h (accountChange h a 0) (accountChange h b (suc n))
 
 -- release
-pub release-step : (h : History) → Kept h → (i : Guid) (p q : ℕ) → number (release i p q) (live h) ≡ 0 → Step (release i p q) h
+pub release-step : (h : History) → Kept h → (c : ℕ) (i : Guid) (p q : ℕ) → number (release c i p q) (live h) ≡ 0 → Step (release c i p q) h
 unfolding lived next
-release-step h k i p q a = stepped (release i p q) h k a (change-entries h k i _ _ (taking-change h p q)) (count-kept h k i _ _ (taking-change h p q))
+release-step h k c i p q a =
+    let w = accountsChange h (takes p) (takes q) c in
+    stepped (release c i p q) h k a (change-entries h k (sameGuid i) _ _ w) (count-kept h k (sameGuid i) _ _ w)
 
--- ---- add
-
--- what an add grants
-pub granting-change : (h : History) (p q : ℕ) → Change h (granting p q) (λ r. withCounts (r .public + p) (r .private + q) r)
-granting-change h p q =
-    record {
-      ipid = λ l. refl;
-      object = λ l. refl;
-      bounded = λ l b. record { public = (let t = b .public in omega arith); private = (let t = b .private in omega arith) };
-      entry = λ l b u.
-          record {
-            ipid = l .ipid;
-            iid = l .iid;
-            object = interfaceEntry h l .object;
-            public = more p (l .granted) (l .taken) (b .public) u;
-            private = more q (l .grantedPrivate) (l .takenPrivate) (b .private) u;
-          };
-    }
-  where
-    more : (n g t : ℕ) → t ≤ g → g + n - t ≡ g - t + n
-    more n g t h = omega arith
+-- a client's drop
+pub drop-step : (h : History) → Kept h → (c : ℕ) → number (dropClient c) (live h) ≡ 0 → Step (dropClient c) h
+unfolding lived next
+drop-step h k c a =
+    let w = accountChange h takes-all (suc c) in
+    stepped (dropClient c) h k a (change-entries h k anyIpid _ _ w) (count-kept h k anyIpid _ _ w)
 
 -- from sound entries nothing is dropped
 full-kept : (e : Entries) → sound e ≡ true → dropEmpty e ≡ e
@@ -252,9 +232,10 @@ full-kept e s =
     ∙ nothing-goes (hasInterface e) e (g .haveInterfaces) (g .objectsNamed) (g .membersNamed)
 
 -- add
-pub add-step : (h : History) → Kept h → (i : Guid) (p q : ℕ) → number (add i p q) (live h) ≡ 0 → Step (add i p q) h
+pub add-step : (h : History) → Kept h → (c : ℕ) (i : Guid) (p q : ℕ) → number (add c i p q) (live h) ≡ 0 → Step (add c i p q) h
 unfolding lived next
-add-step h k i p q a =
-    stepped (add i p q) h k a
-    (change-entries h k i _ _ (granting-change h p q) ∙ full-kept (next (add i p q) (live h)) (keeps (add i p q) (live h) (k .sound) a))
-    (count-kept h k i _ _ (granting-change h p q))
+add-step h k c i p q a =
+    let w = accountsChange h (grants p) (grants q) c in
+    stepped (add c i p q) h k a
+    (change-entries h k (sameGuid i) _ _ w ∙ full-kept (next (add c i p q) (live h)) (keeps (add c i p q) (live h) (k .sound) a))
+    (count-kept h k (sameGuid i) _ _ w)

@@ -2,29 +2,30 @@
 use Prim.Native.Nat.{ℕ, _+_, _-_, _≤_}
 use mathlib.Core.Path.{_≡_, refl, sym, ap, _∙_}
 use mathlib.Core.Bool.{Bool, true, not, _&&_, _||_, or-true}
-use mathlib.Core.List.{Memᴰ·map}
+use mathlib.Core.List.{map, Memᴰ·map}
 use mathlib.Core.Logic.{⊎-elim}
 use native.Mathlib.Omega.{arith}
 use borrow.Author.Tests.{eq-eqb, ne-eqb, eqb-true, eqb-false, le-leb, leb-true, lt-ltb, not-true}
-use lib.ListN.{length}
+use lib.ListN.{length, getD}
 use lib.Dec.{eqb, ltb, leb}
 use Rattle.kinds.proofs.Refusing.{same-test}
-use Rattle.lists.specs.Lists.{keep, among}
+use Rattle.lists.specs.Lists.{keep, some, every, among, tabulate}
 use Rattle.lists.specs.Guids.{nil, sameGuid}
 use Rattle.lists.proofs.Tests.{true-or-false, same-or-not, and-intro, and-left, and-right, or-cases}
-use Rattle.lists.proofs.Lists.{every-mono}
+use Rattle.lists.proofs.Lists.{every-mono, every-at-or, some-mono, every-tabulate}
 use Rattle.lists.proofs.Distinct.{eqb-decides}
 use Rattle.lists.proofs.Guids.{guid-decides}
-use Rattle.rules.specs.Entries.{Object, Interface, Entries, oids, ipids}
+use Rattle.rules.specs.Entries.{Object, Interface, Entries, countOf, oids, ipids}
 use Rattle.rules.specs.Sound.{sound, held}
 use Rattle.rules.specs.Rules.{isLiveObject, noInterface, interfaceOf}
 use Rattle.rules.proofs.SoundLaws.{sound-fields}
 use Rattle.rules.proofs.Groups.{fine-distinct, grouped}
 use Rattle.rules.proofs.ByRow.{oxids-distinct, oids-distinct, sets-distinct}
-use Rattle.history.specs.History.{ObjectLife, InterfaceLife, History, objectGone, liveObjects, liveInterface, objectEntry, interfaceEntry, live}
+use Rattle.history.specs.History.{ObjectLife, InterfaceLife, History, remaining, objectGone, liveObjects, liveInterface, objectEntry, interfaceEntry, live, noAccount, accountOf}
 use Rattle.history.specs.Runs.{distinctIdentifiers, oneObject, someReference, objectsExported, membersLive, countsGranted, isLatest, goneExactly}
 use Rattle.lists.proofs.Elements.{In, map-in, in-every, every-in, in-some, some-in, in-keep, first-sole, one-in, sole-map, sole-key, keep-one}
-use Rattle.history.proofs.Lives.{Kept, serialOfObject}
+use Rattle.history.proofs.Lives.{covered, Bounded, Kept, serialOfObject}
+use Rattle.history.proofs.Accounts.{remaining-at}
 use Rattle.history.proofs.Identities.{live-object, one-ipid}
 use Rattle.history.proofs.Room.{agreed}
 
@@ -49,13 +50,8 @@ module _ (e : Entries) (s : sound e ≡ true) where
   pub some-reference : someReference e ≡ true
   unfolding someReference
   some-reference =
-      every-mono held (λ (i : Interface). ltb 0 (i .public + i .private))
-      (λ i t.
-      lt-ltb 0 (i .public + i .private)
-      (⊎-elim
-      (λ a. let d = eqb-false (i .public) 0 (not-true (eqb (i .public) 0) a) in omega arith)
-      (λ a. let d = eqb-false (i .private) 0 (not-true (eqb (i .private) 0) a) in omega arith)
-      (or-cases (not (eqb (i .public) 0)) (not (eqb (i .private) 0)) t)))
+      every-mono held (λ (i : Interface). some (ltb 0) (i .counts))
+      (λ i t. some-mono (λ (n : ℕ). not (eqb n 0)) (ltb 0) (λ n d. let w = eqb-false n 0 (not-true (eqb n 0) d) in lt-ltb 0 n (omega arith)) (i .counts) t)
       (e .interfaces) (sound-fields e s .counted)
 
   -- each object has a live exporter
@@ -79,7 +75,7 @@ module _ (h : History) (k : Kept h) where
       (sole-map (λ (p : Interface). sameGuid (l .ipid) (p .ipid)) (interfaceEntry h)
       (sole-key sameGuid guid-decides (λ (p : InterfaceLife). p .ipid) (l .ipid) (one-ipid h k) (in-keep (liveInterface h) m t) refl))
 
-  -- each count, with what releases took, is what was granted
+  -- each count, with what releases and drops took, is what was granted
   pub counts-granted : countsGranted h (live h) ≡ true
   unfolding countsGranted
   counts-granted =
@@ -87,11 +83,8 @@ module _ (h : History) (k : Kept h) where
       (λ l m.
       ⊎-elim
       (λ t.
-      let b = k .bounded l m in
-      let e = own-entry l m t in
-      ap (λ (i : Interface). not (liveInterface h l) || (eqb (i .public + l .taken) (l .granted) && eqb (i .private + l .takenPrivate) (l .grantedPrivate))) e
-      ∙ ap (λ (c : Bool). not (liveInterface h l) || c)
-      (and-intro _ _ (whole (l .granted) (l .taken) (b .public)) (whole (l .grantedPrivate) (l .takenPrivate) (b .private)))
+      ap (λ (i : Interface). not (liveInterface h l) || every (λ (n : ℕ). eqb (countOf n i + accountOf n l .taken) (accountOf n l .granted)) (tabulate 9 (λ n. n))) (own-entry l m t)
+      ∙ ap (λ (c : Bool). not (liveInterface h l) || c) (every-tabulate _ 9 (λ n. n) (λ n b. whole l n (k .bounded l m)))
       ∙ or-true (not (liveInterface h l)))
       (λ t. or-intro (not (liveInterface h l)) _ (ap not t))
       (true-or-false (liveInterface h l)))
@@ -99,8 +92,10 @@ module _ (h : History) (k : Kept h) where
       or-intro : (a b : Bool) → a ≡ true → (a || b) ≡ true
       or-intro a b t = rw t
 
-      whole : (g t : ℕ) → t ≤ g → eqb (g - t + t) g ≡ true
-      whole g t b = eq-eqb (g - t + t) g (omega arith)
+      whole : (l : InterfaceLife) (n : ℕ) → Bounded l → eqb (getD (map remaining (l .accounts)) n 0 + accountOf n l .taken) (accountOf n l .granted) ≡ true
+      whole l n b =
+          let c = leb-true (accountOf n l .taken) (accountOf n l .granted) (every-at-or covered (l .accounts) noAccount n refl (b .each)) in
+          eq-eqb _ (accountOf n l .granted) (ap (λ (m : ℕ). m + accountOf n l .taken) (remaining-at n (l .accounts)) ∙ (let q : accountOf n l .granted - accountOf n l .taken + accountOf n l .taken ≡ accountOf n l .granted = omega arith in q))
 
   -- a life is there exactly if it is not gone
   there : (o : ObjectLife) → In o (h .objects) → (isLiveObject (live h) (o .oid) && isLatest h o) ≡ not (objectGone h o)

@@ -6,11 +6,11 @@ use mathlib.Core.List.{List, [], _∷_, _++_, map, append-nil, Memᴰ·map}
 use mathlib.Core.Logic.{⊎-elim}
 use native.Mathlib.Omega.{arith}
 use borrow.Author.Tests.{eq-eqb, ne-eqb, eqb-true, eqb-false, lt-leb, not-true, not-false}
-use lib.ListN.{length, length-append}
+use lib.ListN.{length, replicate, length-append}
 use lib.Dec.{eqb, leb}
 use Rattle.kinds.specs.declared.Guid.{Guid}
 use Rattle.kinds.proofs.Refusing.{passed}
-use Rattle.lists.specs.Lists.{keep, some, among}
+use Rattle.lists.specs.Lists.{keep, some, every, among}
 use Rattle.lists.specs.Guids.{nil, sameGuid}
 use Rattle.lists.proofs.Tests.{true-or-false, and-intro, or-left, or-right}
 use Rattle.lists.proofs.Lists.{some-snoc, every-snoc, keep-snoc, keep-ext, map-append}
@@ -18,16 +18,16 @@ use Rattle.lists.proofs.Distinct.{eqb-decides}
 use Rattle.rules.specs.Entries.{Object, Interface, Entries, ipids, withExporters, withInterfaces, withObjects}
 use Rattle.rules.specs.Calls.{enterExporter, enterObject, enterInterface}
 use Rattle.rules.specs.Sound.{sound}
-use Rattle.rules.specs.Rules.{number, next, refusals, isLiveExporter, isLiveObject}
-use Rattle.history.specs.History.{ExporterLife, ObjectLife, InterfaceLife, History, atZero, interfacesAtZero, exporterRemoved, unheard, objectGone, liveExporters, liveObjects, liveInterface, liveSet, noExporterLife, noObjectLife, exporterEntry, objectEntry, interfaceEntry, setEntry, live, withExporterLives, withObjectLives, withInterfaceLives, enteredInterface, exporterSerial, objectSerial, lived}
+use Rattle.rules.specs.Rules.{enteredCounts, number, next, refusals, isLiveExporter, isLiveObject}
+use Rattle.history.specs.History.{ExporterLife, ObjectLife, Account, InterfaceLife, History, remaining, atZero, interfacesAtZero, exporterRemoved, unheard, objectGone, liveExporters, liveObjects, liveInterface, liveSet, noExporterLife, noObjectLife, exporterEntry, objectEntry, interfaceEntry, setEntry, live, withExporterLives, withObjectLives, withInterfaceLives, noAccount, enteredInterface, exporterSerial, objectSerial, lived}
 use Rattle.lists.proofs.Elements.{In, in-some, in-none, keep-in, in-last, snoc-in, map-ext-in, keep-ext-in, first-sole, some-sole, one-in, sole-by}
 use Rattle.history.proofs.Steps.{interfacesOver, setsOver, clock-live, now-heard, Step, stepped}
-use Rattle.history.proofs.Lives.{serialOfExporter, serialOfObject, serials-snoc, named-snoc, look, look-snoc, Kept}
+use Rattle.history.proofs.Lives.{serialOfExporter, serialOfObject, serials-snoc, named-snoc, look, look-snoc, bounded-entered, Kept}
 use Rattle.history.proofs.Identities.{live-object, found-exporter, found-object}
 
 -- what an interface has as its entry after it is entered
 abbrev enteredEntry : Guid → Guid → ℕ → ℕ → Interface
-enteredEntry i iid o n = record { ipid = i; iid = iid; object = o; public = n; private = 0 }
+enteredEntry i iid o n = record { ipid = i; iid = iid; object = o; counts = enteredCounts n }
 
 -- ---- an exporter
 
@@ -103,7 +103,9 @@ exporter-step h k x u b a = stepped (enterExporter x u b) h k a (exporter-entere
 
 -- an interface at its entry is not at zero
 pub entered-zero : (i iid : Guid) (o n : ℕ) → eqb n 0 ≡ false → atZero (enteredInterface i iid o n) ≡ false
-entered-zero i iid o n z = let d = eqb-false n 0 z in ap (λ (b : Bool). b && leb 0 0) (lt-leb n 0 (omega arith))
+unfolding every
+entered-zero i iid o n z =
+    let d = eqb-false n 0 z in ap (λ (b : Bool). b && every (λ (a : Account). leb (a .granted) (a .taken)) (replicate 8 noAccount)) (lt-leb n 0 (omega arith))
 
 module _ (h : History) (k : Kept h) (i iid : Guid) (n : ℕ) (z : eqb n 0 ≡ false) (o : ObjectLife) (m : In o (liveObjects h)) (d : ℕ) (e : d ≡ o .serial) where
   abbrev newInterface : InterfaceLife
@@ -161,8 +163,7 @@ module _ (h : History) (k : Kept h) (i iid : Guid) (n : ℕ) (z : eqb n 0 ≡ fa
             ipid = i;
             iid = iid;
             object = ap (λ (p : ObjectLife). p .oid) (look serialOfObject noObjectLife (k .objects) (record { life = o; here = live-object h m .0; named = sym e })) u;
-            public = (let w : n - 0 ≡ n = omega arith in w u);
-            private = 0;
+            counts = (let w : n - 0 ≡ n = omega arith in w u ∷ replicate 8 0);
           }
 
   -- the history with the interface
@@ -173,7 +174,7 @@ module _ (h : History) (k : Kept h) (i iid : Guid) (n : ℕ) (z : eqb n 0 ≡ fa
         objects = k .objects;
         exported = k .exported;
         owned = λ l w. ⊎-elim (k .owned l) (λ q. record { life = o; here = live-object h m .0; named = sym e ∙ ap (λ (j : InterfaceLife). j .object) (sym q) }) (snoc-in (h .interfaces) w);
-        bounded = λ l w. ⊎-elim (k .bounded l) (λ q. rw q (record { public = omega arith; private = omega arith })) (snoc-in (h .interfaces) w);
+        bounded = λ l w. ⊎-elim (k .bounded l) (λ q. rw q (bounded-entered _ _ _ _)) (snoc-in (h .interfaces) w);
         members = k .members;
         latest = λ p q w. k .latest p q (rw interface-objects at w);
         sound = t;
@@ -281,8 +282,7 @@ module _ (h : History) (k : Kept h) (i iid : Guid) (n : ℕ) (z : eqb n 0 ≡ fa
             object =
                 ap (λ (p : ObjectLife). p .oid)
                 (look-snoc serialOfObject noObjectLife (h .objects) newObject (l .object) (k .objects) refl (k .owned l (keep-in (liveInterface h) (h .interfaces) w .0))) u;
-            public = l .granted - l .taken;
-            private = l .grantedPrivate - l .takenPrivate;
+            counts = map remaining (l .accounts);
           }
 
       entry : interfaceEntry withObject firstInterface ≡ enteredEntry i iid oid n
@@ -294,8 +294,7 @@ module _ (h : History) (k : Kept h) (i iid : Guid) (n : ℕ) (z : eqb n 0 ≡ fa
                 ap (λ (p : ObjectLife). p .oid)
                 (look serialOfObject noObjectLife (serials-snoc serialOfObject (h .objects) newObject (k .objects) refl)
                 (record { life = newObject; here = in-last (h .objects) newObject; named = refl })) u;
-            public = (let w : n - 0 ≡ n = omega arith in w u);
-            private = 0;
+            counts = (let w : n - 0 ≡ n = omega arith in w u ∷ replicate 8 0);
           }
 
   -- no set has the new object
@@ -351,7 +350,7 @@ module _ (h : History) (k : Kept h) (i iid : Guid) (n : ℕ) (z : eqb n 0 ≡ fa
             (λ v. named-snoc serialOfObject newObject (k .owned j v))
             (λ q. record { life = newObject; here = in-last (h .objects) newObject; named = ap (λ (p : InterfaceLife). p .object) (sym q) })
             (snoc-in (h .interfaces) w);
-        bounded = λ j w. ⊎-elim (k .bounded j) (λ q. rw q (record { public = omega arith; private = omega arith })) (snoc-in (h .interfaces) w);
+        bounded = λ j w. ⊎-elim (k .bounded j) (λ q. rw q (bounded-entered _ _ _ _)) (snoc-in (h .interfaces) w);
         members = λ s w j v. let b = k .members s w j v in omega arith;
         latest = λ o p w v q.
             ⊎-elim

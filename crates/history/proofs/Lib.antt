@@ -1,5 +1,6 @@
 pub mod Lives
 pub mod Beginning
+pub mod Accounts
 pub mod Identities
 pub mod Steps
 pub mod Entering

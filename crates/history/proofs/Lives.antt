@@ -1,18 +1,19 @@
 -- What holds of every history, and what of it a call that enters nothing keeps.
 use Prim.Native.Nat.{ℕ, _+_, _<_, _≤_}
 use mathlib.Core.Path.{_≡_, sym, ap, _∙_}
-use mathlib.Core.Bool.{true}
+use mathlib.Core.Bool.{true, Bool, _&&_}
 use mathlib.Core.List.{List, [], _∷_, _++_, map, Memᴰ·append-left, Memᴰ·map}
 use mathlib.Core.Logic.{⊎-elim}
 use native.Mathlib.Omega.{arith}
-use borrow.Author.Tests.{ne-eqb}
-use lib.ListN.{length, length-map, length-append}
-use lib.Dec.{eqb}
-use Rattle.lists.specs.Lists.{firstOr, distinct}
+use borrow.Author.Tests.{ne-eqb, le-leb}
+use lib.ListN.{length, length-map, length-append, replicate}
+use lib.Dec.{eqb, leb}
+use Rattle.lists.specs.Lists.{firstOr, distinct, every}
+use Rattle.kinds.specs.declared.Guid.{Guid}
 use Rattle.lists.proofs.Lists.{map-append, map-map}
 use Rattle.lists.proofs.Distinct.{eqb-decides, distinct-snoc}
 use Rattle.rules.specs.Sound.{sound}
-use Rattle.history.specs.History.{ExporterLife, ObjectLife, InterfaceLife, SetLife, History, liveObjects, live, heardLife}
+use Rattle.history.specs.History.{ExporterLife, ObjectLife, InterfaceLife, SetLife, History, liveObjects, live, heardLife, Account, noAccount, enteredInterface}
 use Rattle.lists.proofs.Elements.{In, map-in, snoc-in, in-none, Sole, first-sole, sole-by}
 
 -- ---- serial numbers
@@ -78,9 +79,16 @@ module _ {A : Type 0} (f : A → ℕ) where
 -- ---- what holds of every history
 
 -- no more was taken than granted
+abbrev pub covered : Account → Bool
+covered a = leb (a .taken) (a .granted)
+
 pub record Bounded (l : InterfaceLife) : Type 0 where
-  pub public : l .taken ≤ l .granted
-  pub private : l .takenPrivate ≤ l .grantedPrivate
+  pub each : every covered (l .accounts) ≡ true
+
+-- of an interface that is entered
+pub bounded-entered : (i iid : Guid) (o n : ℕ) → Bounded (enteredInterface i iid o n)
+unfolding every
+bounded-entered i iid o n = record { each = ap (λ (b : Bool). b && every covered (replicate 8 noAccount)) (le-leb 0 n (omega arith)) }
 
 -- an object life without its last hearing
 abbrev pub still : ObjectLife → ObjectLife

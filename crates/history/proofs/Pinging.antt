@@ -1,5 +1,5 @@
 -- The pings: a set's members are heard as the set's entry says, and a complex ping changes members by serial as it does by OID.
-use Prim.Native.Nat.{ℕ, _+_, _-_, _<_}
+use Prim.Native.Nat.{ℕ, _+_, _<_}
 use mathlib.Core.Path.{_≡_, refl, sym, ap, _∙_, subst}
 use mathlib.Core.Bool.{Bool, true, false, cond, not, _&&_, _||_, and-false, and-comm, or-true}
 use mathlib.Core.List.{List, [], _∷_, _++_, map, List·Memᴰ·append-cases, List·Memᴰ·not-nil, Memᴰ·map}
@@ -19,7 +19,7 @@ use Rattle.rules.specs.Sound.{sound}
 use Rattle.rules.specs.Rules.{number, next, refusals, isLiveSet, noSet, setOf, tooMany, atSet, ping, newMembers, makeSet}
 use Rattle.rules.proofs.Groups.{grouped, sound-grouped}
 use Rattle.rules.proofs.Pinging.{set-made}
-use Rattle.history.specs.History.{ObjectLife, SetLife, History, atZero, interfacesAtZero, exporterRemoved, unheard, objectGone, liveExporters, liveObjects, liveInterface, liveSet, noObjectLife, exporterEntry, objectEntry, interfaceEntry, setEntry, live, withObjectLives, withSetLives, heardLife, pingedLife, changed, atLiveSet, objectSerials, isMember, pingLives, startSet, lived}
+use Rattle.history.specs.History.{remaining, ObjectLife, SetLife, History, atZero, interfacesAtZero, exporterRemoved, unheard, objectGone, liveExporters, liveObjects, liveInterface, liveSet, noObjectLife, exporterEntry, objectEntry, interfaceEntry, setEntry, live, withObjectLives, withSetLives, heardLife, pingedLife, changed, atLiveSet, objectSerials, isMember, pingLives, startSet, lived}
 use Rattle.lists.proofs.Elements.{In, map-in, snoc-in, in-none, keep-in, in-keep, keep-ext-in, changed-kept, first-unread, Sole, first-sole, some-sole, sole-keep, sole-map}
 use Rattle.history.proofs.Lives.{Kept, kept-from, serialOfObject, still}
 use Rattle.history.proofs.Identities.{live-object, found-set, one-oid, among-oids, among-serials}
@@ -129,8 +129,7 @@ module _ (h : History) (u : distinct eqb (map (λ (p : ObjectLife). p .oid) (liv
             first-unread noObjectLife (λ (o : ObjectLife). eqb (o .serial) (l .object)) (λ o. o .oid) hearing
             (λ o. ap (λ (n : ℕ). eqb n (l .object)) (hearing-still (λ q. q .serial) (λ q. refl) o))
             (hearing-still (λ q. q .oid) (λ q. refl)) (h .objects) v;
-        public = l .granted - l .taken;
-        private = l .grantedPrivate - l .takenPrivate;
+        counts = map remaining (l .accounts);
       })
       (keep (liveInterface h) (h .interfaces))
 

@@ -10,7 +10,7 @@ use borrow.Author.Tests.{eq-eqb, ne-eqb}
 use Rattle.kinds.specs.Refusals.{order}
 use Rattle.lists.proofs.Tests.{true-or-false, same-or-not, and-left, and-right}
 use Rattle.rules.specs.Entries.{Entries}
-use Rattle.rules.specs.Calls.{Call, reset, enterExporter, removeExporter, enterObject, enterInterface, add, release, simplePing, complexPing, clock, resolve, census, members, nextStop, Reply}
+use Rattle.rules.specs.Calls.{Call, reset, enterExporter, removeExporter, enterObject, enterInterface, add, release, dropClient, simplePing, complexPing, clock, resolve, census, members, nextStop, Reply}
 use Rattle.rules.specs.Sound.{sound}
 use Rattle.rules.specs.Rules.{refusals, number, next, results, refused, done, reply}
 use Rattle.rules.specs.Contract as contract
@@ -103,8 +103,9 @@ begins-alike (enterExporter x u l) b e f = absurd (true≢false (sym b))
 begins-alike (removeExporter x) b e f = absurd (true≢false (sym b))
 begins-alike (enterObject o x i iid n np) b e f = absurd (true≢false (sym b))
 begins-alike (enterInterface o i iid n) b e f = absurd (true≢false (sym b))
-begins-alike (add i p q) b e f = absurd (true≢false (sym b))
-begins-alike (release i p q) b e f = absurd (true≢false (sym b))
+begins-alike (add c i p q) b e f = absurd (true≢false (sym b))
+begins-alike (release c i p q) b e f = absurd (true≢false (sym b))
+begins-alike (dropClient c) b e f = absurd (true≢false (sym b))
 begins-alike (simplePing s) b e f = absurd (true≢false (sym b))
 begins-alike (complexPing s n adds dels) b e f = absurd (true≢false (sym b))
 begins-alike (clock t) b e f = absurd (true≢false (sym b))

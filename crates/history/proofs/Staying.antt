@@ -1,5 +1,5 @@
 -- What has gone in a history stays gone after any call that does not begin one.
-use Prim.Native.Nat.{ℕ, _+_, _-_, _≤_}
+use Prim.Native.Nat.{ℕ, suc, _+_, _-_, _≤_}
 use mathlib.Core.Path.{_≡_, refl, sym, ap, subst, _∙_}
 use mathlib.Core.Bool.{Bool, true, false, cond, not, _&&_, _||_, or-true, true≢false}
 use mathlib.Core.List.{List, [], _∷_, _++_, map, List·Memᴰ·head, List·Memᴰ·tail}
@@ -15,10 +15,10 @@ use Rattle.lists.proofs.Lists.{map-append}
 use Rattle.lists.proofs.Distinct.{eqb-decides, same-eq}
 use Rattle.lists.proofs.Guids.{guid-decides}
 use Rattle.lists.proofs.Elements.{In, every-in, in-every, in-some, some-in, in-keep, map-in, snoc-in, one-in, first-sole}
-use Rattle.rules.specs.Calls.{Call, reset, enterExporter, removeExporter, enterObject, enterInterface, add, release, simplePing, complexPing, clock, resolve, census, members, nextStop}
-use Rattle.rules.specs.Rules.{number}
+use Rattle.rules.specs.Calls.{Call, reset, enterExporter, removeExporter, enterObject, enterInterface, add, release, dropClient, simplePing, complexPing, clock, resolve, census, members, nextStop}
+use Rattle.rules.specs.Rules.{anyIpid, number}
 use Rattle.rules.proofs.SoundLaws.{none, _and_}
-use Rattle.history.specs.History.{ExporterLife, ObjectLife, InterfaceLife, SetLife, History, begins, atZero, interfacesAtZero, exporterRemoved, unheardSince, unheard, objectGone, liveObjects, liveInterface, liveSet, noObjectLife, live, withSetLives, removedLife, heardLife, granting, taking, pingedLife, changed, atLiveInterface, atLiveSet, objectSerials, isMember, pingLives, startSet, lived, feed, feedAll, along, implies, staysGone}
+use Rattle.history.specs.History.{ExporterLife, ObjectLife, InterfaceLife, SetLife, History, begins, atZero, interfacesAtZero, exporterRemoved, unheardSince, unheard, objectGone, liveObjects, liveInterface, liveSet, noObjectLife, live, withSetLives, removedLife, heardLife, atAccount, atAccounts, granting, taking, takingAll, pingedLife, changed, atLiveInterfaces, atLiveSet, objectSerials, isMember, pingLives, startSet, lived, feed, feedAll, along, implies, staysGone}
 use Rattle.history.specs.Runs.{historyOf, StaysGone}
 use Rattle.history.proofs.Lives.{Kept, serialOfObject}
 use Rattle.history.proofs.Beginning.{kept-fresh}
@@ -281,20 +281,20 @@ module _ (h : History) where
 
   -- ---- counts
 
-  module _ (i : Guid) (f : InterfaceLife → InterfaceLife) (a : (l : InterfaceLife) → l .ipid ≡ f l .ipid) (b : (l : InterfaceLife) → l .object ≡ f l .object) where
+  module _ (meant : Guid → Bool) (f : InterfaceLife → InterfaceLife) (a : (l : InterfaceLife) → l .ipid ≡ f l .ipid) (b : (l : InterfaceLife) → l .object ≡ f l .object) where
     counted : InterfaceLife → InterfaceLife
-    counted l = cond (sameGuid i (l .ipid) && liveInterface h l) (f l) l
+    counted l = cond (meant (l .ipid) && liveInterface h l) (f l) l
 
     counted-same : (l : InterfaceLife) → SameInterface l (counted l)
     unfolding counted
     counted-same l =
-        by-test (SameInterface l) (sameGuid i (l .ipid) && liveInterface h l) (f l) l
+        by-test (SameInterface l) (meant (l .ipid) && liveInterface h l) (f l) l
         (λ t.
-        let alive = and-left (not (atZero l)) _ (and-right (sameGuid i (l .ipid)) (liveInterface h l) t) in
+        let alive = and-left (not (atZero l)) _ (and-right (meant (l .ipid)) (liveInterface h l) t) in
         record { ipid = a l; object = b l; zero = λ z. absurd (true≢false (sym alive ∙ ap not z)) })
         (λ t. interface-stays l)
 
-    counts-later : Later h (atLiveInterface i f h)
+    counts-later : Later h (atLiveInterfaces meant f h)
     unfolding counted Origin
     counts-later =
         record {
@@ -422,8 +422,9 @@ later (enterInterface o i iid n) h k b a =
           true≢false (sym g ∙ ap (objectGone h) (one-in eqb eqb-decides serialOfObject (h .objects) (k .objects .differ) m (v .0) (e ∙ s)) ∙ v .1));
       sets = sets-stay h;
     }
-later (add i p q) h k b a = counts-later h i (granting p q) (λ l. refl) (λ l. refl)
-later (release i p q) h k b a = counts-later h i (taking p q) (λ l. refl) (λ l. refl)
+later (add c i p q) h k b a = counts-later h (sameGuid i) (atAccounts c (granting p) (granting q)) (λ l. refl) (λ l. refl)
+later (release c i p q) h k b a = counts-later h (sameGuid i) (atAccounts c (taking p) (taking q)) (λ l. refl) (λ l. refl)
+later (dropClient c) h k b a = counts-later h anyIpid (atAccount (suc c) takingAll) (λ l. refl) (λ l. refl)
 later (simplePing s) h k b a = ping-later h s (h .next) (h .sets) (sets-stay h)
 later (complexPing s n adds dels) h k b a = complex-later h (cond (eqb s 0) (h .next) s) n (objectSerials h adds) (objectSerials h dels) (eqb s 0)
 later (clock t) h k b a =

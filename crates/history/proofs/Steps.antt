@@ -12,7 +12,7 @@ use Rattle.rules.specs.Calls.{Call}
 use Rattle.rules.specs.Sound.{sound}
 use Rattle.rules.specs.Rules.{number, next}
 use Rattle.rules.proofs.Keeps.{keeps}
-use Rattle.history.specs.History.{ObjectLife, InterfaceLife, SetLife, History, atZero, noObjectLife, live, lived}
+use Rattle.history.specs.History.{ObjectLife, InterfaceLife, SetLife, History, remaining, atZero, noObjectLife, live, lived}
 use Rattle.history.proofs.Lives.{Kept}
 
 -- ---- parts of the live entries
@@ -26,8 +26,7 @@ interfacesOver lives os is =
       ipid = l .ipid;
       iid = l .iid;
       object = firstOr noObjectLife (λ (p : ObjectLife). eqb (p .serial) (l .object)) os .oid;
-      public = l .granted - l .taken;
-      private = l .grantedPrivate - l .takenPrivate;
+      counts = map remaining (l .accounts);
     })
     (keep (λ (l : InterfaceLife). not (atZero l) && some (λ (o : ObjectLife). eqb (o .serial) (l .object)) lives) is)
 

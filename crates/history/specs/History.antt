@@ -1,16 +1,16 @@
 -- Document 01's history ("Its history is fed with the calls' arguments alone"): lives that are started and never taken away, with what
 -- was granted, taken and heard. What has gone follows from these facts and the clock; nothing is stored as gone.
-use Prim.Native.Nat.{ℕ, _+_, _-_, min}
+use Prim.Native.Nat.{ℕ, suc, _+_, _-_, min}
 use mathlib.Core.Bool.{Bool, true, false, cond, not, _&&_, _||_}
 use mathlib.Core.List.{List, [], _∷_, _++_, map}
-use lib.ListN.{length, getD}
+use lib.ListN.{length, getD, set, replicate}
 use lib.Dec.{eqb, leb}
 use Rattle.kinds.specs.declared.Guid.{Guid}
 use Rattle.lists.specs.Lists.{keep, some, every, firstOr, firstIndex, tabulate, among, holding}
 use Rattle.lists.specs.Guids.{nil, sameGuid}
 use Rattle.rules.specs.Entries.{Exporter, Object, Interface, PingSet, Entries, fresh, oxids, oids}
-use Rattle.rules.specs.Calls.{Call, reset, enterExporter, removeExporter, enterObject, enterInterface, add, release, simplePing, complexPing, clock, resolve, census, members, nextStop, Reply}
-use Rattle.rules.specs.Rules.{noExporter, noObject, number, reply}
+use Rattle.rules.specs.Calls.{Call, reset, enterExporter, removeExporter, enterObject, enterInterface, add, release, dropClient, simplePing, complexPing, clock, resolve, census, members, nextStop, Reply}
+use Rattle.rules.specs.Rules.{noExporter, noObject, number, reply, anyIpid}
 
 -- An identifier that went may be entered again, as a new life; so lives name each other by serial numbers, which are never given twice.
 pub record ExporterLife : Type 0 where
@@ -28,15 +28,17 @@ pub record ObjectLife : Type 0 where
   pub noping : Bool
   pub heard : ℕ
 
--- object is a serial
+-- what was granted of one count of an interface, and what was taken
+pub record Account : Type 0 where
+  pub granted : ℕ
+  pub taken : ℕ
+
+-- object is a serial; account 0 is the public one, account 1 + c the private one of client c
 pub record InterfaceLife : Type 0 where
   pub ipid : Guid
   pub iid : Guid
   pub object : ℕ
-  pub granted : ℕ
-  pub taken : ℕ
-  pub grantedPrivate : ℕ
-  pub takenPrivate : ℕ
+  pub accounts : List Account
 
 -- members are serials; set numbers are given once in a history
 pub record SetLife : Type 0 where
@@ -71,17 +73,12 @@ objectAt e k =
     let o : Object = getD (e .objects) k noObject in
     record { serial = k; oid = o .oid; exporter = placeOf (oxids e) (o .exporter); noping = o .noping; heard = o .heard }
 
+-- a count with which a history begins
+abbrev pub begunWith : ℕ → Account
+begunWith n = record { granted = n; taken = 0 }
+
 abbrev pub interfaceHeld : Entries → Interface → InterfaceLife
-interfaceHeld e i =
-    record {
-      ipid = i .ipid;
-      iid = i .iid;
-      object = placeOf (oids e) (i .object);
-      granted = i .public;
-      taken = 0;
-      grantedPrivate = i .private;
-      takenPrivate = 0;
-    }
+interfaceHeld e i = record { ipid = i .ipid; iid = i .iid; object = placeOf (oids e) (i .object); accounts = map begunWith (i .counts) }
 
 abbrev pub setHeld : Entries → PingSet → SetLife
 setHeld e s = record { number = s .number; sequence = s .sequence; pinged = s .pinged; members = map (placeOf (oids e)) (s .members) }
@@ -105,8 +102,9 @@ begins (enterExporter x u b) = false
 begins (removeExporter x) = false
 begins (enterObject o x i iid n np) = false
 begins (enterInterface o i iid n) = false
-begins (add i p q) = false
-begins (release i p q) = false
+begins (add c i p q) = false
+begins (release c i p q) = false
+begins (dropClient c) = false
 begins (simplePing s) = false
 begins (complexPing s n adds dels) = false
 begins (clock t) = false
@@ -117,9 +115,13 @@ begins (nextStop r) = false
 
 -- ---- what has gone
 
--- zero: nothing left of either count
+-- a count is what was granted less what was taken
+abbrev pub remaining : Account → ℕ
+remaining a = a .granted - a .taken
+
+-- zero: nothing left of any count
 abbrev pub atZero : InterfaceLife → Bool
-atZero l = leb (l .granted) (l .taken) && leb (l .grantedPrivate) (l .takenPrivate)
+atZero l = every (λ (a : Account). leb (a .granted) (a .taken)) (l .accounts)
 
 abbrev pub interfacesAtZero : History → ObjectLife → Bool
 interfacesAtZero h o = every (λ (l : InterfaceLife). not (eqb (l .object) (o .serial)) || atZero l) (h .interfaces)
@@ -171,11 +173,10 @@ objectEntry h o =
     let x : ExporterLife = firstOr noExporterLife (λ (p : ExporterLife). eqb (p .serial) (o .exporter)) (h .exporters) in
     record { oid = o .oid; exporter = x .oxid; noping = o .noping; heard = o .heard }
 
--- a count is what was granted less what releases took
 abbrev pub interfaceEntry : History → InterfaceLife → Interface
 interfaceEntry h l =
     let o : ObjectLife = firstOr noObjectLife (λ (p : ObjectLife). eqb (p .serial) (l .object)) (h .objects) in
-    record { ipid = l .ipid; iid = l .iid; object = o .oid; public = l .granted - l .taken; private = l .grantedPrivate - l .takenPrivate }
+    record { ipid = l .ipid; iid = l .iid; object = o .oid; counts = map remaining (l .accounts) }
 
 -- what goes leaves its sets
 abbrev pub setEntry : History → SetLife → PingSet
@@ -221,33 +222,35 @@ removedLife x = record { serial = x .serial; oxid = x .oxid; unknown = x .unknow
 abbrev pub heardLife : ℕ → ObjectLife → ObjectLife
 heardLife t o = record { serial = o .serial; oid = o .oid; exporter = o .exporter; noping = o .noping; heard = t }
 
-abbrev pub enteredInterface : Guid → Guid → ℕ → ℕ → InterfaceLife
-enteredInterface i iid o n = record { ipid = i; iid = iid; object = o; granted = n; taken = 0; grantedPrivate = 0; takenPrivate = 0 }
+abbrev pub noAccount : Account
+noAccount = record { granted = 0; taken = 0 }
 
-abbrev pub granting : ℕ → ℕ → InterfaceLife → InterfaceLife
-granting p q l =
-    record {
-      ipid = l .ipid;
-      iid = l .iid;
-      object = l .object;
-      granted = l .granted + p;
-      taken = l .taken;
-      grantedPrivate = l .grantedPrivate + q;
-      takenPrivate = l .takenPrivate;
-    }
+-- the public count is granted at entry, and nothing to any client
+abbrev pub enteredInterface : Guid → Guid → ℕ → ℕ → InterfaceLife
+enteredInterface i iid o n =
+    record { ipid = i; iid = iid; object = o; accounts = record { granted = n; taken = 0 } ∷ replicate 8 noAccount }
+
+abbrev pub accountOf : ℕ → InterfaceLife → Account
+accountOf k l = getD (l .accounts) k noAccount
+
+-- account k alone changed
+abbrev pub atAccount : ℕ → (Account → Account) → InterfaceLife → InterfaceLife
+atAccount k f l = record { ipid = l .ipid; iid = l .iid; object = l .object; accounts = set (l .accounts) k (f (accountOf k l)) }
+
+-- the public account changed by f, and the private one of client c by g
+abbrev pub atAccounts : ℕ → (Account → Account) → (Account → Account) → InterfaceLife → InterfaceLife
+atAccounts c f g l = atAccount (suc c) g (atAccount 0 f l)
+
+abbrev pub granting : ℕ → Account → Account
+granting n a = record { granted = a .granted + n; taken = a .taken }
 
 -- the smaller of what is asked and granted less taken
-abbrev pub taking : ℕ → ℕ → InterfaceLife → InterfaceLife
-taking p q l =
-    record {
-      ipid = l .ipid;
-      iid = l .iid;
-      object = l .object;
-      granted = l .granted;
-      taken = l .taken + min p (l .granted - l .taken);
-      grantedPrivate = l .grantedPrivate;
-      takenPrivate = l .takenPrivate + min q (l .grantedPrivate - l .takenPrivate);
-    }
+abbrev pub taking : ℕ → Account → Account
+taking n a = record { granted = a .granted; taken = a .taken + min n (remaining a) }
+
+-- all that is left
+abbrev pub takingAll : Account → Account
+takingAll a = taking (remaining a) a
 
 abbrev pub pingedLife : ℕ → SetLife → SetLife
 pingedLife t s = record { number = s .number; sequence = s .sequence; pinged = t; members = s .members }
@@ -259,9 +262,9 @@ changed n adds dels s =
 
 -- ---- what an accepted call adds to the history
 
--- the live interface i alone changed
-abbrev pub atLiveInterface : Guid → (InterfaceLife → InterfaceLife) → History → History
-atLiveInterface i f h = withInterfaceLives (map (λ (l : InterfaceLife). cond (sameGuid i (l .ipid) && liveInterface h l) (f l) l) (h .interfaces)) h
+-- the live interfaces changed whose IPID passes a test
+abbrev pub atLiveInterfaces : (Guid → Bool) → (InterfaceLife → InterfaceLife) → History → History
+atLiveInterfaces t f h = withInterfaceLives (map (λ (l : InterfaceLife). cond (t (l .ipid) && liveInterface h l) (f l) l) (h .interfaces)) h
 
 -- the live set s alone changed
 abbrev pub atLiveSet : ℕ → (SetLife → SetLife) → History → History
@@ -301,8 +304,10 @@ lived (enterObject o x i iid n np) h =
     withObjectLives (h .objects ++ (record { serial = k; oid = o; exporter = exporterSerial h x; noping = np; heard = h .clock } ∷ []))
     (withInterfaceLives (h .interfaces ++ (enteredInterface i iid k n ∷ [])) h)
 lived (enterInterface o i iid n) h = withInterfaceLives (h .interfaces ++ (enteredInterface i iid (objectSerial h o) n ∷ [])) h
-lived (add i p q) h = atLiveInterface i (granting p q) h
-lived (release i p q) h = atLiveInterface i (taking p q) h
+lived (add c i p q) h = atLiveInterfaces (sameGuid i) (atAccounts c (granting p) (granting q)) h
+lived (release c i p q) h = atLiveInterfaces (sameGuid i) (atAccounts c (taking p) (taking q)) h
+-- a client's drop takes all that is left of its private counts
+lived (dropClient c) h = atLiveInterfaces anyIpid (atAccount (suc c) takingAll) h
 lived (simplePing s) h = pingLives s h
 lived (complexPing s n adds dels) h =
     let k : ℕ = cond (eqb s 0) (h .next) s in

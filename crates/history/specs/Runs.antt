@@ -6,15 +6,15 @@ use mathlib.Core.List.{List, [], _∷_, map}
 use lib.ListN.{length}
 use lib.Dec.{eqb, ltb, leb}
 use Rattle.kinds.specs.Refusals.{Row, order}
-use Rattle.lists.specs.Lists.{keep, every, distinct, among}
+use Rattle.lists.specs.Lists.{keep, every, distinct, among, some, tabulate}
 use Rattle.lists.specs.Guids.{sameGuid}
-use Rattle.rules.specs.Entries.{Object, Interface, PingSet, Entries, fresh, oxids, oids, setNumbers, ipids}
-use Rattle.rules.specs.Calls.{Call, reset, enterExporter, removeExporter, enterObject, enterInterface, add, release, simplePing, complexPing, clock, resolve, census, members, nextStop, Reply}
+use Rattle.rules.specs.Entries.{Object, Interface, PingSet, Entries, fresh, oxids, oids, setNumbers, ipids, countOf}
+use Rattle.rules.specs.Calls.{Call, reset, enterExporter, removeExporter, enterObject, enterInterface, add, release, dropClient, simplePing, complexPing, clock, resolve, census, members, nextStop, Reply}
 use Rattle.rules.specs.Sound.{sound}
 use Rattle.rules.specs.Rules.{isLiveExporter, isLiveObject, interfaceOf, refusals, number}
 use Rattle.rules.specs.Contract.{Memory}
 use Rattle.table.specs.View.{view, soundMemory, Performed}
-use Rattle.history.specs.History.{ObjectLife, InterfaceLife, History, begin, begins, interfacesAtZero, exporterRemoved, unheard, liveInterface, live, feed, feedAll, replies, staysGone}
+use Rattle.history.specs.History.{ObjectLife, InterfaceLife, History, begin, begins, interfacesAtZero, exporterRemoved, unheard, liveInterface, live, feed, feedAll, replies, staysGone, accountOf}
 
 -- ---- the sentences of demand 3, as tests
 
@@ -36,7 +36,7 @@ unfoldable pub oneObject : Entries → Bool
 oneObject e = every (λ (i : Interface). eqb (length (keep (λ (o : Object). eqb (i .object) (o .oid)) (e .objects))) 1) (e .interfaces)
 
 unfoldable pub someReference : Entries → Bool
-someReference e = every (λ (i : Interface). ltb 0 (i .public + i .private)) (e .interfaces)
+someReference e = every (λ (i : Interface). some (ltb 0) (i .counts)) (e .interfaces)
 
 -- each object has a live exporter
 unfoldable pub objectsExported : Entries → Bool
@@ -46,13 +46,13 @@ objectsExported e = every (λ (o : Object). isLiveExporter e (o .exporter)) (e .
 unfoldable pub membersLive : Entries → Bool
 membersLive e = every (λ (s : PingSet). every (isLiveObject e) (s .members)) (e .sets)
 
--- each count, with what releases took, is what was granted since the interface was entered
+-- each of the nine counts, with what releases and drops took of it, is what was granted of it since the interface was entered
 unfoldable pub countsGranted : History → Entries → Bool
 countsGranted h e =
     every
     (λ (l : InterfaceLife).
     not (liveInterface h l)
-    || (eqb (interfaceOf e (l .ipid) .public + l .taken) (l .granted) && eqb (interfaceOf e (l .ipid) .private + l .takenPrivate) (l .grantedPrivate)))
+    || every (λ (k : ℕ). eqb (countOf k (interfaceOf e (l .ipid)) + accountOf k l .taken) (accountOf k l .granted)) (tabulate 9 (λ k. k)))
     (h .interfaces)
 
 -- no later life has the OID
@@ -74,8 +74,9 @@ needsFullKind (enterExporter x u b) e = eqb (length (e .exporters)) 16
 needsFullKind (removeExporter x) e = false
 needsFullKind (enterObject o x i iid n np) e = eqb (length (e .objects)) 128 || eqb (length (e .interfaces)) 256
 needsFullKind (enterInterface o i iid n) e = eqb (length (e .interfaces)) 256
-needsFullKind (add i p q) e = false
-needsFullKind (release i p q) e = false
+needsFullKind (add c i p q) e = false
+needsFullKind (release c i p q) e = false
+needsFullKind (dropClient c) e = false
 needsFullKind (simplePing s) e = false
 needsFullKind (complexPing s n adds dels) e = eqb s 0 && eqb (length (e .sets)) 32
 needsFullKind (clock t) e = false

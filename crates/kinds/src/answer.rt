@@ -55,6 +55,9 @@ pub const SETS_USED_UP: u32 = 18;
 // A binding list of more than 512 bytes.
 pub const LONG_LIST: u32 = 19;
 
+// The client is none of 0 to 7.
+pub const NO_CLIENT: u32 = 20;
+
 // An OXID, OID or IPID of a reference is zero.
 pub const NIL_IDENTIFIER: u32 = 22;
 

@@ -2,6 +2,7 @@
 // changes nothing.
 pub use counting::Released;
 pub use counting::add;
+pub use counting::drop_client;
 pub use counting::release;
 pub use entering::enter_exporter;
 pub use entering::enter_interface;

@@ -1,6 +1,6 @@
 -- The rules speak by identifier, the code by row. For entries whose identifiers are distinct: the entry of an identifier, its change and
 -- its removal by its row; what release leaves and answers by the row of its interface; what the clock answers.
-use Prim.Native.Nat.{ℕ, _+_, _-_, _<_, min}
+use Prim.Native.Nat.{ℕ, _-_, _<_, min}
 use mathlib.Core.Path.{_≡_, refl, sym, ap, _∙_}
 use mathlib.Core.Bool.{Bool, true, false, not, _&&_, and-true}
 use mathlib.Core.List.{List, [], _∷_, map}
@@ -17,10 +17,10 @@ use Rattle.lists.proofs.Lists.{every-at, every-set, some-map, none-some, every-
 use Rattle.lists.proofs.First.{some-index, entry-index}
 use Rattle.lists.proofs.Distinct.{eqb-decides, distinct-append, some-same-keep-map, entry-change, entry-remove}
 use Rattle.lists.proofs.Guids.{guid-decides}
-use Rattle.rules.specs.Entries.{Exporter, Object, Interface, PingSet, Entries, oxids, oids, setNumbers, interfaceIpids, ipids, withExporters, withObjects, withInterfaces, withSets, withMembers, withCounts}
+use Rattle.rules.specs.Entries.{Exporter, Object, Interface, PingSet, Entries, oxids, oids, setNumbers, interfaceIpids, ipids, withExporters, withObjects, withInterfaces, withSets, withMembers, publicOf, privateOf}
 use Rattle.rules.specs.Calls.{removeExporter, add, release, clock}
 use Rattle.rules.specs.Sound.{held, hasInterface, sound}
-use Rattle.rules.specs.Rules.{isLiveExporter, isLiveObject, isLiveInterface, isLiveSet, noExporter, noInterface, noSet, exporterOf, interfaceOf, setOf, flag, withoutObjects, atInterface, atSet, next, results, releaseValues}
+use Rattle.rules.specs.Rules.{isLiveExporter, isLiveObject, isLiveInterface, isLiveSet, noExporter, noInterface, noSet, exporterOf, interfaceOf, setOf, flag, withoutObjects, atInterface, increased, decreased, atSet, next, results, releaseValues}
 use Rattle.rules.proofs.Groups.{fine-distinct, grouped, serving-objects}
 use Rattle.rules.proofs.Leaving.{staysAt, setStaysAt}
 
@@ -105,11 +105,10 @@ module _ (e : Entries) where
   -- the calls that do so, on sound entries
   module _ (s : sound e ≡ true) where
     -- add changes the counts in the interface's row
-    pub add-row : (i : Guid) (p q : ℕ) → interfaceRow e i < length (e .interfaces)
-        → next (add i p q) e
-        ≡ withInterfaces (set (e .interfaces) (interfaceRow e i) (withCounts (interfaceIn e i .public + p) (interfaceIn e i .private + q) (interfaceIn e i))) e
+    pub add-row : (c : ℕ) (i : Guid) (p q : ℕ) → interfaceRow e i < length (e .interfaces)
+        → next (add c i p q) e ≡ withInterfaces (set (e .interfaces) (interfaceRow e i) (increased c p q (interfaceIn e i))) e
     unfolding next
-    add-row i p q h = at-interface-row i (λ r. withCounts (r .public + p) (r .private + q) r) h (interfaces-distinct s)
+    add-row c i p q h = at-interface-row i (increased c p q) h (interfaces-distinct s)
 
     -- an exporter goes from its row, and its objects with it
     pub remove-exporter-row : (x : ℕ) → exporterRow e x < length (e .exporters)
@@ -140,12 +139,12 @@ nothing-goes stays e a b c =
 -- ---- release
 
 -- the interface in the row of an IPID with what is left of its counts
-abbrev pub lessened : Entries → Guid → ℕ → ℕ → Interface
-lessened e i p q = withCounts (interfaceIn e i .public - p) (interfaceIn e i .private - q) (interfaceIn e i)
+abbrev pub lessened : Entries → ℕ → Guid → ℕ → ℕ → Interface
+lessened e c i p q = decreased c p q (interfaceIn e i)
 
 -- the entries with it in its row, and without this row
-abbrev pub withLessened : Entries → Guid → ℕ → ℕ → Entries
-withLessened e i p q = withInterfaces (set (e .interfaces) (interfaceRow e i) (lessened e i p q)) e
+abbrev pub withLessened : Entries → ℕ → Guid → ℕ → ℕ → Entries
+withLessened e c i p q = withInterfaces (set (e .interfaces) (interfaceRow e i) (lessened e c i p q)) e
 
 abbrev pub withoutInterface : Entries → Guid → Entries
 withoutInterface e i = withInterfaces (deleteAt (interfaceRow e i) (e .interfaces)) e
@@ -170,61 +169,61 @@ module _ (e : Entries) (i : Guid) (s : sound e ≡ true) (h : interfaceRow e i <
       (sym (entry-remove sameGuid guid-decides (λ (r : Interface). r .ipid) noInterface i (e .interfaces) h (interfaces-distinct e s)))
       ∙ keep-passes (λ (r : Interface). not (sameGuid i (r .ipid))) (e .interfaces)
 
-  module _ (p q : ℕ) where
+  module _ (c p q : ℕ) where
     -- release changes the counts in the interface's row
-    lessened-row : (atInterface i (λ (r : Interface). withCounts (r .public - p) (r .private - q) r) e) .interfaces ≡ set (e .interfaces) (interfaceRow e i) (lessened e i p q)
-    lessened-row = ap (λ (f : Entries). f .interfaces) (at-interface-row e i (λ r. withCounts (r .public - p) (r .private - q) r) h (interfaces-distinct e s))
+    lessened-row : (atInterface i (decreased c p q) e) .interfaces ≡ set (e .interfaces) (interfaceRow e i) (lessened e c i p q)
+    lessened-row = ap (λ (f : Entries). f .interfaces) (at-interface-row e i (decreased c p q) h (interfaces-distinct e s))
 
     -- a count is left: the interface keeps its row with what is left
-    pub release-counted : held (lessened e i p q) ≡ true → next (release i p q) e ≡ withLessened e i p q
+    pub release-counted : held (lessened e c i p q) ≡ true → next (release c i p q) e ≡ withLessened e c i p q
     unfolding next
     release-counted t =
         let g = grouped e s .interfaces in
-        let after : Entries = withLessened e i p q in
+        let after : Entries = withLessened e c i p q in
         ap (λ (l : List Interface). served (keep held l) e) lessened-row
         ∙ ap (λ (l : List Interface). served l e)
-        (keep-all held (after .interfaces) (every-set held (e .interfaces) (interfaceRow e i) (lessened e i p q) (g .counted) t))
+        (keep-all held (after .interfaces) (every-set held (e .interfaces) (interfaceRow e i) (lessened e c i p q) (g .counted) t))
         ∙ nothing-goes (hasInterface after) after
         (sym (serving-objects (e .objects) (after .interfaces))
         ∙ ap (λ (l : List ℕ). every (among l) (oids e))
-        (map-set-same (λ (r : Interface). r .object) (e .interfaces) (interfaceRow e i) (lessened e i p q) noInterface refl)
+        (map-set-same (λ (r : Interface). r .object) (e .interfaces) (interfaceRow e i) (lessened e c i p q) noInterface refl)
         ∙ g .serving)
-        (every-set (λ (r : Interface). among (oids e) (r .object)) (e .interfaces) (interfaceRow e i) (lessened e i p q) (g .named) object-named)
+        (every-set (λ (r : Interface). among (oids e) (r .object)) (e .interfaces) (interfaceRow e i) (lessened e c i p q) (g .named) object-named)
         (grouped e s .sets .named)
 
     -- none is left: the interface goes, and its object where no interface that is left is of it
-    pub release-empty : held (lessened e i p q) ≡ false → next (release i p q) e ≡ withoutObjects (hasInterface (withoutInterface e i)) (withoutInterface e i)
+    pub release-empty : held (lessened e c i p q) ≡ false → next (release c i p q) e ≡ withoutObjects (hasInterface (withoutInterface e i)) (withoutInterface e i)
     unfolding next
     release-empty f =
         ap (λ (l : List Interface). served (keep held l) e) lessened-row
         ∙ ap (λ (l : List Interface). served l e)
-        (keep-set held (interfaceRow e i) (e .interfaces) (lessened e i p q) h f (grouped e s .interfaces .counted))
+        (keep-set held (interfaceRow e i) (e .interfaces) (lessened e c i p q) h f (grouped e s .interfaces .counted))
 
     -- what is answered, by what is live afterwards
-    values-from : (after : Entries) (b c : Bool) → next (release i p q) e ≡ after → isLiveInterface after i ≡ b → isLiveObject after (interfaceIn e i .object) ≡ c
-        → results (release i p q) e .values ≡ min p (interfaceIn e i .public) ∷ min q (interfaceIn e i .private) ∷ flag (not b) ∷ flag (not c) ∷ []
+    values-from : (after : Entries) (b d : Bool) → next (release c i p q) e ≡ after → isLiveInterface after i ≡ b → isLiveObject after (interfaceIn e i .object) ≡ d
+        → results (release c i p q) e .values ≡ min p (publicOf (interfaceIn e i)) ∷ min q (privateOf c (interfaceIn e i)) ∷ flag (not b) ∷ flag (not d) ∷ []
     unfolding results
-    values-from after b c n v w =
-        ap (releaseValues i p q e) n
+    values-from after b d n v w =
+        ap (releaseValues c i p q e) n
         ∙ ap
-        (λ (r : Interface). min p (r .public) ∷ min q (r .private) ∷ flag (not (isLiveInterface after i)) ∷ flag (not (isLiveObject after (r .object))) ∷ [])
+        (λ (r : Interface). min p (publicOf r) ∷ min q (privateOf c r) ∷ flag (not (isLiveInterface after i)) ∷ flag (not (isLiveObject after (r .object))) ∷ [])
         (interface-row e i)
-        ∙ λ u. min p (interfaceIn e i .public) ∷ min q (interfaceIn e i .private) ∷ flag (not (v u)) ∷ flag (not (w u)) ∷ []
+        ∙ λ u. min p (publicOf (interfaceIn e i)) ∷ min q (privateOf c (interfaceIn e i)) ∷ flag (not (v u)) ∷ flag (not (w u)) ∷ []
 
     -- a count is left: neither interface nor object went
-    pub counted-values : held (lessened e i p q) ≡ true
-        → results (release i p q) e .values ≡ min p (interfaceIn e i .public) ∷ min q (interfaceIn e i .private) ∷ 0 ∷ 0 ∷ []
+    pub counted-values : held (lessened e c i p q) ≡ true
+        → results (release c i p q) e .values ≡ min p (publicOf (interfaceIn e i)) ∷ min q (privateOf c (interfaceIn e i)) ∷ 0 ∷ 0 ∷ []
     counted-values t =
-        values-from (withLessened e i p q) true true (release-counted t)
-        (ap (some (sameGuid i)) (map-set-same (λ (r : Interface). r .ipid) (e .interfaces) (interfaceRow e i) (lessened e i p q) noInterface refl)
+        values-from (withLessened e c i p q) true true (release-counted t)
+        (ap (some (sameGuid i)) (map-set-same (λ (r : Interface). r .ipid) (e .interfaces) (interfaceRow e i) (lessened e c i p q) noInterface refl)
         ∙ interface-live e i
         ∙ lt-ltb (interfaceRow e i) (length (e .interfaces)) h)
         object-named
 
     -- none is left: the interface went, and the object where no interface that is left is of it
-    pub empty-values : held (lessened e i p q) ≡ false
-        → results (release i p q) e .values
-        ≡ min p (interfaceIn e i .public) ∷ min q (interfaceIn e i .private) ∷ 1 ∷ flag (not (stillServed e i)) ∷ []
+    pub empty-values : held (lessened e c i p q) ≡ false
+        → results (release c i p q) e .values
+        ≡ min p (publicOf (interfaceIn e i)) ∷ min q (privateOf c (interfaceIn e i)) ∷ 1 ∷ flag (not (stillServed e i)) ∷ []
     empty-values f =
         let left : Entries = withoutInterface e i in
         values-from (withoutObjects (hasInterface left) left) false (stillServed e i) (release-empty f)

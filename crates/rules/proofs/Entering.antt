@@ -1,24 +1,24 @@
 -- The calls that enter an entry or add references leave sound entries.
-use Prim.Native.Nat.{ℕ, _+_, _-_, _≤_}
-use mathlib.Core.Path.{_≡_, refl, ap, _∙_}
+use Prim.Native.Nat.{ℕ, _-_, _≤_}
+use mathlib.Core.Path.{_≡_, refl, _∙_}
 use mathlib.Core.Bool.{Bool, true, false, not, _&&_, _||_, or-true}
 use mathlib.Core.List.{List, [], _∷_, _++_, map, append-assoc}
-use mathlib.Core.Logic.{⊎-elim}
 use native.Mathlib.Omega.{arith}
-use borrow.Author.Tests.{eq-eqb, ne-eqb, eqb-false, le-leb, lt-leb, not-true}
+use borrow.Author.Tests.{eq-eqb, le-leb, lt-leb}
 use lib.ListN.{length}
 use lib.Dec.{eqb, leb}
 use Rattle.kinds.specs.declared.Guid.{Guid}
 use Rattle.bindings.specs.Bindings.{listAnswer}
 use Rattle.lists.specs.Lists.{every, some, among}
 use Rattle.lists.specs.Guids.{nil, sameGuid}
-use Rattle.lists.proofs.Tests.{and-intro, or-cases}
+use Rattle.lists.proofs.Tests.{and-intro}
 use Rattle.lists.proofs.Lists.{every-snoc, every-mono, some-snoc, map-append, map-unread-at, every-changed-at}
 use Rattle.lists.proofs.Distinct.{eqb-decides}
 use Rattle.lists.proofs.Guids.{guid-decides}
-use Rattle.rules.specs.Entries.{Exporter, Object, Interface, PingSet, Entries, oxids, oids, interfaceIpids, ipids, withExporters, withObjects, withInterfaces, withCounts}
+use Rattle.rules.specs.Entries.{Exporter, Object, Interface, PingSet, Entries, oxids, oids, interfaceIpids, ipids, withExporters, withObjects, withInterfaces}
 use Rattle.rules.specs.Sound.{longestList, properGuids, held, overdue}
-use Rattle.rules.specs.Rules.{atInterface}
+use Rattle.rules.specs.Rules.{atInterface, increased}
+use Rattle.rules.proofs.Counts.{increased-held}
 use Rattle.rules.proofs.Groups.{fine-mid, fine-snoc, fine-entered, interfaces-replaced, ExportersSound, ObjectsSound, InterfacesSound, SetsSound, Grouped}
 
 -- ---- more live identifiers
@@ -94,7 +94,7 @@ objects-snoc {now} {exporters} o os s n x h =
 -- an interface of an object of ms, which are ns and perhaps this object
 interfaces-snoc : {ns ms : List ℕ} (i : Interface) (is : List Interface) → InterfacesSound ns is → Wider ns ms → among ms (i .object) ≡ true
     → every (among (map (λ (p : Interface). p .object) is ++ (i .object ∷ []))) ms ≡ true
-    → eqb (i .public) 0 ≡ false → InterfacesSound ms (is ++ (i ∷ []))
+    → held i ≡ true → InterfacesSound ms (is ++ (i ∷ []))
 interfaces-snoc {ns} {ms} i is s w o v n =
     record {
       named =
@@ -138,7 +138,7 @@ exporter-entered e x g n f a l =
     }
 
 -- an interface of a live object entered
-pub interface-entered : (e : Entries) (i : Interface) → Grouped e → FreeIpid e (i .ipid) → among (oids e) (i .object) ≡ true → eqb (i .public) 0 ≡ false
+pub interface-entered : (e : Entries) (i : Interface) → Grouped e → FreeIpid e (i .ipid) → among (oids e) (i .object) ≡ true → held i ≡ true
     → Grouped (withInterfaces (e .interfaces ++ (i ∷ [])) e)
 interface-entered e i g f o n =
     interfaces-replaced e (e .interfaces ++ (i ∷ [])) g (ids-snoc e i g f)
@@ -146,7 +146,7 @@ interface-entered e i g f o n =
 
 -- an object entered with its first interface
 pub object-entered : (e : Entries) (o : Object) (i : Interface) → Grouped e → (eqb (o .oid) 0 || among (oids e) (o .oid)) ≡ false → FreeIpid e (i .ipid)
-    → among (oxids e) (o .exporter) ≡ true → o .heard ≡ e .clock → i .object ≡ o .oid → eqb (i .public) 0 ≡ false
+    → among (oxids e) (o .exporter) ≡ true → o .heard ≡ e .clock → i .object ≡ o .oid → held i ≡ true
     → Grouped (withObjects (e .objects ++ (o ∷ [])) (withInterfaces (e .interfaces ++ (i ∷ [])) e))
 object-entered e o i g d f x h s n =
     record {
@@ -167,30 +167,16 @@ object-entered e o i g d f x h s n =
     more : map (λ (p : Object). p .oid) (e .objects ++ (o ∷ [])) ≡ oids e ++ (o .oid ∷ [])
     more = map-append (λ (p : Object). p .oid) (e .objects) (o ∷ [])
 
--- a count stays nonzero where it grows
-grown : (a p : ℕ) → not (eqb a 0) ≡ true → not (eqb (a + p) 0) ≡ true
-grown a p h = ap not (ne-eqb (a + p) 0 (λ e. eqb-false a 0 (not-true (eqb a 0) h) (omega arith)))
-
 -- references added to an interface
-pub counts-added : (e : Entries) (i : Guid) (p q : ℕ) → Grouped e → Grouped (atInterface i (λ (r : Interface). withCounts (r .public + p) (r .private + q) r) e)
-counts-added e i p q g =
+pub counts-added : (e : Entries) (i : Guid) (c p q : ℕ) → Grouped e → Grouped (atInterface i (increased c p q) e)
+counts-added e i c p q g =
     interfaces-replaced e _ g
-    (rw (map-unread-at meant more (λ r. r .ipid) (λ r. refl) (e .interfaces)) (g .ids))
+    (rw (map-unread-at meant (increased c p q) (λ r. r .ipid) (λ r. refl) (e .interfaces)) (g .ids))
     (record {
-      named = every-changed-at meant more (λ r. among (oids e) (r .object)) (λ r h. h) (e .interfaces) (g .interfaces .named);
-      serving = rw (map-unread-at meant more (λ r. r .object) (λ r. refl) (e .interfaces)) (g .interfaces .serving);
-      counted = every-changed-at meant more held more-held (e .interfaces) (g .interfaces .counted);
+      named = every-changed-at meant (increased c p q) (λ r. among (oids e) (r .object)) (λ r h. h) (e .interfaces) (g .interfaces .named);
+      serving = rw (map-unread-at meant (increased c p q) (λ r. r .object) (λ r. refl) (e .interfaces)) (g .interfaces .serving);
+      counted = every-changed-at meant (increased c p q) held (increased-held c p q) (e .interfaces) (g .interfaces .counted);
     })
   where
     meant : Interface → Bool
     meant r = sameGuid i (r .ipid)
-
-    more : Interface → Interface
-    more r = withCounts (r .public + p) (r .private + q) r
-
-    more-held : (r : Interface) → held r ≡ true → held (more r) ≡ true
-    more-held r h =
-        ⊎-elim
-        (λ a. rw (grown (r .public) p a))
-        (λ b. rw (grown (r .private) q b) (or-true (not (eqb (r .public + p) 0))))
-        (or-cases (not (eqb (r .public) 0)) (not (eqb (r .private) 0)) h)

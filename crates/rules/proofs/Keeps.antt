@@ -11,12 +11,14 @@ use Rattle.kinds.specs.declared.Guid.{Guid}
 use Rattle.kinds.proofs.Refusing.{or-false, passed, passed-on}
 use Rattle.bindings.specs.Bindings.{listAnswer}
 use Rattle.lists.specs.Lists.{every, distinct, holding, among}
+use Rattle.lists.specs.Guids.{sameGuid}
 use Rattle.rules.specs.Entries.{Entries, fresh, oxids, oids}
-use Rattle.rules.specs.Calls.{reset, enterExporter, removeExporter, enterObject, enterInterface, add, release, simplePing, complexPing, clock, resolve, census, members, nextStop}
+use Rattle.rules.specs.Calls.{reset, enterExporter, removeExporter, enterObject, enterInterface, add, release, dropClient, simplePing, complexPing, clock, resolve, census, members, nextStop}
 use Rattle.rules.specs.Sound.{longestList, sound}
-use Rattle.rules.specs.Rules.{refusals, number, next}
+use Rattle.rules.specs.Rules.{refusals, number, next, anyIpid}
 use Rattle.rules.specs.Contract.{Keeps}
 use Rattle.rules.proofs.Groups.{Grouped, grouped, sound-grouped}
+use Rattle.rules.proofs.Counts.{entered-held}
 use Rattle.rules.proofs.Entering.{exporter-entered, object-entered, interface-entered, counts-added}
 use Rattle.rules.proofs.Leaving.{exporter-removed, clock-set, counts-taken}
 use Rattle.rules.proofs.Pinging.{set-pinged, members-pinged}
@@ -44,7 +46,7 @@ module _ (e : Entries) (g : Grouped e) where
       let s = passed _ 4 _ (omega arith) (r .1) in
       let c = passed _ 7 _ (omega arith) (s .1) in
       let f = or-false _ _ (r .0) in
-      object-entered e _ _ g (f .0) (f .1) (not-false (among (oxids e) x) (s .0)) refl refl (c .0)
+      object-entered e _ _ g (f .0) (f .1) (not-false (among (oxids e) x) (s .0)) refl refl (entered-held n (c .0))
 
   interface-case : (o : ℕ) (i iid : Guid) (n : ℕ) → number (enterInterface o i iid n) e ≡ 0 → Grouped (next (enterInterface o i iid n) e)
   unfolding number refusals next
@@ -52,7 +54,7 @@ module _ (e : Entries) (g : Grouped e) where
       let r = passed _ 3 _ (omega arith) h in
       let s = passed _ 5 _ (omega arith) (r .1) in
       let c = passed _ 7 _ (omega arith) (s .1) in
-      interface-entered e _ g (r .0) (not-false (among (oids e) o) (s .0)) (c .0)
+      interface-entered e _ g (r .0) (not-false (among (oids e) o) (s .0)) (entered-held n (c .0))
 
   clock-case : (t : ℕ) → number (clock t) e ≡ 0 → Grouped (next (clock t) e)
   unfolding number refusals
@@ -66,8 +68,9 @@ keeps (enterExporter x u b) e s h = sound-grouped _ (exporter-case e (grouped e 
 keeps (removeExporter x) e s h = sound-grouped _ (exporter-removed e x (grouped e s))
 keeps (enterObject o x i iid n np) e s h = sound-grouped _ (object-case e (grouped e s) o x i iid n np h)
 keeps (enterInterface o i iid n) e s h = sound-grouped _ (interface-case e (grouped e s) o i iid n h)
-keeps (add i p q) e s h = sound-grouped _ (counts-added e i p q (grouped e s))
-keeps (release i p q) e s h = sound-grouped _ (counts-taken e i _ (λ r. refl) (grouped e s))
+keeps (add c i p q) e s h = sound-grouped _ (counts-added e i c p q (grouped e s))
+keeps (release c i p q) e s h = sound-grouped _ (counts-taken e (sameGuid i) _ (λ r. refl) (grouped e s))
+keeps (dropClient c) e s h = sound-grouped _ (counts-taken e anyIpid _ (λ r. refl) (grouped e s))
 keeps (simplePing k) e s h = sound-grouped _ (set-pinged e k (grouped e s))
 keeps (complexPing k n adds dels) e s h = sound-grouped _ (members-pinged e (eqb k 0) _ n adds dels (grouped e s))
 keeps (clock t) e s h = sound-grouped _ (clock-case e (grouped e s) t h)

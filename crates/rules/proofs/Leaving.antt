@@ -14,7 +14,7 @@ use Rattle.lists.proofs.Distinct.{eqb-decides, some-same, some-same-keep-map, p
 use Rattle.rules.specs.Entries.{Exporter, Object, Interface, PingSet, Entries, oxids, ipids, withClock, withExporters, withInterfaces, withSets, withMembers}
 use Rattle.rules.specs.Calls.{clock}
 use Rattle.rules.specs.Sound.{properGuids, held, hasInterface, overdue}
-use Rattle.rules.specs.Rules.{withoutObjects, atInterface, dropEmpty, next}
+use Rattle.rules.specs.Rules.{withoutObjects, atInterfaces, dropEmpty, next}
 use Rattle.rules.proofs.Groups.{fine-part, ExportersSound, ObjectsSound, SetsSound, Grouped, serving-objects}
 
 -- each number is among the numbers
@@ -176,16 +176,16 @@ clock-set e t g h =
     kept : ObjectsSound (e .clock) (oxids e) (keep (staysAt t) (e .objects))
     kept = objects-kept (staysAt t) (e .objects) (g .objects)
 
--- the counts of one interface changed in any way, and what is empty then dropped
-pub counts-taken : (e : Entries) (i : Guid) (f : Interface → Interface) → ((r : Interface) → f r .ipid ≡ r .ipid) → Grouped e → Grouped (dropEmpty (atInterface i f e))
-counts-taken e i f same g =
+-- the counts of interfaces changed in any way, and what is empty then dropped
+pub counts-taken : (e : Entries) (t : Guid → Bool) (f : Interface → Interface) → ((r : Interface) → f r .ipid ≡ r .ipid) → Grouped e → Grouped (dropEmpty (atInterfaces t f e))
+counts-taken e t f same g =
     objects-left (hasInterface after) after
     (g .exporters)
     (objects-kept (hasInterface after) (e .objects) (g .objects))
-    (ids-kept held (atInterface i f e) (rw (map-unread-at (λ (r : Interface). sameGuid i (r .ipid)) f (λ r. r .ipid) same (e .interfaces)) (g .ids)))
-    (keep-passes held (atInterface i f e .interfaces))
+    (ids-kept held (atInterfaces t f e) (rw (map-unread-at (λ (r : Interface). t (r .ipid)) f (λ r. r .ipid) same (e .interfaces)) (g .ids)))
+    (keep-passes held (atInterfaces t f e .interfaces))
     (serving-objects (keep (hasInterface after) (e .objects)) (after .interfaces) ∙ keep-passes (hasInterface after) (e .objects))
     (g .sets)
   where
     after : Entries
-    after = withInterfaces (keep held (atInterface i f e .interfaces)) (atInterface i f e)
+    after = withInterfaces (keep held (atInterfaces t f e .interfaces)) (atInterfaces t f e)

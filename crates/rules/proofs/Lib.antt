@@ -2,6 +2,7 @@ pub mod Performing
 pub mod Stepping
 pub mod SoundLaws
 pub mod Groups
+pub mod Counts
 pub mod Entering
 pub mod Leaving
 pub mod Pinging

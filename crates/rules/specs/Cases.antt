@@ -12,7 +12,7 @@ use Rattle.references.specs.References.{referenceAnswer}
 use Rattle.rules.specs.Entries.{PingSet, Entries, withClock, withObjects, withInterfaces, withSets}
 use Rattle.rules.specs.Calls.{Call, add, release, complexPing, clock, Reply}
 use Rattle.rules.specs.Sound.{sound}
-use Rattle.rules.specs.Rules.{next, refused, reply}
+use Rattle.rules.specs.Rules.{enteredCounts, next, refused, reply}
 
 -- ---- a case: what is asked, and what document 01 says that it gives
 
@@ -68,29 +68,29 @@ ipid = record { low = 0x71; high = 0x72 }
 unfoldable pub oneSet : (sequence : ℕ) (members : List ℕ) → PingSet
 oneSet sequence members = record { number = 1; sequence = sequence; pinged = 1000; members = members }
 
--- at the clock 1000, one entry of each kind: an exporter; its object, heard at 1000; the object's interface, with these counts; a set
--- with this sequence number, of which the object is a member
-unfoldable pub oneOfEach : (noping : Bool) (public private sequence : ℕ) → Entries
-oneOfEach noping public private sequence =
+-- at the clock 1000, one entry of each kind: an exporter; its object, heard at 1000; the object's interface, with this public count and
+-- no private reference; a set with this sequence number, of which the object is a member
+unfoldable pub oneOfEach : (noping : Bool) (public sequence : ℕ) → Entries
+oneOfEach noping public sequence =
     record {
       clock = 1000;
       next = 2;
       exporters = record { oxid = 0x51; unknown = record { low = 0x61; high = 0x62 }; bindings = emptyList } ∷ [];
       objects = record { oid = 0x41; exporter = 0x51; noping = noping; heard = 1000 } ∷ [];
-      interfaces = record { ipid = ipid; iid = record { low = 0x81; high = 0x82 }; object = 0x41; public = public; private = private } ∷ [];
+      interfaces = record { ipid = ipid; iid = record { low = 0x81; high = 0x82 }; object = 0x41; counts = enteredCounts public } ∷ [];
       sets = oneSet sequence (0x41 ∷ []) ∷ [];
     }
 
 -- a complex ping of its set: the last sequence number, then the new one
 abbrev pub pinged : (last new : ℕ) → Question
-pinged last new = called (complexPing 1 new [] []) (oneOfEach false 3 0 last)
+pinged last new = called (complexPing 1 new [] []) (oneOfEach false 3 last)
 
 -- new: the set's number and backoff factor 0, and the new sequence number is kept; stale: 12, and the last is
 abbrev pub isNew : ℕ → Outcome
-isNew new = replied 0 (1 ∷ 0 ∷ []) (oneOfEach false 3 0 new)
+isNew new = replied 0 (1 ∷ 0 ∷ []) (oneOfEach false 3 new)
 
 abbrev pub isStale : ℕ → Outcome
-isStale last = replied 12 (0 ∷ 0 ∷ []) (oneOfEach false 3 0 last)
+isStale last = replied 12 (0 ∷ 0 ∷ []) (oneOfEach false 3 last)
 
 -- without the object and its interface
 abbrev pub withoutObject : Entries → Entries
@@ -114,14 +114,14 @@ cases =
     ∷ pinged 5 32773 is isStale 5
     ∷ pinged 5 5 is isStale 5
     -- heard at 1000: at clock 1359 live, at 1360 gone, with its set; a no-ping object stays
-    ∷ called (clock 1359) (oneOfEach false 3 0 5) is replied 0 (0 ∷ 0 ∷ 0 ∷ 0 ∷ []) (withClock 1359 (oneOfEach false 3 0 5))
-    ∷ called (clock 1360) (oneOfEach false 3 0 5) is replied 0 (0 ∷ 1 ∷ 1 ∷ 1 ∷ []) (withClock 1360 (withSets [] (withoutObject (oneOfEach false 3 0 5))))
-    ∷ called (clock 1360) (oneOfEach true 3 0 5) is replied 0 (0 ∷ 0 ∷ 0 ∷ 1 ∷ []) (withClock 1360 (withSets [] (oneOfEach true 3 0 5)))
+    ∷ called (clock 1359) (oneOfEach false 3 5) is replied 0 (0 ∷ 0 ∷ 0 ∷ 0 ∷ []) (withClock 1359 (oneOfEach false 3 5))
+    ∷ called (clock 1360) (oneOfEach false 3 5) is replied 0 (0 ∷ 1 ∷ 1 ∷ 1 ∷ []) (withClock 1360 (withSets [] (withoutObject (oneOfEach false 3 5))))
+    ∷ called (clock 1360) (oneOfEach true 3 5) is replied 0 (0 ∷ 0 ∷ 0 ∷ 1 ∷ []) (withClock 1360 (withSets [] (oneOfEach true 3 5)))
     -- counts 3 and 0, release 5 and 0: 3 taken, interface gone, and with it its object, which leaves its set
-    ∷ called (release ipid 5 0) (oneOfEach false 3 0 5) is replied 0 (3 ∷ 0 ∷ 1 ∷ 1 ∷ []) (withSets (oneSet 5 [] ∷ []) (withoutObject (oneOfEach false 3 0 5)))
+    ∷ called (release 0 ipid 5 0) (oneOfEach false 3 5) is replied 0 (3 ∷ 0 ∷ 1 ∷ 1 ∷ []) (withSets (oneSet 5 [] ∷ []) (withoutObject (oneOfEach false 3 5)))
     -- count 4,294,967,295, add 1: 8; add 0 and 0: done
-    ∷ called (add ipid 1 0) (oneOfEach false 4294967295 0 5) is replied 8 [] (oneOfEach false 4294967295 0 5)
-    ∷ called (add ipid 0 0) (oneOfEach false 4294967295 0 5) is replied 0 [] (oneOfEach false 4294967295 0 5)
+    ∷ called (add 0 ipid 1 0) (oneOfEach false 4294967295 5) is replied 8 [] (oneOfEach false 4294967295 5)
+    ∷ called (add 0 ipid 0 0) (oneOfEach false 4294967295 5) is replied 0 [] (oneOfEach false 4294967295 5)
     ∷ []
 
 -- every case gives what document 01 says

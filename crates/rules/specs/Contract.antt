@@ -6,7 +6,7 @@ use mathlib.Core.List.{List}
 use lib.ListN.{length}
 use lib.Dec.{eqb}
 use Rattle.rules.specs.Entries.{Entries}
-use Rattle.rules.specs.Calls.{Call, reset, enterExporter, removeExporter, enterObject, enterInterface, add, release, simplePing, complexPing, clock, resolve, census, members, nextStop, Reply}
+use Rattle.rules.specs.Calls.{Call, reset, enterExporter, removeExporter, enterObject, enterInterface, add, release, dropClient, simplePing, complexPing, clock, resolve, census, members, nextStop, Reply}
 use Rattle.rules.specs.Sound.{sound}
 use Rattle.rules.specs.Rules.{number, next, refused, reply}
 
@@ -26,8 +26,9 @@ lengthsOnly (enterExporter x u b) = false
 lengthsOnly (removeExporter x) = false
 lengthsOnly (enterObject o x i iid n np) = false
 lengthsOnly (enterInterface o i iid n) = false
-lengthsOnly (add i p q) = false
-lengthsOnly (release i p q) = false
+lengthsOnly (add c i p q) = false
+lengthsOnly (release c i p q) = false
+lengthsOnly (dropClient c) = false
 lengthsOnly (simplePing s) = false
 lengthsOnly (complexPing s n adds dels) = false
 lengthsOnly (clock t) = false

@@ -1,9 +1,9 @@
 -- Document 01, "The calls" and "Where to go next", on the live entries of a sound table: for each call its refusals in their order,
 -- the entries after it where it is accepted, and what it answers then. Answer 1 comes before all of this (Contract.antt).
-use Prim.Native.Nat.{ℕ, _+_, _-_, _^_, _%_, min}
-use mathlib.Core.Bool.{Bool, false, cond, not, _&&_, _||_}
+use Prim.Native.Nat.{ℕ, suc, _+_, _-_, _^_, _%_, min}
+use mathlib.Core.Bool.{Bool, true, false, cond, not, _&&_, _||_}
 use mathlib.Core.List.{List, [], _∷_, _++_, map}
-use lib.ListN.{length, drop}
+use lib.ListN.{length, drop, replicate}
 use lib.Dec.{eqb, ltb, leb}
 use Rattle.kinds.specs.Refusals.{Row, order, _gives_, passes}
 use Rattle.kinds.specs.declared.Guid.{Guid}
@@ -12,8 +12,8 @@ use Rattle.bindings.specs.Bindings.{listAnswer}
 use Rattle.references.specs.References.{referenceAnswer, referenceAt, isCustom, tailOf}
 use Rattle.lists.specs.Lists.{keep, some, every, firstOr, among}
 use Rattle.lists.specs.Guids.{nil, sameGuid}
-use Rattle.rules.specs.Entries.{Exporter, Object, Interface, PingSet, Entries, fresh, oxids, oids, setNumbers, interfaceIpids, ipids, withClock, withNext, withExporters, withObjects, withInterfaces, withSets, heardAt, withCounts, pingedAt, withSequence, withMembers}
-use Rattle.rules.specs.Calls.{Call, reset, enterExporter, removeExporter, enterObject, enterInterface, add, release, simplePing, complexPing, clock, resolve, census, members, nextStop, Reply, Results, only}
+use Rattle.rules.specs.Entries.{Exporter, Object, Interface, PingSet, Entries, fresh, oxids, oids, setNumbers, interfaceIpids, ipids, withClock, withNext, withExporters, withObjects, withInterfaces, withSets, heardAt, publicOf, privateOf, atCount, atCounts, pingedAt, withSequence, withMembers}
+use Rattle.rules.specs.Calls.{Call, reset, enterExporter, removeExporter, enterObject, enterInterface, add, release, dropClient, simplePing, complexPing, clock, resolve, census, members, nextStop, Reply, Results, only}
 use Rattle.rules.specs.Sound.{longestList, held, hasInterface, overdue}
 
 -- ---- tests on the entries
@@ -49,7 +49,7 @@ abbrev pub noObject : Object
 noObject = record { oid = 0; exporter = 0; noping = false; heard = 0 }
 
 abbrev pub noInterface : Interface
-noInterface = record { ipid = nil; iid = nil; object = 0; public = 0; private = 0 }
+noInterface = record { ipid = nil; iid = nil; object = 0; counts = [] }
 
 abbrev pub noSet : PingSet
 noSet = record { number = 0; sequence = 0; pinged = 0; members = [] }
@@ -79,6 +79,10 @@ full places xs = leb places (length xs)
 -- 4,294,967,295 is the largest count
 abbrev pub passesCount : ℕ → Bool
 passesCount n = leb (2 ^ 32) n
+
+-- clients are 0 to 7
+abbrev pub noClient : ℕ → Bool
+noClient c = ltb 7 c
 
 abbrev pub tooMany : List ℕ → Bool
 tooMany ids = ltb 65535 (length ids)
@@ -112,11 +116,13 @@ refusals (enterInterface o i iid n) e =
     ∷ eqb n 0 gives 7
     ∷ full 256 (e .interfaces) gives 9
     ∷ []
-refusals (add i p q) e =
-    not (isLiveInterface e i) gives 6
-    ∷ (passesCount (interfaceOf e i .public + p) || passesCount (interfaceOf e i .private + q)) gives 8
+refusals (add c i p q) e =
+    noClient c gives 20
+    ∷ not (isLiveInterface e i) gives 6
+    ∷ (passesCount (publicOf (interfaceOf e i) + p) || passesCount (privateOf c (interfaceOf e i) + q)) gives 8
     ∷ []
-refusals (release i p q) e = not (isLiveInterface e i) gives 6 ∷ []
+refusals (release c i p q) e = noClient c gives 20 ∷ not (isLiveInterface e i) gives 6 ∷ []
+refusals (dropClient c) e = noClient c gives 20 ∷ []
 refusals (simplePing s) e = (eqb s 0 || not (isLiveSet e s)) gives 11 ∷ []
 refusals (complexPing s n adds dels) e =
     (tooMany adds || tooMany dels) gives 10
@@ -150,15 +156,23 @@ withoutObjects stays e =
     withInterfaces (keep (λ (i : Interface). isLiveObject f (i .object)) (e .interfaces))
     (withSets (map (λ (s : PingSet). withMembers (keep (isLiveObject f) (s .members)) s) (e .sets)) f)
 
+-- the interfaces changed whose IPID passes a test
+abbrev pub atInterfaces : (Guid → Bool) → (Interface → Interface) → Entries → Entries
+atInterfaces t f e = withInterfaces (map (λ (p : Interface). cond (t (p .ipid)) (f p) p) (e .interfaces)) e
+
 -- the interface i alone changed
 abbrev pub atInterface : Guid → (Interface → Interface) → Entries → Entries
-atInterface i f e = withInterfaces (map (λ (p : Interface). cond (sameGuid i (p .ipid)) (f p) p) (e .interfaces)) e
+atInterface i f e = atInterfaces (sameGuid i) f e
+
+-- every interface changed
+abbrev pub anyIpid : Guid → Bool
+anyIpid g = true
 
 -- the set s alone changed
 abbrev pub atSet : ℕ → (PingSet → PingSet) → Entries → Entries
 atSet s f e = withSets (map (λ (p : PingSet). cond (eqb s (p .number)) (f p) p) (e .sets)) e
 
--- an interface at zero and zero goes; an object without interfaces goes, from its sets too
+-- an interface whose counts are all zero goes; an object without interfaces goes, from its sets too
 abbrev pub dropEmpty : Entries → Entries
 dropEmpty e =
     let f : Entries = withInterfaces (keep held (e .interfaces)) e in
@@ -182,6 +196,20 @@ setMeant s next = cond (eqb s 0) next s
 abbrev pub makeSet : Entries → Entries
 makeSet e = withNext (e .next + 1) (withSets (e .sets ++ (record { number = e .next; sequence = 0; pinged = e .clock; members = [] } ∷ [])) e)
 
+-- an interface is entered with a public count; every client's private count is 0
+abbrev pub enteredCounts : ℕ → List ℕ
+enteredCounts n = n ∷ replicate 8 0
+
+-- what add, release and the drop make of an interface; a count less a larger number is 0
+abbrev pub increased : ℕ → ℕ → ℕ → Interface → Interface
+increased c p q = atCounts c (λ (n : ℕ). n + p) (λ (n : ℕ). n + q)
+
+abbrev pub decreased : ℕ → ℕ → ℕ → Interface → Interface
+decreased c p q = atCounts c (λ (n : ℕ). n - p) (λ (n : ℕ). n - q)
+
+abbrev pub emptied : ℕ → Interface → Interface
+emptied c = atCount (suc c) (λ (n : ℕ). 0)
+
 unfoldable pub next : Call → Entries → Entries
 next (reset t) e = fresh t
 next (enterExporter x u b) e = withExporters (e .exporters ++ (record { oxid = x; unknown = u; bindings = b } ∷ [])) e
@@ -190,12 +218,12 @@ next (removeExporter x) e =
     (withoutObjects (λ (o : Object). not (eqb x (o .exporter))) e)
 next (enterObject o x i iid n np) e =
     withObjects (e .objects ++ (record { oid = o; exporter = x; noping = np; heard = e .clock } ∷ []))
-    (withInterfaces (e .interfaces ++ (record { ipid = i; iid = iid; object = o; public = n; private = 0 } ∷ [])) e)
+    (withInterfaces (e .interfaces ++ (record { ipid = i; iid = iid; object = o; counts = enteredCounts n } ∷ [])) e)
 next (enterInterface o i iid n) e =
-    withInterfaces (e .interfaces ++ (record { ipid = i; iid = iid; object = o; public = n; private = 0 } ∷ [])) e
-next (add i p q) e = atInterface i (λ (r : Interface). withCounts (r .public + p) (r .private + q) r) e
--- a count less a larger number is 0
-next (release i p q) e = dropEmpty (atInterface i (λ (r : Interface). withCounts (r .public - p) (r .private - q) r) e)
+    withInterfaces (e .interfaces ++ (record { ipid = i; iid = iid; object = o; counts = enteredCounts n } ∷ [])) e
+next (add c i p q) e = atInterface i (increased c p q) e
+next (release c i p q) e = dropEmpty (atInterface i (decreased c p q) e)
+next (dropClient c) e = dropEmpty (atInterfaces anyIpid (emptied c) e)
 next (simplePing s) e = ping s e
 next (complexPing s n adds dels) e =
     let k : ℕ = setMeant s (e .next) in
@@ -217,10 +245,10 @@ abbrev pub liveNumbers : Entries → List ℕ
 liveNumbers e = length (e .exporters) ∷ length (e .objects) ∷ length (e .interfaces) ∷ length (e .sets) ∷ []
 
 -- what was taken, public and private, and whether interface and object went
-abbrev pub releaseValues : Guid → ℕ → ℕ → Entries → Entries → List ℕ
-releaseValues i p q e after =
-    min p (interfaceOf e i .public)
-    ∷ min q (interfaceOf e i .private)
+abbrev pub releaseValues : ℕ → Guid → ℕ → ℕ → Entries → Entries → List ℕ
+releaseValues c i p q e after =
+    min p (publicOf (interfaceOf e i))
+    ∷ min q (privateOf c (interfaceOf e i))
     ∷ flag (not (isLiveInterface after i))
     ∷ flag (not (isLiveObject after (interfaceOf e i .object)))
     ∷ []
@@ -248,8 +276,9 @@ results (enterExporter x u b) e = only []
 results (removeExporter x) e = only []
 results (enterObject o x i iid n np) e = only []
 results (enterInterface o i iid n) e = only []
-results (add i p q) e = only []
-results (release i p q) e = only (releaseValues i p q e (next (release i p q) e))
+results (add c i p q) e = only []
+results (release c i p q) e = only (releaseValues c i p q e (next (release c i p q) e))
+results (dropClient c) e = only []
 results (simplePing s) e = only []
 -- the set's number, and the backoff factor
 results (complexPing s n adds dels) e = only (setMeant s (e .next) ∷ 0 ∷ [])

@@ -25,9 +25,9 @@ proper ns = every (λ (n : ℕ). not (eqb n 0)) ns && distinct eqb ns
 abbrev pub properGuids : List Guid → Bool
 properGuids gs = every (λ (g : Guid). not (sameGuid g nil)) gs && distinct sameGuid gs
 
--- some reference is held
+-- some reference is held: the public count or one of the private ones is not zero
 abbrev pub held : Interface → Bool
-held i = not (eqb (i .public) 0) || not (eqb (i .private) 0)
+held i = some (λ (n : ℕ). not (eqb n 0)) (i .counts)
 
 abbrev pub hasInterface : Entries → Object → Bool
 hasInterface e o = some (λ (i : Interface). eqb (o .oid) (i .object)) (e .interfaces)

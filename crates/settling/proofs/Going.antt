@@ -7,8 +7,8 @@ use mathlib.Core.Logic.{⊎-elim}
 use native.Mathlib.Omega.{arith}
 use borrow.Author.Tests.{eqb-true, ltb-true}
 use lib.Dec.{eqb, ltb}
-use lib.ListN.{length, getD, drop, length-map}
-use lib.Seq.{drop-length, drop-cons}
+use lib.ListN.{length, getD, set, drop, length-map, length-set}
+use lib.Seq.{drop-length, drop-cons, drop-set-lt, getD-set-same}
 use Rattle.kinds.proofs.Refusing.{true-false, by-test}
 use Rattle.lists.specs.Lists.{keep, every, some, distinct, deleteAt, among}
 use Rattle.lists.proofs.Tests.{true-or-false, and-intro}
@@ -17,17 +17,18 @@ use Rattle.lists.proofs.Distinct.{eqb-decides, distinct-delete, among-delete, s
 use Rattle.columns.specs.Rows.{rowAt}
 use Rattle.columns.specs.Members.{memberRows}
 use Rattle.lists.specs.Lists.{tabulate}
-use Rattle.rules.specs.Entries.{Object, Interface, PingSet, Entries, oids, withObjects, withInterfaces, withSets, withMembers}
-use Rattle.rules.specs.Sound.{membersLive}
-use Rattle.rules.specs.Rules.{noObject, noInterface, noSet, isLiveObject}
+use Rattle.rules.specs.Entries.{Object, Interface, PingSet, Entries, countOf, withCount, oids, withObjects, withInterfaces, withSets, withMembers}
+use Rattle.rules.specs.Sound.{held, membersLive}
+use Rattle.rules.specs.Rules.{noObject, noInterface, noSet, isLiveObject, emptied}
 use Rattle.rules.proofs.ByRow.{nothing-goes}
 use Rattle.rules.proofs.Leaving.{setStaysAt}
 use Rattle.table.specs.View.{objectCount, setCount, setsOf, memory, view}
-use Rattle.table.specs.Edits.{membersAt, membersBelow, dropObject, dropInterface, dropSet}
+use Rattle.table.specs.Edits.{membersAt, membersBelow, dropObject, dropInterface, dropSet, changeInterface}
 use Rattle.table.proofs.LiveRows.{sets-length, set-at}
 use Rattle.table.proofs.edit.Members.{oids-length, below-at}
 use Rattle.table.proofs.edit.Views.{oidsOf}
-use Rattle.settling.specs.Leaving.{stays, objectsLeft, interfacesLeft, setsLeft, leftAt, interfaceLeftAt, setLeftAt}
+use Rattle.settling.specs.Leaving.{stays, objectsLeft, interfacesLeft, setsLeft, leftAt, interfaceLeftAt, setLeftAt, cleared, heldLeft, heldLeftAt}
+use Rattle.settling.proofs.Clearing.{clear-row, clear-all, row-cleared}
 use Rattle.settling.specs.declared.Leaving.{Leaving}
 use Rattle.settling.specs.declared.Leaving.the-variants.{Exported, Unserved, Unheard}
 
@@ -106,6 +107,51 @@ module _ (before e : Entries) (n : ℕ) (g : InterfacesGoing before n e) where
   interfaces-all z =
       going-all (λ e. e .interfaces) interfaceStays interfacesLeft noInterface e before n z
       (λ h. ap (λ (l : List Interface). withInterfaces l e) (keep-all (interfaceStays e) (e .interfaces) h)) g
+
+-- ---- interfaces without references
+
+abbrev pub HeldGoing : Entries → ℕ → Entries → Type 0
+HeldGoing = Going (λ e. e .interfaces) (λ e. held) heldLeft
+
+module _ (before e : Entries) (n : ℕ) (g : HeldGoing before n e) where
+  pub held-row : (i : ℕ) → n ≡ suc i → HeldGoing before i (heldLeftAt i e)
+  held-row i z =
+      going-row (λ e. e .interfaces) (λ e. held) heldLeft noInterface e before n i (dropInterface i e) z refl refl
+      (λ h f. ap (λ (l : List Interface). withInterfaces l e) (keep-delete held noInterface i (e .interfaces) h f)) g
+
+  pub held-all : n ≡ 0 → e ≡ heldLeft before
+  held-all z =
+      going-all (λ e. e .interfaces) (λ e. held) heldLeft noInterface e before n z
+      (λ h. ap (λ (l : List Interface). withInterfaces l e) (keep-all held (e .interfaces) h)) g
+
+-- ---- a client's counts
+
+-- the client's count is zero
+abbrev pub noneOf : ℕ → Interface → Bool
+noneOf c r = eqb (countOf (suc c) r) 0
+
+abbrev pub Clearing : ℕ → Entries → ℕ → Entries → Type 0
+Clearing c = Going (λ e. e .interfaces) (λ e. noneOf c) (cleared c)
+
+module _ (c : ℕ) (before e : Entries) (n : ℕ) (g : Clearing c before n e) where
+  -- a row is cleared
+  pub clearing-row : (i : ℕ) → n ≡ suc i → Clearing c before i (changeInterface i (withCount (suc c) 0) e)
+  clearing-row i z =
+      let x = emptied c (getD (e .interfaces) i noInterface) in
+      let l = length-set (e .interfaces) i x in
+      let w = g .within in
+      let h : i < length (set (e .interfaces) i x) = omega arith in
+      record {
+        within = omega arith;
+        rest =
+            every-drop (noneOf c) noInterface i (set (e .interfaces) i x) h
+            (ap (noneOf c) (getD-set-same (e .interfaces) i x noInterface (omega arith)) ∙ row-cleared c (getD (e .interfaces) i noInterface))
+            (ap (every (noneOf c)) (drop-set-lt (suc i) (e .interfaces) i x (omega arith)) ∙ (rw z at (g .rest)));
+        same = clear-row c e i ∙ g .same;
+      }
+
+  pub clearing-all : n ≡ 0 → e ≡ cleared c before
+  clearing-all z = going-all (λ e. e .interfaces) (λ e. noneOf c) (cleared c) noInterface e before n z (clear-all c e) g
 
 -- ---- sets
 

@@ -6,8 +6,8 @@ use lib.Dec.{eqb}
 use lib.ListN.{getD}
 use Rattle.lists.specs.Lists.{keep}
 use Rattle.rules.specs.Entries.{Object, Interface, PingSet, Entries, withObjects, withInterfaces, withSets, withMembers}
-use Rattle.rules.specs.Sound.{hasInterface, overdue}
-use Rattle.rules.specs.Rules.{noObject, noInterface, noSet, isLiveObject, withoutObjects}
+use Rattle.rules.specs.Sound.{held, hasInterface, overdue}
+use Rattle.rules.specs.Rules.{noObject, noInterface, noSet, isLiveObject, withoutObjects, atInterfaces, anyIpid, emptied}
 use Rattle.table.specs.Edits.{dropObject, dropInterface, dropSet}
 use Rattle.settling.specs.declared.Leaving.{Leaving}
 use Rattle.settling.specs.declared.Leaving.the-variants.{Exported, Unserved, Unheard}
@@ -47,3 +47,15 @@ interfaceLeftAt i e = cond (isLiveObject e (getD (e .interfaces) i noInterface .
 -- the set at row i goes, unless it is not overdue at a time
 abbrev pub setLeftAt : ℕ → ℕ → Entries → Entries
 setLeftAt t i e = cond (not (overdue t (getD (e .sets) i noSet .pinged))) e (dropSet i e)
+
+-- a client's private references taken off every interface
+abbrev pub cleared : ℕ → Entries → Entries
+cleared c e = atInterfaces anyIpid (emptied c) e
+
+-- the interfaces to which a reference is held
+abbrev pub heldLeft : Entries → Entries
+heldLeft e = withInterfaces (keep held (e .interfaces)) e
+
+-- the interface at row i goes, unless a reference to it is held
+abbrev pub heldLeftAt : ℕ → Entries → Entries
+heldLeftAt i e = cond (held (getD (e .interfaces) i noInterface)) e (dropInterface i e)

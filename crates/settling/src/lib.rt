@@ -1,6 +1,7 @@
 // Rows that go: objects that do not stay, with their interfaces and memberships, and sets.
 use table::edit;
 use table::find;
+use table::judge;
 use table::layout;
 ghost use mathlib.Core.Path.{_≡_};
 ghost use mathlib.Core.Bool.{true};
@@ -13,7 +14,7 @@ ghost use Rattle.rules.specs.Entries.{oids};
 ghost use Rattle.rules.specs.Rules.{noObject};
 ghost use Rattle.table.specs.View.{objectCount, interfaceCount, setCount, memory, view};
 ghost use Rattle.table.specs.Edits.{membersBelow, Became};
-ghost use Rattle.settling.specs.Leaving.{stays, settled, objectsLeft, interfacesLeft, setsLeft, leftAt, interfaceLeftAt, setLeftAt};
+ghost use Rattle.settling.specs.Leaving.{stays, settled, objectsLeft, interfacesLeft, setsLeft, leftAt, interfaceLeftAt, setLeftAt, cleared, heldLeft, heldLeftAt};
 
 // Why objects go: their exporter is removed, they have no interface, or they were not heard for too long at a time.
 pub enum Leaving {
@@ -124,5 +125,40 @@ pub fn drop_sets(words: &mut [u64], time: u64)
     while 0 < i {
         i -= 1;
         leave_set(words, i, time);
+    }
+}
+
+// Takes the private references of a client off every interface.
+pub fn clear_counts(words: &mut [u64], client: usize)
+    requires { ⌜ (length (now words) ≡ 8192) × (client < 8) ⌝ }
+    ensures { λ _. ⌜ Became (cleared client) (now (words .entry)) (now (words .exit)) ⌝ }
+{
+    let mut i = layout::interface_count(words);
+    while 0 < i {
+        i -= 1;
+        edit::set_count(words, i, client + 1, 0);
+    }
+}
+
+// Takes interface i out, unless a reference to it is held.
+fn leave_unheld(words: &mut [u64], i: usize)
+    requires { ⌜ (length (now words) ≡ 8192) × (i < interfaceCount (now words)) ⌝ }
+    ensures { λ _. ⌜ Became (heldLeftAt i) (now (words .entry)) (now (words .exit)) ⌝ }
+{
+    if judge::is_held(words, i) {
+        return;
+    }
+    edit::remove_interface(words, i);
+}
+
+// Takes the interfaces out to which no reference is held.
+pub fn drop_unheld(words: &mut [u64])
+    requires { ⌜ length (now words) ≡ 8192 ⌝ }
+    ensures { λ _. ⌜ Became heldLeft (now (words .entry)) (now (words .exit)) ⌝ }
+{
+    let mut i = layout::interface_count(words);
+    while 0 < i {
+        i -= 1;
+        leave_unheld(words, i);
     }
 }

@@ -1,4 +1,5 @@
 pub mod FreePlaces
 pub mod Sizes
+pub mod Counts
 pub mod Columns
 pub mod LiveRows

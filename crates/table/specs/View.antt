@@ -30,9 +30,9 @@ setKind = record { base = 64; places = 32; width = 5 }
 abbrev pub objectKind : Kind
 objectKind = record { base = 256; places = 128; width = 4 }
 
--- IPID (low, high), IID (low, high), OID, public and private count
+-- IPID (low, high), IID (low, high), OID, public count, the private counts of clients 0 to 7
 abbrev pub interfaceKind : Kind
-interfaceKind = record { base = 768; places = 256; width = 7 }
+interfaceKind = record { base = 768; places = 256; width = 14 }
 
 -- the number of live rows of a kind, whose count is the word at
 abbrev pub liveRows : ℕ → Kind → List ℕ → ℕ
@@ -74,8 +74,7 @@ asInterface r =
       ipid = record { low = getD r 0 0; high = getD r 1 0 };
       iid = record { low = getD r 2 0; high = getD r 3 0 };
       object = getD r 4 0;
-      public = getD r 5 0 % 2 ^ 32;
-      private = getD r 6 0 % 2 ^ 32;
+      counts = map (λ (w : ℕ). w % 2 ^ 32) (drop 5 r);
     }
 
 -- a member is a bit at an object's row; the bit of a row that is not live stands for OID 0, which no live object has

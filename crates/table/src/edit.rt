@@ -14,8 +14,8 @@ ghost use Rattle.lists.specs.Lists.{distinct};
 ghost use Rattle.columns.specs.Rows.{after};
 ghost use Rattle.columns.specs.Members.{memberRows};
 ghost use Rattle.bindings.specs.Bindings.{listAnswer};
-ghost use Rattle.rules.specs.Entries.{oids, heardAt, withCounts, pingedAt, withSequence, withMembers, withClock};
-ghost use Rattle.rules.specs.Rules.{makeSet};
+ghost use Rattle.rules.specs.Entries.{oids, heardAt, withCount, pingedAt, withSequence, withMembers, withClock};
+ghost use Rattle.rules.specs.Rules.{makeSet, enteredCounts};
 ghost use Rattle.table.specs.View.{exporterCount, objectCount, interfaceCount, setCount, memory, view};
 ghost use Rattle.rules.specs.PingRows.{changeSet};
 ghost use Rattle.table.specs.Edits.{Pushed, Pulled, membersBelow, Became, addExporter, addObject, addInterface, addSet, dropExporter, dropObject, dropInterface, dropSet, changeObject, changeInterface, MembersCut};
@@ -55,7 +55,7 @@ pub fn put_interface(words: &mut [u64], ipid: Guid, iid: Guid, oid: u64, public:
     requires { ⌜ (length (now words) ≡ 8192) × (interfaceCount (now words) < 256) ⌝ }
     ensures { λ _. ⌜
         Became
-        (addInterface (record { ipid = ipid; iid = iid; object = oid; public = public; private = 0 }))
+        (addInterface (record { ipid = ipid; iid = iid; object = oid; counts = enteredCounts public }))
         (now (words .entry)) (now (words .exit)) ⌝ }
 {
     let n = layout::interface_count(words);
@@ -66,6 +66,13 @@ pub fn put_interface(words: &mut [u64], ipid: Guid, iid: Guid, oid: u64, public:
         iid.high,
         oid,
         public as u64,
+        0,
+        0,
+        0,
+        0,
+        0,
+        0,
+        0,
         0,
     ];
     push_row(words, layout::interface_kind(), layout::INTERFACES, n, &row);
@@ -167,13 +174,12 @@ pub fn remove_object(words: &mut [u64], i: usize)
     cut_members(words, i);
 }
 
-// The counts of interface i.
-pub fn set_counts(words: &mut [u64], i: usize, public: u32, private: u32)
-    requires { ⌜ (length (now words) ≡ 8192) × (i < interfaceCount (now words)) ⌝ }
-    ensures { λ _. ⌜ Became (changeInterface i (withCounts public private)) (now (words .entry)) (now (words .exit)) ⌝ }
+// Count k of interface i.
+pub fn set_count(words: &mut [u64], i: usize, k: usize, n: u32)
+    requires { ⌜ (length (now words) ≡ 8192) × (i < interfaceCount (now words)) × (k < 9) ⌝ }
+    ensures { λ _. ⌜ Became (changeInterface i (withCount k n)) (now (words .entry)) (now (words .exit)) ⌝ }
 {
-    words[layout::PUBLIC_COUNTS + i] = public as u64;
-    words[layout::PRIVATE_COUNTS + i] = private as u64;
+    words[layout::COUNTS + 256 * k + i] = n as u64;
 }
 
 // The time at which object i was last heard.

@@ -10,10 +10,10 @@ ghost use lib.ListN.{length, getD};
 ghost use lib.Dec.{eqb};
 ghost use Rattle.lists.specs.Lists.{some, firstIndex};
 ghost use Rattle.lists.specs.Guids.{nil, sameGuid};
-ghost use Rattle.rules.specs.Entries.{Interface, oxids, oids, setNumbers, interfaceIpids, ipids};
+ghost use Rattle.rules.specs.Entries.{Interface, countOf, oxids, oids, setNumbers, interfaceIpids, ipids};
 ghost use Rattle.rules.specs.Sound.{listsKept};
-ghost use Rattle.rules.specs.Rules.{noExporter, noSet};
-ghost use Rattle.table.specs.View.{exporterCount, interfaceCount, setCount, exportersOf, setsOf, memory, view};
+ghost use Rattle.rules.specs.Rules.{noExporter, noInterface, noSet};
+ghost use Rattle.table.specs.View.{exporterCount, interfaceCount, setCount, exportersOf, interfacesOf, setsOf, memory, view};
 ghost use Rattle.table.specs.Edits.{membersAt};
 ghost use Rattle.table.specs.Found.{heldAt};
 
@@ -88,15 +88,23 @@ pub struct Held {
     pub private: u32,
 }
 
-// What interface i holds.
-pub fn interface_held(words: &[u64], i: usize) -> Held
-    requires { ⌜ (length (now words) ≡ 8192) × (i < interfaceCount (now words)) ⌝ }
-    ensures { λ r. ⌜ r ≡ heldAt (now (words .entry)) i ⌝ }
+// Count k of interface i: the public one is 0, that of client c is 1 + c.
+pub fn count(words: &[u64], i: usize, k: usize) -> u32
+    requires { ⌜ (length (now words) ≡ 8192) × (i < interfaceCount (now words)) × (k < 9) ⌝ }
+    ensures { λ r. ⌜ r ≡ countOf k (getD (interfacesOf (now (words .entry))) i noInterface) ⌝ }
+{
+    (words[layout::COUNTS + 256 * k + i] % 4294967296) as u32
+}
+
+// What interface i holds, of private references those of a client.
+pub fn interface_held(words: &[u64], i: usize, client: usize) -> Held
+    requires { ⌜ (length (now words) ≡ 8192) × (i < interfaceCount (now words)) × (client < 8) ⌝ }
+    ensures { λ r. ⌜ r ≡ heldAt (now (words .entry)) i client ⌝ }
 {
     Held {
         object: words[layout::INTERFACE_OBJECTS + i],
-        public: (words[layout::PUBLIC_COUNTS + i] % 4294967296) as u32,
-        private: (words[layout::PRIVATE_COUNTS + i] % 4294967296) as u32,
+        public: count(words, i, 0),
+        private: count(words, i, client + 1),
     }
 }
 

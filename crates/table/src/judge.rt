@@ -1,16 +1,19 @@
 // Whether a lent table is sound: the clauses of document 01's "sound", each over the columns that it speaks of.
+use crate::find;
 use crate::layout;
 use columns::members::Members;
 ghost use mathlib.Core.Path.{_≡_};
 ghost use mathlib.Core.Bool.{true};
 ghost use mathlib.Core.List.{List};
-ghost use Prim.Native.Nat.{ℕ};
-ghost use lib.ListN.{length};
+ghost use Prim.Native.Nat.{ℕ, _<_};
+ghost use lib.ListN.{length, getD};
+ghost use lib.Dec.{eqb};
 ghost use Rattle.lists.specs.Lists.{holding};
-ghost use Rattle.rules.specs.Entries.{oids, ipids};
-ghost use Rattle.rules.specs.Sound.{proper, properGuids, interfacesHeld, membersLive, heardRecently, listsKept};
-ghost use Rattle.table.specs.View.{memory, view, soundMemory};
-ghost use Rattle.table.specs.Clauses.{exporterClauses, objectClauses, interfaceClauses, setClauses, recent, heldWords};
+ghost use Rattle.rules.specs.Entries.{countOf, oids, ipids};
+ghost use Rattle.rules.specs.Rules.{noInterface};
+ghost use Rattle.rules.specs.Sound.{proper, properGuids, held, interfacesHeld, membersLive, heardRecently, listsKept};
+ghost use Rattle.table.specs.View.{interfaceCount, interfacesOf, memory, view, soundMemory};
+ghost use Rattle.table.specs.Clauses.{exporterClauses, objectClauses, interfaceClauses, setClauses, recent};
 
 // Nonzero and distinct.
 fn are_proper(col: &[u64]) -> bool
@@ -110,14 +113,27 @@ fn objects_sound(words: &[u64]) -> bool
     heard_recently(words)
 }
 
-// A count of 32 bits, public or private, is not zero.
-fn is_held(public: u64, private: u64) -> bool
-    ensures { λ r. ⌜ r ≡ heldWords public private ⌝ }
+// Whether count k of interface i is zero.
+fn is_zero(words: &[u64], i: usize, k: usize) -> bool
+    requires { ⌜ (length (now words) ≡ 8192) × (i < interfaceCount (now words)) × (k < 9) ⌝ }
+    ensures { λ r. ⌜ r ≡ eqb (countOf k (getD (interfacesOf (now (words .entry))) i noInterface)) 0 ⌝ }
 {
-    if public % 4294967296 != 0 {
-        return true;
+    find::count(words, i, k) == 0
+}
+
+// Whether a reference to interface i is held. The public count is looked at first.
+pub fn is_held(words: &[u64], i: usize) -> bool
+    requires { ⌜ (length (now words) ≡ 8192) × (i < interfaceCount (now words)) ⌝ }
+    ensures { λ r. ⌜ r ≡ held (getD (interfacesOf (now (words .entry))) i noInterface) ⌝ }
+{
+    let mut k = 0;
+    while k < 9 {
+        if !is_zero(words, i, k) {
+            return true;
+        }
+        k += 1;
     }
-    private % 4294967296 != 0
+    false
 }
 
 // Each interface has a nonzero count.
@@ -128,10 +144,7 @@ fn interfaces_held(words: &[u64]) -> bool
     let n = layout::interface_count(words);
     let mut i = 0;
     while i < n {
-        if !is_held(
-            words[layout::PUBLIC_COUNTS + i],
-            words[layout::PRIVATE_COUNTS + i],
-        ) {
+        if !is_held(words, i) {
             return false;
         }
         i += 1;

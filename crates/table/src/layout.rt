@@ -60,9 +60,8 @@ pub const IPID_HIGHS: usize = 1024;
 
 pub const INTERFACE_OBJECTS: usize = 1792;
 
-pub const PUBLIC_COUNTS: usize = 2048;
-
-pub const PRIVATE_COUNTS: usize = 2304;
+// The public counts; the private ones of clients 0 to 7 follow, a column for each.
+pub const COUNTS: usize = 2048;
 
 pub fn exporter_kind() -> Kind
     ensures { λ r. ⌜ r ≡ exporterKind ⌝ }
@@ -100,7 +99,7 @@ pub fn interface_kind() -> Kind
     Kind {
         base: 768,
         places: 256,
-        width: 7,
+        width: 14,
     }
 }
 

@@ -16,7 +16,7 @@ fn take_up<'a>(words: &'a mut [u64], store: &'a [u8], reference: &'a [u8]) -> Se
     next_stop(words, store, reference);
     resolve(words, store, read.reference.block.oxid);
     say::done(
-        resolver::add(words, store, read.reference.block.ipid, 2, 1),
+        resolver::add(words, store, 0, read.reference.block.ipid, 2, 1),
         b"client: takes 2 public and 1 private references more",
     );
     make_set(words, store, read.reference.block.oid)
@@ -88,7 +88,7 @@ fn pass<'a>(words: &'a mut [u64], store: &'a [u8], periods: u32) {
 
 fn give_back<'a>(words: &'a mut [u64], store: &'a [u8]) {
     let interface = server::ipid();
-    let r = resolver::release(words, store, interface, 7, 1);
+    let r = resolver::release(words, store, 0, interface, 7, 1);
     say::step(
         r.answer,
         b"client: gives 7 public and 1 private references back",
@@ -133,11 +133,27 @@ fn wait<'a>(words: &'a mut [u64], store: &'a [u8], set: SetId, from: u32, to: u3
     }
 }
 
-// Pings every two minutes, and gives the references back at the end.
+// Another client takes a private reference.
+fn share<'a>(words: &'a mut [u64], store: &'a [u8]) {
+    let interface = server::ipid();
+    say::done(
+        resolver::add(words, store, 1, interface, 0, 1),
+        b"client 1: takes 1 private reference",
+    );
+}
+
+// Pings every two minutes, and gives the references back at the end. The object stays until another client's references are
+// dropped.
 pub fn stay<'a>(words: &'a mut [u64], store: &'a [u8], reference: &'a [u8]) {
     let set = take_up(words, store, reference);
     wait(words, store, set, 0, 4, true);
+    share(words, store);
     give_back(words, store);
+    count_members(words, store, set);
+    say::done(
+        resolver::drop_client(words, store, 1),
+        b"server: drops the private references of client 1",
+    );
     count_members(words, store, set);
 }
 

@@ -1,6 +1,7 @@
 // One reference through a day. A server registers and enters a tank level group, and its reference goes out in bytes. A client
 // reads it, asks where to go next, resolves, takes more references, pings every two minutes from a set, and gives the references
-// back, so that the object ends. Then the same with a client that falls silent. Each step is printed with its answer number.
+// back; the object ends once the references of another client, which is lost, are dropped. Then the same with a client that falls
+// silent. Each step is printed with its answer number.
 
 mod client;
 mod say;

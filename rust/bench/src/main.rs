@@ -166,12 +166,12 @@ fn tables() {
         "add and release on a full table",
         200,
         || {
-            keep(table.add(black_box(guid(i)), 2, 1));
-            keep(table.release(black_box(guid(i)), 2, 1));
+            keep(table.add(0, black_box(guid(i)), 2, 1));
+            keep(table.release(0, black_box(guid(i)), 2, 1));
         },
         || {
-            keep(pt::add(&mut w, &s, black_box(i), 2, 1));
-            keep(pt::release(&mut w, &s, black_box(i), 2, 1));
+            keep(pt::add(&mut w, &s, 0, black_box(i), 2, 1));
+            keep(pt::release(&mut w, &s, 0, black_box(i), 2, 1));
         },
     );
     let members: Vec<u64> = (0..20).map(|i| spread(6 * i)).collect();

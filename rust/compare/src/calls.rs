@@ -8,7 +8,8 @@ use crate::shrink::shrink;
 use crate::subject::Subject;
 use crate::tally::Tally;
 use crate::Differs;
-use model::entries::{Entries, OBJECTS};
+use model::entries::{Entries, Interface, OBJECTS};
+use model::Guid;
 use std::marker::PhantomData;
 use std::panic::{catch_unwind, AssertUnwindSafe};
 
@@ -87,9 +88,10 @@ impl<S: Subject> Pair<S> {
         }));
         let answer = answered.map_err(|_| "it panicked".to_string())?;
         let last = self.last_sequence(call);
+        let objects = self.side.entries.objects.len();
         let demanded = self.side.perform(op);
         self.tally.count(demanded.number);
-        if let Some(event) = self.event(call, &demanded, last) {
+        if let Some(event) = self.event(call, &demanded, last, objects) {
             self.tally.event(event);
         }
         if answer != demanded {
@@ -124,8 +126,21 @@ impl<S> Pair<S> {
         sets.find(|s| s.number == *set).map(|s| s.sequence)
     }
 
-    /// What a call reached besides its answer number.
-    fn event(&self, call: &Op, reply: &Reply, last: Option<u16>) -> Option<&'static str> {
+    /// Whether the interface is there still, though neither a public reference nor one of the client's is.
+    fn kept_by_another(&self, client: u32, ipid: Guid) -> bool {
+        let left = |i: &Interface| i.public == 0 && i.private[client as usize] == 0;
+        let mut interfaces = self.side.entries.interfaces.iter();
+        interfaces.any(|i| i.ipid == ipid && left(i))
+    }
+
+    /// What a call on so many objects reached besides its answer number.
+    fn event(
+        &self,
+        call: &Op,
+        reply: &Reply,
+        last: Option<u16>,
+        objects: usize,
+    ) -> Option<&'static str> {
         let event = match (call, reply.number) {
             (Op::EnterExporter { .. }, 9) => "exporters full",
             (Op::EnterObject { .. }, 9) => "objects or interfaces full at an object",
@@ -134,6 +149,12 @@ impl<S> Pair<S> {
             (Op::Clock(_), 0) if reply.values[1] != 0 => "objects expired",
             (Op::Clock(_), 0) if reply.values[3] != 0 => "sets expired",
             (Op::Release { .. }, 0) if reply.values[3] != 0 => "objects released",
+            (Op::Release { client, ipid, .. }, 0) if self.kept_by_another(*client, *ipid) => {
+                "interfaces kept by another client"
+            }
+            (Op::DropClient(_), 0) if self.side.entries.objects.len() < objects => {
+                "objects dropped with a client"
+            }
             (Op::RemoveExporter(_), 0) => "exporters removed",
             (Op::ComplexPing { sequence, .. }, 0) if last.is_some_and(|n| *sequence < n) => {
                 "sequence numbers wrapped"

@@ -60,7 +60,14 @@ pub const INTERFACES: Kind = Kind {
         "iid_high",
         "object",
         "public",
-        "private",
+        "private_0",
+        "private_1",
+        "private_2",
+        "private_3",
+        "private_4",
+        "private_5",
+        "private_6",
+        "private_7",
     ],
 };
 
@@ -167,7 +174,7 @@ pub fn entries(words: &[u64], store: &[u8]) -> Entries {
         iid: guid(r[2], r[3]),
         object: r[4],
         public: r[5] as u32,
-        private: r[6] as u32,
+        private: std::array::from_fn(|client| r[6 + client] as u32),
     };
     let set = |r: &Vec<u64>| PingSet {
         number: r[0],
@@ -220,8 +227,8 @@ pub fn encode(e: &Entries, words: &mut [u64], store: &mut [u8]) {
     }
     for (i, x) in e.interfaces.iter().enumerate() {
         let ([low, high], [iid_low, iid_high]) = (halves(x.ipid), halves(x.iid));
-        let (public, private) = (x.public.into(), x.private.into());
-        let row = [low, high, iid_low, iid_high, x.object, public, private];
+        let mut row = vec![low, high, iid_low, iid_high, x.object, x.public.into()];
+        row.extend(x.private.map(u64::from));
         INTERFACES.put_row(words, i, &row);
     }
 }

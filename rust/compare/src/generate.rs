@@ -181,6 +181,14 @@ impl Pools {
         number.to_le_bytes()
     }
 
+    /// Mostly one of three clients; now and then another, or none.
+    fn client(&self, random: &mut Random) -> u32 {
+        if random.once_in(30) {
+            return random.pick(&[8, 9, 256, 1 << 31, u32::MAX]);
+        }
+        random.pick(&[0, 0, 1, 1, 7, 7, 2, 3, 4, 5, 6])
+    }
+
     fn oids(&self, random: &mut Random, live: &[u64]) -> Vec<u64> {
         if random.once_in(4000) {
             let id = self.oid(random);
@@ -298,15 +306,18 @@ impl Pools {
                 public: random.pick(&counts),
             },
             40..=47 => Op::Add {
+                client: self.client(random),
                 ipid: self.guid(random),
                 public: random.pick(&counts),
                 private: random.pick(&counts),
             },
             48..=57 if random.once_in(1 + self.calm / 4) => Op::Release {
+                client: self.client(random),
                 ipid: self.guid(random),
                 public: random.pick(&counts),
                 private: random.pick(&counts),
             },
+            58 if random.once_in(self.calm) => Op::DropClient(self.client(random)),
             48..=60 => Op::SimplePing(self.set(random, e)),
             61..=77 => {
                 let set = if random.once_in(4) {

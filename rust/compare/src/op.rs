@@ -28,15 +28,18 @@ pub enum Op {
         public: u32,
     },
     Add {
+        client: u32,
         ipid: Guid,
         public: u32,
         private: u32,
     },
     Release {
+        client: u32,
         ipid: Guid,
         public: u32,
         private: u32,
     },
+    DropClient(u32),
     SimplePing(u64),
     ComplexPing {
         set: u64,
@@ -172,15 +175,18 @@ impl Side {
                 public,
             } => e.enter_interface(oid, ipid, iid, public).map(none),
             Op::Add {
+                client,
                 ipid,
                 public,
                 private,
-            } => e.add(ipid, public, private).map(none),
+            } => e.add(client, ipid, public, private).map(none),
+            Op::DropClient(client) => e.drop_client(client).map(none),
             Op::Release {
+                client,
                 ipid,
                 public,
                 private,
-            } => e.release(ipid, public, private).map(|r| {
+            } => e.release(client, ipid, public, private).map(|r| {
                 let went = [r.interface_went, r.object_went].map(u64::from);
                 (
                     vec![r.public.into(), r.private.into(), went[0], went[1]],

@@ -56,15 +56,18 @@ impl Subject for Library {
                 .enter_interface(Oid(oid), guid(ipid), guid(iid), public)
                 .map(none),
             Op::Add {
+                client,
                 ipid,
                 public,
                 private,
-            } => table.add(guid(ipid), public, private).map(none),
+            } => table.add(client, guid(ipid), public, private).map(none),
+            Op::DropClient(client) => table.drop_client(client).map(none),
             Op::Release {
+                client,
                 ipid,
                 public,
                 private,
-            } => table.release(guid(ipid), public, private).map(|r| {
+            } => table.release(client, guid(ipid), public, private).map(|r| {
                 let went = [r.interface_went, r.object_went].map(u64::from);
                 (
                     vec![r.public.into(), r.private.into(), went[0], went[1]],
@@ -124,12 +127,13 @@ fn zeros(words: &mut [u64], store: &mut [u8], op: &Op) -> bool {
     unsafe {
         match *op {
             Op::Release {
+                client,
                 ipid,
                 public,
                 private,
             } => {
                 let [low, high] = halves(ipid);
-                let r = ffi::rimonakh_release(w, n, s, m, low, high, public, private);
+                let r = ffi::rimonakh_release(w, n, s, m, client, low, high, public, private);
                 [r.public, r.private, r.interfaces, r.objects] == [0; 4]
             }
             Op::ComplexPing {
@@ -208,15 +212,18 @@ impl Subject for Plain {
                 public,
             } => p::enter_interface(words, store, oid, guid(ipid), guid(iid), public).map(none),
             Op::Add {
+                client,
                 ipid,
                 public,
                 private,
-            } => p::add(words, store, guid(ipid), public, private).map(none),
+            } => p::add(words, store, client, guid(ipid), public, private).map(none),
+            Op::DropClient(client) => p::drop_client(words, store, client).map(none),
             Op::Release {
+                client,
                 ipid,
                 public,
                 private,
-            } => p::release(words, store, guid(ipid), public, private).map(|r| {
+            } => p::release(words, store, client, guid(ipid), public, private).map(|r| {
                 let went = [r.interface_went, r.object_went].map(u64::from);
                 (
                     vec![r.public.into(), r.private.into(), went[0], went[1]],

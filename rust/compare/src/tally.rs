@@ -9,12 +9,12 @@ pub struct Tally {
 }
 
 /// The numbers of documents 01 and 02.
-const NUMBERS: [u32; 22] = [
-    0, 1, 2, 3, 4, 5, 6, 7, 8, 9, 10, 11, 12, 13, 14, 15, 16, 17, 18, 19, 22, 24,
+const NUMBERS: [u32; 23] = [
+    0, 1, 2, 3, 4, 5, 6, 7, 8, 9, 10, 11, 12, 13, 14, 15, 16, 17, 18, 19, 20, 22, 24,
 ];
 
 /// What runs of calls have to reach.
-const EVENTS: [&str; 13] = [
+const EVENTS: [&str; 15] = [
     "exporters full",
     "objects or interfaces full at an object",
     "interfaces full",
@@ -22,6 +22,8 @@ const EVENTS: [&str; 13] = [
     "objects expired",
     "sets expired",
     "objects released",
+    "interfaces kept by another client",
+    "objects dropped with a client",
     "exporters removed",
     "sequence numbers wrapped",
     "members of a full table",

@@ -9,6 +9,7 @@ pub const EXPORTERS: usize = 16;
 pub const OBJECTS: usize = 128;
 pub const INTERFACES: usize = 256;
 pub const SETS: usize = 32;
+pub const CLIENTS: usize = 8;
 
 const NIL: Guid = [0; 16];
 
@@ -34,7 +35,24 @@ pub struct Interface {
     pub iid: Guid,
     pub object: u64,
     pub public: u32,
-    pub private: u32,
+    /// Of each client.
+    pub private: [u32; CLIENTS],
+}
+
+impl Interface {
+    fn is_held(&self) -> bool {
+        self.public != 0 || self.private != [0; CLIENTS]
+    }
+}
+
+/// The index of a client, or 20.
+fn client_index(client: u32) -> Result<usize, u32> {
+    let index = client as usize;
+    if index < CLIENTS {
+        Ok(index)
+    } else {
+        Err(20)
+    }
 }
 
 #[derive(Clone, Debug, PartialEq, Eq)]
@@ -137,10 +155,7 @@ impl Entries {
             && self.interfaces.iter().all(|i| oids.contains(&i.object))
             && self.objects.iter().all(|o| self.has_exporter(o.exporter))
             && self.objects.iter().all(|o| served.contains(&o.oid))
-            && self
-                .interfaces
-                .iter()
-                .all(|i| i.public != 0 || i.private != 0)
+            && self.interfaces.iter().all(Interface::is_held)
             && self
                 .sets
                 .iter()
@@ -240,7 +255,7 @@ impl Entries {
             iid,
             object,
             public,
-            private: 0,
+            private: [0; CLIENTS],
         });
     }
 
@@ -271,39 +286,55 @@ impl Entries {
         self.interfaces.iter_mut().find(|i| i.ipid == ipid).ok_or(6)
     }
 
-    pub fn add(&mut self, ipid: Guid, public: u32, private: u32) -> Result<(), u32> {
+    pub fn add(&mut self, client: u32, ipid: Guid, public: u32, private: u32) -> Result<(), u32> {
+        let client = client_index(client)?;
         let i = self.interface(ipid)?;
-        let sums = (i.public.checked_add(public), i.private.checked_add(private));
-        let (Some(public), Some(private)) = sums else {
-            return Err(8);
-        };
+        let public = i.public.checked_add(public).ok_or(8u32)?;
+        let private = i.private[client].checked_add(private).ok_or(8u32)?;
         i.public = public;
-        i.private = private;
+        i.private[client] = private;
         Ok(())
     }
 
-    pub fn release(&mut self, ipid: Guid, public: u32, private: u32) -> Result<Released, u32> {
+    pub fn release(
+        &mut self,
+        client: u32,
+        ipid: Guid,
+        public: u32,
+        private: u32,
+    ) -> Result<Released, u32> {
+        let client = client_index(client)?;
         let i = self.interface(ipid)?;
         let public = public.min(i.public);
-        let private = private.min(i.private);
+        let private = private.min(i.private[client]);
         i.public -= public;
-        i.private -= private;
-        let object = i.object;
-        let interface_went = i.public == 0 && i.private == 0;
-        let mut object_went = false;
-        if interface_went {
-            self.interfaces.retain(|i| i.ipid != ipid);
-            object_went = self.interfaces.iter().all(|i| i.object != object);
-        }
-        if object_went {
-            self.retain_objects(|o| o.oid != object);
-        }
+        i.private[client] -= private;
+        let before = self.census();
+        self.drop_unheld();
+        let after = self.census();
         Ok(Released {
             public,
             private,
-            interface_went,
-            object_went,
+            interface_went: after.interfaces < before.interfaces,
+            object_went: after.objects < before.objects,
         })
+    }
+
+    /// Takes every private reference of a client.
+    pub fn drop_client(&mut self, client: u32) -> Result<(), u32> {
+        let client = client_index(client)?;
+        for i in &mut self.interfaces {
+            i.private[client] = 0;
+        }
+        self.drop_unheld();
+        Ok(())
+    }
+
+    /// Interfaces without references go, then objects without interfaces.
+    fn drop_unheld(&mut self) {
+        self.interfaces.retain(Interface::is_held);
+        let served: HashSet<u64> = self.interfaces.iter().map(|i| i.object).collect();
+        self.retain_objects(|o| served.contains(&o.oid));
     }
 
     fn set(&mut self, number: u64) -> Result<&mut PingSet, u32> {

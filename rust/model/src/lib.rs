@@ -1,4 +1,4 @@
-//! Document 01 on plain vectors, written from the document alone: bytes (references, lists, headers), entries and calls.
+//! Documents 01 and 02 on plain vectors, written from the documents alone: bytes (references, lists, headers), entries and calls.
 //! A refusal is `Err` with its answer number.
 
 pub mod bytes;

@@ -8,6 +8,7 @@ pub const WORDS: usize = 8192;
 pub const BYTES: usize = 8192;
 const SLOT: usize = 512;
 const TIMEOUT: u64 = 360;
+const CLIENTS: usize = 8;
 
 const CLOCK: usize = 0;
 const NEXT_SET: usize = 1;
@@ -36,7 +37,7 @@ const INTERFACES: Kind = Kind {
     count: 4,
     base: 768,
     places: 256,
-    width: 7,
+    width: 6 + CLIENTS,
 };
 const SETS: Kind = Kind {
     count: 5,
@@ -59,8 +60,8 @@ const IPID_LOW: usize = 0;
 const IPID_HIGH: usize = 1;
 const OBJECT: usize = 4;
 const PUBLIC: usize = 5;
-const PRIVATE: usize = 6;
-// columns of sets
+const PRIVATE: usize = 6; // of client 0, then those of the others
+                          // columns of sets
 const SEQUENCE: usize = 1;
 const PINGED: usize = 2;
 const MEMBERS_LOW: usize = 3;
@@ -176,8 +177,6 @@ pub fn sound(words: &[u64], store: &[u8]) -> bool {
     let unknowns = guids(&EXPORTERS, UNKNOWN_LOW, UNKNOWN_HIGH);
     let ipids = guids(&INTERFACES, IPID_LOW, IPID_HIGH);
     let owners = INTERFACES.column(words, OBJECT);
-    let publics = INTERFACES.column(words, PUBLIC);
-    let privates = INTERFACES.column(words, PRIVATE);
     let marks = OBJECTS.column(words, NO_PING);
     let heard = OBJECTS.column(words, HEARD);
     let free = u128::MAX.checked_shl(oids.len() as u32).unwrap_or(0);
@@ -191,7 +190,7 @@ pub fn sound(words: &[u64], store: &[u8]) -> bool {
         && all_in(owners, &oids)
         && all_in(OBJECTS.column(words, EXPORTER), &oxids)
         && all_in(&oids, &sorted(owners.iter().copied()))
-        && (0..owners.len()).all(|i| publics[i] as u32 != 0 || privates[i] as u32 != 0)
+        && (0..owners.len()).all(|i| is_held(words, i))
         && (0..oids.len()).all(|o| heard[o] <= clock && (marks[o] != 0 || !late(heard[o])))
         && SETS
             .column(words, PINGED)
@@ -199,6 +198,11 @@ pub fn sound(words: &[u64], store: &[u8]) -> bool {
             .all(|&t| t <= clock && !late(t))
         && (0..numbers.len()).all(|s| members(words, s) & free == 0)
         && (0..oxids.len()).all(|x| judge_list(list_of(store, x)).is_ok())
+}
+
+/// Whether a reference to the interface is held; the public count is looked at first.
+fn is_held(words: &[u64], row: usize) -> bool {
+    (PUBLIC..PRIVATE + CLIENTS).any(|column| words[INTERFACES.at(column, row)] as u32 != 0)
 }
 
 fn judged(words: &[u64], store: &[u8]) -> Result<(), u32> {
@@ -327,15 +331,8 @@ pub fn enter_object(
 }
 
 fn push_interface(words: &mut [u64], oid: u64, ipid: Guid, iid: Guid, public: u32) {
-    let row = [
-        ipid.low,
-        ipid.high,
-        iid.low,
-        iid.high,
-        oid,
-        public as u64,
-        0,
-    ];
+    let mut row = [0; INTERFACES.width];
+    row[..6].copy_from_slice(&[ipid.low, ipid.high, iid.low, iid.high, oid, public as u64]);
     INTERFACES.push(words, &row);
 }
 
@@ -364,16 +361,27 @@ pub fn enter_interface(
     Ok(())
 }
 
+/// The column of a client's private counts, or 20.
+fn private_column(client: u32) -> Result<usize, u32> {
+    if client < CLIENTS as u32 {
+        Ok(PRIVATE + client as usize)
+    } else {
+        Err(20)
+    }
+}
+
 pub fn add(
     words: &mut [u64],
     store: &[u8],
+    client: u32,
     ipid: Guid,
     public: u32,
     private: u32,
 ) -> Result<(), u32> {
     judged(words, store)?;
+    let column = private_column(client)?;
     let row = find_ipid(words, ipid).ok_or(6u32)?;
-    let (p, q) = (INTERFACES.at(PUBLIC, row), INTERFACES.at(PRIVATE, row));
+    let (p, q) = (INTERFACES.at(PUBLIC, row), INTERFACES.at(column, row));
     let more_public = (words[p] as u32).checked_add(public).ok_or(8u32)?;
     let more_private = (words[q] as u32).checked_add(private).ok_or(8u32)?;
     words[p] = more_public as u64;
@@ -384,33 +392,50 @@ pub fn add(
 pub fn release(
     words: &mut [u64],
     store: &[u8],
+    client: u32,
     ipid: Guid,
     public: u32,
     private: u32,
 ) -> Result<Released, u32> {
     judged(words, store)?;
+    let column = private_column(client)?;
     let row = find_ipid(words, ipid).ok_or(6u32)?;
-    let (p, q) = (INTERFACES.at(PUBLIC, row), INTERFACES.at(PRIVATE, row));
+    let (p, q) = (INTERFACES.at(PUBLIC, row), INTERFACES.at(column, row));
     let public = public.min(words[p] as u32);
     let private = private.min(words[q] as u32);
     words[p] = (words[p] as u32 - public) as u64;
     words[q] = (words[q] as u32 - private) as u64;
-    let interface_went = words[p] == 0 && words[q] == 0;
-    let mut object_went = false;
-    if interface_went {
-        let object = words[INTERFACES.at(OBJECT, row)];
-        INTERFACES.remove(words, row);
-        object_went = !INTERFACES.column(words, OBJECT).contains(&object);
-        if object_went {
-            remove_objects(words, |w, o| w[OBJECTS.at(ID, o)] != object);
-        }
-    }
+    let interface_went = !is_held(words, row);
+    let object_went = interface_went && remove_interface(words, row);
     Ok(Released {
         public,
         private,
         interface_went,
         object_went,
     })
+}
+
+/// Removes an interface, and its object where that has no other; whether the object went.
+fn remove_interface(words: &mut [u64], row: usize) -> bool {
+    let object = words[INTERFACES.at(OBJECT, row)];
+    INTERFACES.remove(words, row);
+    let went = !INTERFACES.column(words, OBJECT).contains(&object);
+    if went {
+        remove_objects(words, |w, o| w[OBJECTS.at(ID, o)] != object);
+    }
+    went
+}
+
+pub fn drop_client(words: &mut [u64], store: &[u8], client: u32) -> Result<(), u32> {
+    judged(words, store)?;
+    let column = private_column(client)?;
+    for row in (0..INTERFACES.live(words)).rev() {
+        words[INTERFACES.at(column, row)] = 0;
+        if !is_held(words, row) {
+            remove_interface(words, row);
+        }
+    }
+    Ok(())
 }
 
 fn ping(words: &mut [u64], set: usize) {

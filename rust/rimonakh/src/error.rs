@@ -26,12 +26,13 @@ pub enum Error {
     Extensions = 17,
     SetsUsedUp = 18,
     LongList = 19,
+    NoClient = 20,
     NilIdentifier = 22,
     NoBinding = 24,
 }
 
 impl Error {
-    const ALL: [Error; 21] = [
+    const ALL: [Error; 22] = [
         Error::Unsound,
         Error::ClockBack,
         Error::BadIdentifier,
@@ -51,6 +52,7 @@ impl Error {
         Error::Extensions,
         Error::SetsUsedUp,
         Error::LongList,
+        Error::NoClient,
         Error::NilIdentifier,
         Error::NoBinding,
     ];
@@ -86,6 +88,7 @@ impl Error {
             Error::Extensions => "extensions present",
             Error::SetsUsedUp => "set numbers used up",
             Error::LongList => "a binding list of more than 512 bytes",
+            Error::NoClient => "the client is none of 0 to 7",
             Error::NilIdentifier => "the OXID, OID or IPID of a reference is zero",
             Error::NoBinding => "the list has no binding of this number",
         }

@@ -207,6 +207,7 @@ extern "C" {
         words_len: usize,
         store: *const u8,
         store_len: usize,
+        client: u32,
         ipid_low: u64,
         ipid_high: u64,
         public: u32,
@@ -217,11 +218,19 @@ extern "C" {
         words_len: usize,
         store: *const u8,
         store_len: usize,
+        client: u32,
         ipid_low: u64,
         ipid_high: u64,
         public: u32,
         private: u32,
     ) -> Released;
+    pub fn rimonakh_drop_client(
+        words: *mut u64,
+        words_len: usize,
+        store: *const u8,
+        store_len: usize,
+        client: u32,
+    ) -> u32;
     pub fn rimonakh_simple_ping(
         words: *mut u64,
         words_len: usize,

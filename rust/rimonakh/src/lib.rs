@@ -26,9 +26,9 @@
 //! let set = table.complex_ping(SetId(0), 1, &[reference.block.oid], &[])?.set;
 //! table.clock(1120)?;
 //! table.simple_ping(set)?;
-//! assert!(table.release(reference.block.ipid, 5, 0)?.object_went);
-//! assert_eq!(table.add(ipid, 1, 0), Err(Error::NoInterface));
-//! assert_eq!(wire_code(&table.add(ipid, 1, 0)), 0x800401FB);
+//! assert!(table.release(0, reference.block.ipid, 5, 0)?.object_went);
+//! assert_eq!(table.add(0, ipid, 1, 0), Err(Error::NoInterface));
+//! assert_eq!(wire_code(&table.add(0, ipid, 1, 0)), 0x800401FB);
 //! # Ok::<(), Error>(())
 //! ```
 

@@ -194,8 +194,8 @@ where
         answered(number, ())
     }
 
-    /// Adds to the counts of an interface.
-    pub fn add(&mut self, ipid: Guid, public: u32, private: u32) -> Result<()> {
+    /// Adds to the public count of an interface and to the private one of a client, 0 to 7.
+    pub fn add(&mut self, client: u32, ipid: Guid, public: u32, private: u32) -> Result<()> {
         let (words, store) = (self.words.as_mut(), self.store.as_ref());
         let (low, high) = ipid.halves();
         let number = unsafe {
@@ -204,6 +204,7 @@ where
                 words.len(),
                 store.as_ptr(),
                 store.len(),
+                client,
                 low,
                 high,
                 public,
@@ -213,8 +214,15 @@ where
         answered(number, ())
     }
 
-    /// Gives references back. An interface at zero and zero goes; an object without interfaces goes, from its sets too.
-    pub fn release(&mut self, ipid: Guid, public: u32, private: u32) -> Result<Released> {
+    /// Gives references back, private ones of a client. An interface without references goes; an object without interfaces
+    /// goes, from its sets too.
+    pub fn release(
+        &mut self,
+        client: u32,
+        ipid: Guid,
+        public: u32,
+        private: u32,
+    ) -> Result<Released> {
         let (words, store) = (self.words.as_mut(), self.store.as_ref());
         let (low, high) = ipid.halves();
         let r = unsafe {
@@ -223,6 +231,7 @@ where
                 words.len(),
                 store.as_ptr(),
                 store.len(),
+                client,
                 low,
                 high,
                 public,
@@ -236,6 +245,21 @@ where
             object_went: r.objects != 0,
         };
         answered(r.answer, released)
+    }
+
+    /// Drops every private reference of a client, 0 to 7. What is left without references goes as in a release.
+    pub fn drop_client(&mut self, client: u32) -> Result<()> {
+        let (words, store) = (self.words.as_mut(), self.store.as_ref());
+        let number = unsafe {
+            ffi::rimonakh_drop_client(
+                words.as_mut_ptr(),
+                words.len(),
+                store.as_ptr(),
+                store.len(),
+                client,
+            )
+        };
+        answered(number, ())
     }
 
     /// Pings a set: it and its members are heard.

@@ -1,53 +1,64 @@
--- `counting::add_step`: an interface that is not live is refused, then a sum that is too large; else the counts are stored.
-use Prim.Native.Nat.{ℕ, _+_, _^_, _<_, _≤_}
+-- `counting::add_step`: a client that is none is refused, an interface that is not live, then a sum that is too large; else the counts are stored.
+use Prim.Native.Nat.{ℕ, suc, _+_, _^_, _<_, _≤_}
 use mathlib.Core.Path.{_≡_, refl, sym, ap, _∙_}
 use mathlib.Core.Bool.{true, false}
 use mathlib.Core.List.{List, [], _∷_}
 use native.Mathlib.Omega.{arith}
 use borrow.Author.Tests.{le-leb, lt-leb}
-use lib.ListN.{length, getD}
+use lib.ListN.{length, getD, set}
 use Rattle.kinds.specs.Refusals.{order, _gives_}
 use Rattle.kinds.specs.declared.Guid.{Guid}
-use Rattle.rules.specs.Entries.{Interface, withCounts}
+use Rattle.rules.specs.Entries.{Interface, publicOf, privateOf, withInterfaces, atCounts}
 use Rattle.rules.specs.Calls.{Call}
 use Rattle.rules.specs.Sound.{sound}
 use Rattle.rules.specs.Rules.{noInterface, interfaceOf, passesCount, refusals, number, next, results, refused, done}
-use Rattle.rules.proofs.ByRow.{interfaceRow, interface-row, add-row}
+use Rattle.rules.proofs.ByRow.{interfaceRow, interfaceIn, interface-row, add-row}
 use Rattle.table.specs.View.{interfaceCount, interfacesOf, memory, view}
 use Rattle.table.specs.Found.{heldAt}
 use Rattle.table.specs.Edits.{changeInterface}
 use Rattle.table.specs.declared.find.Held.{Held}
 use Rattle.table.proofs.LiveRows.{interfaces-length}
 use Rattle.calls.proofs.Calls.{refused-step, accepted-step, row-gives, row-passes, gone-gives, live-passes, rows-end, two-rows, interface-tested}
+use Rattle.counting.proofs.Counts.{counts-as}
+use Rattle.counting.proofs.Releasing.{client-missing, client-here}
 use borrow.Author.Needs.{needs}
 use Rattle.counting.proofs.add_step.Statement.{statement}
 use Rattle.counting.proofs.add_step.Tie as tie
 
--- the row that was found, of as many as were counted, and what it holds
-module _ (ws s : List ℕ) (i : Guid) (p q : ℕ) {r n : ℕ} (found : r ≡ interfaceRow (view (memory ws s)) i) (counted : n ≡ interfaceCount ws) where
-  -- no interface
-  gone : n ≤ r → 6 ≡ number (Call.add i p q) (view (memory ws s))
-  unfolding number refusals
-  gone h = gone-gives (interface-tested ws s i found counted) _ _ refl h
+-- no such client
+no-client : (ws s : List ℕ) (c : ℕ) (i : Guid) (p q : ℕ) → 7 < c → 20 ≡ number (Call.add c i p q) (view (memory ws s))
+unfolding number refusals
+no-client ws s c i p q h = row-gives _ _ _ refl (client-missing c h)
 
-  module _ {h : Held} (held : h ≡ heldAt ws r) (live : r < n) where
+-- the client, the row that was found, of as many as were counted, and what it holds
+module _ (ws s : List ℕ) (c : ℕ) (i : Guid) (p q : ℕ) {r n : ℕ} (client : c ≤ 7) (found : r ≡ interfaceRow (view (memory ws s)) i) (counted : n ≡ interfaceCount ws) where
+  -- no interface
+  gone : n ≤ r → 6 ≡ number (Call.add c i p q) (view (memory ws s))
+  unfolding number refusals
+  gone h = gone-gives (interface-tested ws s i found counted) _ _ (row-passes _ _ _ refl (client-here c client)) h
+
+  module _ {h : Held} (held : h ≡ heldAt ws r c) (live : r < n) where
     -- the rows of the sums are left
-    sums : number (Call.add i p q) (view (memory ws s)) ≡ order (passesCount (h .public + p) gives 8 ∷ passesCount (h .private + q) gives 8 ∷ [])
+    sums : number (Call.add c i p q) (view (memory ws s)) ≡ order (passesCount (h .public + p) gives 8 ∷ passesCount (h .private + q) gives 8 ∷ [])
     unfolding number refusals
     sums =
-        live-passes (interface-tested ws s i found counted) _ _ refl live
-        ∙ two-rows (passesCount (interfaceOf (view (memory ws s)) i .public + p)) (passesCount (interfaceOf (view (memory ws s)) i .private + q)) 8 []
-        ∙ ap (λ (x : Interface). order (passesCount (x .public + p) gives 8 ∷ passesCount (x .private + q) gives 8 ∷ []))
+        live-passes (interface-tested ws s i found counted) _ _ (row-passes _ _ _ refl (client-here c client)) live
+        ∙ two-rows (passesCount (publicOf (interfaceOf (view (memory ws s)) i) + p)) (passesCount (privateOf c (interfaceOf (view (memory ws s)) i) + q)) 8 []
+        ∙ ap (λ (x : Interface). order (passesCount (publicOf x + p) gives 8 ∷ passesCount (privateOf c x + q) gives 8 ∷ []))
         (interface-row (view (memory ws s)) i ∙ ap (λ (k : ℕ). getD (interfacesOf ws) k noInterface) (sym found))
         ∙ ap (λ (x : Held). order (passesCount (x .public + p) gives 8 ∷ passesCount (x .private + q) gives 8 ∷ [])) (sym held)
 
     -- the sums in the row are the entries that the rules say
     added : sound (view (memory ws s)) ≡ true
-        → changeInterface r (withCounts (h .public + p) (h .private + q)) (view (memory ws s)) ≡ next (Call.add i p q) (view (memory ws s))
+        → changeInterface r (atCounts c (λ (m : ℕ). h .public + p) (λ (m : ℕ). h .private + q)) (view (memory ws s)) ≡ next (Call.add c i p q) (view (memory ws s))
     added t =
         let l = interfaces-length ws in
         let b : interfaceRow (view (memory ws s)) i < length (interfacesOf ws) = omega arith in
-        rw (held, found) (sym (add-row (view (memory ws s)) t i p q b))
+        let x : Interface = getD (interfacesOf ws) r noInterface in
+        let y : x ≡ interfaceIn (view (memory ws s)) i = ap (λ (k : ℕ). getD (interfacesOf ws) k noInterface) found in
+        let z = counts-as c (h .public + p) (h .private + q) x (λ (m : ℕ). m + p) (λ (m : ℕ). m + q) (ap (λ (k : Held). k .public + p) held) (ap (λ (k : Held). k .private + q) held) in
+        (λ u. withInterfaces (set (interfacesOf ws) (found u) ((z ∙ ap (atCounts c (λ (m : ℕ). m + p) (λ (m : ℕ). m + q)) y) u)) (view (memory ws s)))
+        ∙ sym (add-row (view (memory ws s)) t c i p q b)
 
 -- a count that passes 4,294,967,295, and one that does not
 passes-count : (n : ℕ) → 4294967295 < n → passesCount n ≡ true
@@ -56,25 +67,40 @@ passes-count n h = le-leb (2 ^ 32) n (omega arith)
 within-count : (n : ℕ) → n ≤ 4294967295 → passesCount n ≡ false
 within-count n h = lt-leb (2 ^ 32) n (omega arith)
 
-interface-row-requires : tie.Need-interface-row-requires
-interface-row-requires c κs = c .before .before .before .pre .words
-
-interface-count-requires : tie.Need-interface-count-requires
-interface-count-requires c κs = c .before .before .before .before .before .pre .words
-
-same-length : tie.Need-same-length
-same-length c = search needs
+-- the rows of the sums, where the interface was found
+sums-left : (c : tie.After-interface-held) → let a = c .before .before .before .before .before .before .before .before .before .before .args in let h = c .interface-held .result in
+    number (Call.add (a .client) (a .ipid) (a .public) (a .private)) (view (memory (a .words .now) (a .store .now)))
+    ≡ order (passesCount (h .public + a .public) gives 8 ∷ passesCount (h .private + a .private) gives 8 ∷ [])
+sums-left c =
+    let a = c .before .before .before .before .before .before .before .before .before .before .args in
+    sums (a .words .now) (a .store .now) (a .client) (a .ipid) (a .public) (a .private) (c .before .before .before .before .before .before .before .if1 .left) (c .before .before .before .before .before .interface-row .ensures (a .store .now)) (c .before .before .before .interface-count .ensures .0)
+    (c .interface-held .ensures) (c .before .before .if2 .left)
 
 returns : tie.Need-returns
 unfolding refused results
 returns c =
-    let a = c .before .before .before .before .before .before .before .args in
+    let a = c .before .before .before .args in
+    refused-step 20 (no-client (a .words .now) (a .store .now) (a .client) (a .ipid) (a .public) (a .private) (c .if1 .taken)) (λ z. omega arith)
+
+interface-row-requires : tie.Need-interface-row-requires
+interface-row-requires c κs = search needs
+
+interface-count-requires : tie.Need-interface-count-requires
+interface-count-requires c κs = search needs
+
+same-length : tie.Need-same-length
+same-length c = search needs
+
+returns-2 : tie.Need-returns-2
+unfolding refused results
+returns-2 c =
+    let a = c .before .before .before .before .before .before .before .before .args in
     refused-step 6
-    (gone (a .words .now) (a .store .now) (a .ipid) (a .public) (a .private) (c .before .before .before .interface-row .ensures (a .store .now)) (c .before .interface-count .ensures .0) (c .if1 .taken))
+    (gone (a .words .now) (a .store .now) (a .client) (a .ipid) (a .public) (a .private) (c .before .before .before .before .before .if1 .left) (c .before .before .before .interface-row .ensures (a .store .now)) (c .before .interface-count .ensures .0) (c .if2 .taken))
     (λ z. omega arith)
 
 interface-held-requires : tie.Need-interface-held-requires
-interface-held-requires c κs = (c .before .before .before .before .before .before .before .before .pre .words, omega arith)
+interface-held-requires c κs = search needs
 
 cast-more-public : tie.Need-cast-more-public
 cast-more-public c = search needs
@@ -88,33 +114,24 @@ cast-more-private c = search needs
 add-more-private : tie.Need-add-more-private
 add-more-private c = search needs
 
--- the rows of the sums, where the interface was found
-sums-left : (c : tie.After-interface-held) → let a = c .before .before .before .before .before .before .before .before .before .args in let h = c .interface-held .result in
-    number (Call.add (a .ipid) (a .public) (a .private)) (view (memory (a .words .now) (a .store .now)))
-    ≡ order (passesCount (h .public + a .public) gives 8 ∷ passesCount (h .private + a .private) gives 8 ∷ [])
-sums-left c =
-    let a = c .before .before .before .before .before .before .before .before .before .args in
-    sums (a .words .now) (a .store .now) (a .ipid) (a .public) (a .private) (c .before .before .before .before .before .interface-row .ensures (a .store .now)) (c .before .before .before .interface-count .ensures .0)
-    (c .interface-held .ensures) (c .before .before .if1 .left)
-
 same-length-2 : tie.Need-same-length-2
 same-length-2 c = search needs
-
-returns-2 : tie.Need-returns-2
-unfolding refused results
-returns-2 c =
-    refused-step 8
-    (row-gives _ _ _ (sums-left (c .before .before .before)) (passes-count _ (c .if2 .taken)))
-    (λ z. omega arith)
-
-same-length-3 : tie.Need-same-length-3
-same-length-3 c = search needs
 
 returns-3 : tie.Need-returns-3
 unfolding refused results
 returns-3 c =
     refused-step 8
-    (row-gives _ _ _ (row-passes _ _ _ (sums-left (c .before .before .before .before)) (within-count _ (c .before .if2 .left))) (passes-count _ (c .if3 .taken)))
+    (row-gives _ _ _ (sums-left (c .before .before .before)) (passes-count _ (c .if3 .taken)))
+    (λ z. omega arith)
+
+same-length-3 : tie.Need-same-length-3
+same-length-3 c = search needs
+
+returns-4 : tie.Need-returns-4
+unfolding refused results
+returns-4 c =
+    refused-step 8
+    (row-gives _ _ _ (row-passes _ _ _ (sums-left (c .before .before .before .before)) (within-count _ (c .before .if3 .left))) (passes-count _ (c .if4 .taken)))
     (λ z. omega arith)
 
 cast-set-counts : tie.Need-cast-set-counts
@@ -124,42 +141,43 @@ cast-set-counts-2 : tie.Need-cast-set-counts-2
 cast-set-counts-2 c = search needs
 
 set-counts-requires : tie.Need-set-counts-requires
-set-counts-requires c κs = (c .before .before .before .before .before .before .before .before .before .before .before .before .before .before .pre .words, omega arith)
+set-counts-requires c κs = search needs
 
 same-length-4 : tie.Need-same-length-4
 same-length-4 c = search needs
 
-returns-4 : tie.Need-returns-4
+returns-5 : tie.Need-returns-5
 unfolding done results
-returns-4 c =
-    let a = c .before .before .before .before .before .before .before .before .before .before .before .before .before .before .before .before .before .args in
-    let t = c .before .before .before .before .before .before .before .before .before .before .before .before .before .before .before .before .before .pre in
+returns-5 c =
+    let a = c .before .before .before .before .before .before .before .before .before .before .before .before .before .before .before .before .before .before .args in
+    let t = c .before .before .before .before .before .before .before .before .before .before .before .before .before .before .before .before .before .before .pre in
     accepted-step 0
-    (rows-end (row-passes _ _ _ (row-passes _ _ _ (sums-left (c .before .before .before .before .before .before .before .before)) (within-count _ (c .before .before .before .before .before .if2 .left))) (within-count _ (c .before .before .before .before .if3 .left))))
+    (rows-end (row-passes _ _ _ (row-passes _ _ _ (sums-left (c .before .before .before .before .before .before .before .before)) (within-count _ (c .before .before .before .before .before .if3 .left))) (within-count _ (c .before .before .before .before .if4 .left))))
     refl _
     (c .before .before .set-counts .ensures (a .store .now)
-    ∙ added (a .words .now) (a .store .now) (a .ipid) (a .public) (a .private) (c .before .before .before .before .before .before .before .before .before .before .before .before .before .interface-row .ensures (a .store .now)) (c .before .before .before .before .before .before .before .before .before .before .before .interface-count .ensures .0)
-    (c .before .before .before .before .before .before .before .before .interface-held .ensures) (c .before .before .before .before .before .before .before .before .before .before .if1 .left) (t .entries))
+    ∙ added (a .words .now) (a .store .now) (a .client) (a .ipid) (a .public) (a .private) (c .before .before .before .before .before .before .before .before .before .before .before .before .before .before .before .if1 .left) (c .before .before .before .before .before .before .before .before .before .before .before .before .before .interface-row .ensures (a .store .now)) (c .before .before .before .before .before .before .before .before .before .before .before .interface-count .ensures .0)
+    (c .before .before .before .before .before .before .before .before .interface-held .ensures) (c .before .before .before .before .before .before .before .before .before .before .if2 .left) (t .entries))
 
 pub add-step-spec : {M : Type 1} → statement M
 add-step-spec =
     tie.close
     (tie.spec
+    returns
     interface-row-requires
     interface-count-requires
     same-length
-    returns
+    returns-2
     interface-held-requires
     cast-more-public
     add-more-public
     cast-more-private
     add-more-private
     same-length-2
-    returns-2
-    same-length-3
     returns-3
+    same-length-3
+    returns-4
     cast-set-counts
     cast-set-counts-2
     set-counts-requires
     same-length-4
-    returns-4)
+    returns-5)

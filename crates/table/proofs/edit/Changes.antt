@@ -3,7 +3,7 @@ use Prim.Native.Nat.{ℕ, _+_, _%_, _^_, _<_}
 use mathlib.Core.Path.{_≡_, refl, ap, _∙_}
 use mathlib.Core.List.{List, [], _∷_, map}
 use native.Mathlib.Omega.{arith}
-use lib.ListN.{length, getD, set}
+use lib.ListN.{length, getD, set, replicate}
 use lib.Seq.{map-set-same, getD-set-same}
 use Rattle.kinds.specs.declared.Guid.{Guid}
 use Rattle.lists.specs.Lists.{tabulate}
@@ -12,8 +12,8 @@ use Rattle.columns.specs.Members.{memberRows}
 use Rattle.columns.specs.declared.members.Members.{Members}
 use Rattle.columns.proofs.members.Bits.{members-none}
 use Rattle.columns.proofs.members.Making.{zero-member}
-use Rattle.rules.specs.Entries.{withNext, Object, Interface, PingSet, heardAt, withCounts, pingedAt, withSequence, withMembers}
-use Rattle.rules.specs.Rules.{makeSet, noObject, noInterface, noSet}
+use Rattle.rules.specs.Entries.{withNext, Object, Interface, PingSet, heardAt, pingedAt, withSequence, withMembers}
+use Rattle.rules.specs.Rules.{enteredCounts, makeSet, noObject, noInterface, noSet}
 use Rattle.table.specs.View.{objectKind, interfaceKind, setKind, objectCount, interfaceCount, setCount, asObject, asInterface, asSet, objectsOf, interfacesOf, setsOf}
 use Rattle.rules.specs.PingRows.{changeSet}
 use Rattle.table.specs.Edits.{Only, Pushed, Pulled, Became, addInterface, addSet, dropInterface, dropSet, changeObject, changeInterface}
@@ -30,8 +30,8 @@ module _ (ws ws′ : List ℕ) where
 
   -- an interface by its fields
   pub interface-entered : (n : ℕ) (ipid iid : Guid) (oid p : ℕ) → p < 2 ^ 32 → n ≡ interfaceCount ws → n < 256
-      → Pushed interfaceKind 4 n (ipid .low ∷ ipid .high ∷ iid .low ∷ iid .high ∷ oid ∷ p ∷ 0 ∷ []) ws ws′
-      → Became (addInterface (record { ipid = ipid; iid = iid; object = oid; public = p; private = 0 })) ws ws′
+      → Pushed interfaceKind 4 n (ipid .low ∷ ipid .high ∷ iid .low ∷ iid .high ∷ oid ∷ p ∷ replicate 8 0) ws ws′
+      → Became (addInterface (record { ipid = ipid; iid = iid; object = oid; counts = enteredCounts p })) ws ws′
   interface-entered n ipid iid oid p h e b q =
       let m : p % 2 ^ 32 ≡ p = omega arith in
       rw m at (interface-pushed n _ e b q)
@@ -118,14 +118,3 @@ module _ (ws : List ℕ) (i : ℕ) (size : length ws ≡ 8192) where
       set-changed ws (set (set ws (160 + i) (m .low)) (192 + i) (m .high)) (withMembers (map (λ j. getD (oidsOf ws) j 0) (memberRows m))) i _
       (only-stored-two setKind 5 ws i 3 (m .low) 4 (m .high) (omega arith) (omega arith) (omega arith)) h
       (live-stored-two setKind 5 ws i 3 (m .low) 4 (m .high) (omega arith) h (omega arith) (omega arith) (omega arith)) refl
-
-  -- the counts of an interface
-  pub counts-stored : (p q : ℕ) → p < 2 ^ 32 → q < 2 ^ 32 → i < interfaceCount ws
-      → Became (changeInterface i (withCounts p q)) ws (set (set ws (2048 + i) p) (2304 + i) q)
-  unfolding rowAt tabulate
-  counts-stored p q b d h =
-      let e : p % 2 ^ 32 ≡ p = omega arith in
-      let f : q % 2 ^ 32 ≡ q = omega arith in
-      interface-changed ws (set (set ws (2048 + i) p) (2304 + i) q) (withCounts p q) i _
-      (only-stored-two interfaceKind 4 ws i 5 p 6 q (omega arith) (omega arith) (omega arith)) h
-      (live-stored-two interfaceKind 4 ws i 5 p 6 q (omega arith) h (omega arith) (omega arith) (omega arith)) (rw (e, f))

@@ -1,6 +1,6 @@
 -- Laws of the checks of live rows: what a clause says of all entries of a kind, by the index of the row.
 use Prim.Native.Nat.{ℕ, _+_, _<_, _≤_}
-use mathlib.Core.Path.{_≡_, sym, ap, _∙_}
+use mathlib.Core.Path.{_≡_, refl, sym, ap, _∙_}
 use mathlib.Core.Bool.{Bool, true, false, not, _&&_}
 use mathlib.Core.List.{List, _++_, map}
 use mathlib.Core.Logic.{⊎-elim}
@@ -16,16 +16,16 @@ use Rattle.columns.specs.Rows.{rowAt, rows}
 use Rattle.columns.specs.Members.{memberRows}
 use Rattle.columns.specs.declared.rows.Kind.{Kind}
 use Rattle.lists.proofs.Tests.{below-or-not, and-intro, and-left}
-use Rattle.lists.proofs.Lists.{every-at, every-map, every-ext, map-tabulate, tabulate-ext, none-some}
+use Rattle.lists.proofs.Lists.{every-at, every-map, every-ext, map-tabulate, tabulate-ext, tabulate-getD, none-some}
 use Rattle.lists.proofs.Distinct.{eqb-decides, same-comm, some-same}
 use Rattle.columns.proofs.Loops.{table-step, table-end, every-passes, every-fails, every-end}
 use Rattle.columns.proofs.rows.Laws.{rowAt-getD, length-rows}
 use Rattle.rules.specs.Entries.{Exporter, Object, oids}
-use Rattle.rules.specs.Rules.{noExporter}
-use Rattle.table.proofs.LiveRows.{exporters-length, exporter-at}
-use Rattle.rules.specs.Sound.{heardRecently, interfacesHeld, membersLive, listsKept}
-use Rattle.table.specs.Clauses.{recent, heldWords}
-use Rattle.table.specs.View.{exporterKind, objectKind, interfaceKind, setKind, exporterCount, objectCount, interfaceCount, setCount, slot, listAt, asExporter, asObject, asInterface, asSet, exportersOf, objectsOf, interfacesOf, setsOf, memory, view}
+use Rattle.rules.specs.Rules.{noExporter, noInterface}
+use Rattle.table.proofs.LiveRows.{exporters-length, interfaces-length, exporter-at}
+use Rattle.rules.specs.Sound.{held, heardRecently, interfacesHeld, membersLive, listsKept}
+use Rattle.table.specs.Clauses.{recent}
+use Rattle.table.specs.View.{exporterKind, objectKind, setKind, exporterCount, objectCount, interfaceCount, setCount, slot, listAt, asExporter, asObject, asSet, exportersOf, objectsOf, interfacesOf, setsOf, memory, view}
 
 -- every index below n passes
 abbrev pub everyRow : ℕ → (ℕ → Bool) → Bool
@@ -79,16 +79,15 @@ recent-rows ws s n e =
 
 -- ---- interfaces
 
--- the interface of row i has a nonzero count
+-- the interface of row i is held
 abbrev pub heldRow : List ℕ → ℕ → Bool
-heldRow ws i = heldWords (getD ws (2048 + i) 0) (getD ws (2304 + i) 0)
+heldRow ws i = held (getD (interfacesOf ws) i noInterface)
 
 -- every interface is held where every row is
 pub held-rows : (ws s : List ℕ) (n : ℕ) → n ≡ interfaceCount ws → everyRow n (heldRow ws) ≡ interfacesHeld (view (memory ws s))
-unfolding interfacesOf
 held-rows ws s n e =
-    rows-checked _ (heldRow ws) interfaceKind ws asInterface n (interfaceCount ws) e
-    (λ i. rw (rowAt-getD interfaceKind ws i 5 (omega arith), rowAt-getD interfaceKind ws i 6 (omega arith)))
+    table-checked held (heldRow ws) (λ i. getD (interfacesOf ws) i noInterface) n (length (interfacesOf ws)) (e ∙ sym (interfaces-length ws)) (λ i l. refl)
+    ∙ ap (every held) (tabulate-getD (interfacesOf ws) noInterface)
 
 -- ---- sets
 

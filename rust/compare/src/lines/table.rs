@@ -11,7 +11,7 @@
 //!                             leave the table sound
 //!     N words bytes CALL      a call that is lent the first so many words and bytes
 //!     J  R time  C  M set  X oxid unknown list  D oxid  O oid oxid ipid iid public no-ping  I oid ipid iid public
-//!     A ipid public private  L ipid public private  S set  Q set sequence n adds.. m deletes..  K time  V oxid room  T reference
+//!     A client ipid public private  L client ipid public private  Y client (its drop)  S set  Q set sequence n adds.. m deletes..  K time  V oxid room  T reference
 //!     Z set sequence oid n m  a complex ping with n times the oid on its list of adds and m times on that of deletes
 //!
 //! J is whether the table is sound. A GUID is its two halves; lists and references are in hex. After an answer stands " kept"
@@ -67,8 +67,9 @@ const ANSWERS: Answers = &[
     (b'D', &[0, 1, 4]),
     (b'O', &[0, 1, 3, 4, 7, 9]),
     (b'I', &[0, 1, 3, 5, 7, 9]),
-    (b'A', &[0, 1, 6, 8]),
-    (b'L', &[0, 1, 6]),
+    (b'A', &[0, 1, 20, 6, 8]),
+    (b'L', &[0, 1, 20, 6]),
+    (b'Y', &[0, 1, 20]),
     (b'S', &[0, 1, 11]),
     (b'Q', &[0, 1, 10, 11, 12, 5, 9, 18]),
     (b'K', &[0, 1, 2]),
@@ -147,7 +148,7 @@ fn small() -> Entries {
         iid,
         object,
         public,
-        private,
+        private: [private, 0, 0, 0, 0, 0, 0, 0],
     };
     let set = |number, sequence, pinged, members: &[u64]| PingSet {
         number,
@@ -265,11 +266,14 @@ fn called<S: Stops>(
             public: a.narrow(),
         },
         b'A' => Op::Add {
+            client: a.narrow(),
             ipid: a.guid(),
             public: a.narrow(),
             private: a.narrow(),
         },
+        b'Y' => Op::DropClient(a.narrow()),
         b'L' => Op::Release {
+            client: a.narrow(),
             ipid: a.guid(),
             public: a.narrow(),
             private: a.narrow(),

@@ -1,66 +1,49 @@
--- `find::interface_held`: the words of the interface's row.
+-- `find::interface_held`: the object and two counts of the interface's row.
+use Prim.Native.Nat.{ℕ}
+use mathlib.Core.Path.{sym, ap, _∙_}
 use native.Mathlib.Omega.{arith}
+use native.Mathlib.Numerals.{add-one}
+use lib.ListN.{getD}
 use Rattle.columns.proofs.rows.Laws.{rowAt-getD}
+use Rattle.rules.specs.Entries.{Interface, countOf}
 use Rattle.rules.specs.Rules.{noInterface}
-use Rattle.table.specs.View.{interfaceKind}
+use Rattle.table.specs.View.{interfaceKind, interfacesOf}
 use Rattle.table.proofs.LiveRows.{interface-at}
 use borrow.Author.Needs.{needs}
 use Rattle.table.proofs.find.interface_held.Statement.{statement}
 use Rattle.table.proofs.find.interface_held.Tie as tie
 
-add-t3 : tie.Need-add-t3
-add-t3 c = search needs
+add-t4 : tie.Need-add-t4
+add-t4 c = search needs
 
-mul-t4 : tie.Need-mul-t4
-mul-t4 c = search needs
+mul-t5 : tie.Need-mul-t5
+mul-t5 c = search needs
 
-shared-slice-read-t6 : tie.Need-shared-slice-read-t6
-shared-slice-read-t6 c = search needs
+shared-slice-read-t7 : tie.Need-shared-slice-read-t7
+shared-slice-read-t7 c = search needs
 
-add-t7 : tie.Need-add-t7
-add-t7 c = search needs
+count-requires : tie.Need-count-requires
+count-requires c κs = search needs
 
-mul-t8 : tie.Need-mul-t8
-mul-t8 c = search needs
+add-count : tie.Need-add-count
+add-count c = search needs
 
-shared-slice-read-t10 : tie.Need-shared-slice-read-t10
-shared-slice-read-t10 c = search needs
-
-cast-t12 : tie.Need-cast-t12
-cast-t12 c = search needs
-
-add-t13 : tie.Need-add-t13
-add-t13 c = search needs
-
-mul-t14 : tie.Need-mul-t14
-mul-t14 c = search needs
-
-shared-slice-read-t16 : tie.Need-shared-slice-read-t16
-shared-slice-read-t16 c = search needs
-
-cast-t18 : tie.Need-cast-t18
-cast-t18 c = search needs
+count-requires-2 : tie.Need-count-requires-2
+count-requires-2 c κs = search needs
 
 returns : tie.Need-returns
 returns c =
-    let start = c .before .before .before in
-    let ws = start .args .words .now in
-    let i = start .args .i in
-    rw (interface-at ws i noInterface (start .pre .1), rowAt-getD interfaceKind ws i 4 (omega arith), rowAt-getD interfaceKind ws i 5 (omega arith), rowAt-getD interfaceKind ws i 6 (omega arith))
+    let s = c .before .before .before .before in
+    let ws = s .args .words .now in
+    let i = s .args .i in
+    λ u.
+    record {
+      object = sym (ap (λ (r : Interface). r .object) (interface-at ws i noInterface (s .pre .1)) ∙ rowAt-getD interfaceKind ws i 4 (omega arith)) u;
+      public = c .before .count .ensures u;
+      private = (c .count2 .ensures ∙ ap (λ (k : ℕ). countOf k (getD (interfacesOf ws) i noInterface)) (add-one (s .args .client))) u;
+    }
 
 pub interface-held-spec : {M : Type 1} → statement M
 interface-held-spec =
     tie.close
-    (tie.spec
-    add-t3
-    mul-t4
-    shared-slice-read-t6
-    add-t7
-    mul-t8
-    shared-slice-read-t10
-    cast-t12
-    add-t13
-    mul-t14
-    shared-slice-read-t16
-    cast-t18
-    returns)
+    (tie.spec add-t4 mul-t5 shared-slice-read-t7 count-requires add-count count-requires-2 returns)

@@ -1,13 +1,15 @@
 -- `judge::interfaces_held`: the rows from i on pass where all rows do.
 use Prim.Native.Nat.{_≤_, _-_}
 use mathlib.Core.Path.{_≡_, refl, _∙_}
+use native.Mathlib.Omega.{arith}
 use borrow.Author.Needs.{needs}
+use Rattle.table.specs.View.{interfaceCount}
 use Rattle.table.proofs.judge.Checks.{everyRow, everyFrom, row-passes, row-fails, rows-done, heldRow, held-rows}
 use Rattle.table.proofs.judge.interfaces_held.Statement.{statement}
 use Rattle.table.proofs.judge.interfaces_held.Tie as tie
 
 abbrev Inv-loop : tie.InvT-loop
-Inv-loop words n i₀ i = (n ≤ 256) × (everyRow n (heldRow words) ≡ everyFrom i n (heldRow words))
+Inv-loop words n i₀ i = (n ≤ interfaceCount words) × (everyRow n (heldRow words) ≡ everyFrom i n (heldRow words))
 
 abbrev μ-loop : tie.MeasureT-loop
 μ-loop words n i₀ i = n - i
@@ -16,35 +18,17 @@ interface-count-requires : tie.Need-interface-count-requires Inv-loop μ-loop
 interface-count-requires c κs = search needs
 
 loop-holds : tie.Need-loop-holds Inv-loop μ-loop
-loop-holds c = (search needs, refl)
-
-add-is-held : tie.Need-add-is-held Inv-loop μ-loop
-add-is-held c = search needs
-
-mul-is-held : tie.Need-mul-is-held Inv-loop μ-loop
-mul-is-held c = search needs
-
-shared-slice-read-is-held : tie.Need-shared-slice-read-is-held Inv-loop μ-loop
-shared-slice-read-is-held c = search needs
-
-add-is-held-2 : tie.Need-add-is-held-2 Inv-loop μ-loop
-add-is-held-2 c = search needs
-
-mul-is-held-2 : tie.Need-mul-is-held-2 Inv-loop μ-loop
-mul-is-held-2 c = search needs
-
-shared-slice-read-is-held-2 : tie.Need-shared-slice-read-is-held-2 Inv-loop μ-loop
-shared-slice-read-is-held-2 c = search needs
+loop-holds c = let e = c .interface-count .ensures .0 in (omega arith, refl)
 
 is-held-requires : tie.Need-is-held-requires Inv-loop μ-loop
-is-held-requires c κs = search needs
+is-held-requires c κs = let l = c .before .loop .inv .0 in (search needs, omega arith)
 
 returns : tie.Need-returns Inv-loop μ-loop
 returns c =
-    let l = c .before .before .before .before .before .loop in
+    let l = c .before .before .before .loop in
     λ s.
     row-fails _ _ (l .i) (l .inv .1) (search needs) (c .before .is-held .ensures) (c .if1 .taken)
-    ∙ held-rows (c .before .before .before .before .before .before .before .before .args .words .now) s _ (c .before .before .before .before .before .before .interface-count .ensures .0)
+    ∙ held-rows (c .before .before .before .before .before .before .args .words .now) s _ (c .before .before .before .before .interface-count .ensures .0)
 
 add-i : tie.Need-add-i Inv-loop μ-loop
 add-i c = search needs
@@ -54,8 +38,8 @@ loop-less c = search needs
 
 loop-again : tie.Need-loop-again Inv-loop μ-loop
 loop-again c =
-    let l = c .before .before .before .before .before .loop in
-    (search needs, row-passes _ _ (l .i) (l .inv .1) (search needs) (c .before .is-held .ensures) (c .if1 .left))
+    let l = c .before .before .before .loop in
+    (l .inv .0, row-passes _ _ (l .i) (l .inv .1) (search needs) (c .before .is-held .ensures) (c .if1 .left))
 
 returns-2 : tie.Need-returns-2 Inv-loop μ-loop
 returns-2 c =
@@ -67,20 +51,4 @@ returns-2 c =
 pub interfaces-held-spec : {M : Type 1} → statement M
 interfaces-held-spec =
     tie.close
-    (tie.spec
-    Inv-loop
-    μ-loop
-    interface-count-requires
-    loop-holds
-    add-is-held
-    mul-is-held
-    shared-slice-read-is-held
-    add-is-held-2
-    mul-is-held-2
-    shared-slice-read-is-held-2
-    is-held-requires
-    returns
-    add-i
-    loop-less
-    loop-again
-    returns-2)
+    (tie.spec Inv-loop μ-loop interface-count-requires loop-holds is-held-requires returns add-i loop-less loop-again returns-2)

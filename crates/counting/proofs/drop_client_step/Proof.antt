@@ -1,0 +1,73 @@
+-- `counting::drop_client_step`: a client that is none is refused; else its counts are cleared, and what has no reference then goes.
+use mathlib.Core.Path.{_≡_, refl, sym, ap, _∙_}
+use mathlib.Core.List.{List}
+use native.Mathlib.Omega.{arith}
+use Prim.Native.Nat.{ℕ, _<_, _≤_}
+use Rattle.rules.specs.Entries.{Entries, oids}
+use Rattle.rules.specs.Calls.{Call}
+use Rattle.rules.specs.Sound.{proper, membersLive}
+use Rattle.rules.specs.Rules.{refusals, number, results, refused, done}
+use Rattle.rules.proofs.SoundLaws.{sound-fields}
+use Rattle.table.specs.View.{memory, view}
+use Rattle.settling.specs.Leaving.{settled, cleared, heldLeft}
+use Rattle.settling.specs.declared.Leaving.the-variants.{Unserved}
+use Rattle.settling.proofs.Settling.{asked}
+use Rattle.settling.proofs.Clearing.{drop-steps}
+use Rattle.calls.proofs.Calls.{refused-step, accepted-step, row-gives, row-passes, rows-end}
+use Rattle.counting.proofs.Releasing.{client-missing, client-here}
+use borrow.Author.Needs.{needs}
+use Rattle.counting.proofs.drop_client_step.Statement.{statement}
+use Rattle.counting.proofs.drop_client_step.Tie as tie
+
+module _ (e : Entries) (c : ℕ) where
+  missing : 7 < c → 20 ≡ number (Call.dropClient c) e
+  unfolding number refusals
+  missing h = row-gives _ _ _ refl (client-missing c h)
+
+  here : c ≤ 7 → 0 ≡ number (Call.dropClient c) e
+  unfolding number refusals
+  here h = rows-end (row-passes _ _ _ refl (client-here c h))
+
+returns : tie.Need-returns
+unfolding refused results
+returns c =
+    let a = c .before .before .before .args in
+    refused-step 20 (missing (view (memory (a .words .now) (a .store .now))) (a .client) (c .if1 .taken)) (λ z. omega arith)
+
+clear-counts-requires : tie.Need-clear-counts-requires
+clear-counts-requires c κs = search needs
+
+drop-unheld-requires : tie.Need-drop-unheld-requires
+drop-unheld-requires c κs = search needs
+
+settle-requires : tie.Need-settle-requires
+settle-requires c κs =
+    let f = sound-fields _ (c .before .before .before .before .before .before .before .before .before .before .before .before .pre .entries) in
+    let s = c .before .before .before .before .before .before .before .before .before .before .before .before .args .store .now in
+    let e = c .before .before .before .drop-unheld .ensures s ∙ ap heldLeft (c .before .before .before .before .before .before .before .clear-counts .ensures s) in
+    let a = asked _ s (ap (λ (x : Entries). proper (oids x)) e ∙ f .objectsProper) (ap membersLive e ∙ f .membersNamed) in
+    (search needs, a .0, a .1)
+
+same-length : tie.Need-same-length
+same-length c = search needs
+
+returns-2 : tie.Need-returns-2
+unfolding done results
+returns-2 c =
+    let a = c .before .before .before .before .before .before .before .before .before .before .before .before .before .before .before .args in
+    let e : Entries = view (memory (a .words .now) (a .store .now)) in
+    accepted-step 0 (here e (a .client) (c .before .before .before .before .before .before .before .before .before .before .before .before .if1 .left)) refl _
+    (c .before .before .settle .ensures (a .store .now)
+    ∙ ap (settled Unserved) (c .before .before .before .before .before .before .drop-unheld .ensures (a .store .now) ∙ ap heldLeft (c .before .before .before .before .before .before .before .before .before .before .clear-counts .ensures (a .store .now)))
+    ∙ sym (drop-steps (a .client) e))
+
+pub drop-client-step-spec : {M : Type 1} → statement M
+drop-client-step-spec =
+    tie.close
+    (tie.spec
+    returns
+    clear-counts-requires
+    drop-unheld-requires
+    settle-requires
+    same-length
+    returns-2)

@@ -1,0 +1,42 @@
+-- `counting::set_counts`: one count is stored after the other.
+use mathlib.Core.Path.{sym, ap, _∙_}
+use native.Mathlib.Omega.{arith}
+use native.Mathlib.Numerals.{add-one}
+use Rattle.rules.specs.Entries.{Entries, withCount}
+use Rattle.table.specs.View.{memory, view}
+use Rattle.table.specs.Edits.{changeInterface}
+use Rattle.table.proofs.LiveRows.{interfaces-length}
+use Rattle.counting.proofs.Counts.{both-counts, still-counted}
+use borrow.Author.Needs.{needs}
+use Rattle.counting.proofs.set_counts.Statement.{statement}
+use Rattle.counting.proofs.set_counts.Tie as tie
+
+set-count-requires : tie.Need-set-count-requires
+set-count-requires c κs = search needs
+
+add-set-count : tie.Need-add-set-count
+add-set-count c = search needs
+
+set-count-requires-2 : tie.Need-set-count-requires-2
+set-count-requires-2 c κs =
+    let start = c .before .before .before .before .before .before in
+    let n = still-counted (start .args .words .now) _ (start .args .i) (withCount 0 (start .args .public)) (c .before .before .before .set-count .ensures) in
+    let b = start .pre .1 in
+    (search needs, omega arith, omega arith)
+
+same-length : tie.Need-same-length
+same-length c = search needs
+
+returns : tie.Need-returns
+returns c s =
+    let start = c .before .before .before .before .before .before .before .before .before in
+    let e : Entries = view (memory (start .args .words .now) s) in
+    let n = interfaces-length (start .args .words .now) in
+    let b = start .pre .1 in
+    rw (add-one (start .args .client)) at (c .before .before .set-count2 .ensures s)
+    ∙ ap (changeInterface (start .args .i) (withCount _ (start .args .private))) (c .before .before .before .before .before .before .set-count .ensures s)
+    ∙ both-counts e (start .args .i) (start .args .client) (start .args .public) (start .args .private) (omega arith)
+
+pub set-counts-spec : {M : Type 1} → statement M
+set-counts-spec =
+    tie.close (tie.spec set-count-requires add-set-count set-count-requires-2 same-length returns)

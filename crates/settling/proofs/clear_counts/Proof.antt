@@ -1,0 +1,79 @@
+-- `settling::clear_counts`: the interfaces from i on are cleared, and all cleared is the same.
+use Prim.Native.Nat.{ℕ, suc}
+use mathlib.Core.Path.{_≡_, sym, ap, _∙_}
+use mathlib.Core.List.{List}
+use native.Mathlib.Omega.{arith}
+use native.Mathlib.Numerals.{add-one}
+use lib.ListN.{length}
+use borrow.Author.Needs.{needs}
+use Rattle.rules.specs.Entries.{Entries, withCount}
+use Rattle.rules.specs.Rules.{noInterface}
+use Rattle.table.specs.View.{memory, view}
+use Rattle.table.specs.Edits.{changeInterface}
+use Rattle.table.proofs.LiveRows.{interfaces-length}
+use Rattle.settling.specs.Leaving.{cleared}
+use Rattle.settling.proofs.Going.{Clearing, noneOf, going-none, clearing-row, clearing-all}
+use Rattle.settling.proofs.clear_counts.Statement.{statement}
+use Rattle.settling.proofs.clear_counts.Tie as tie
+
+abbrev Inv-loop : tie.InvT-loop
+Inv-loop words₀ client i₀ words i = (length words ≡ 8192) × ((s : List ℕ) → Clearing client (view (memory words₀ s)) i (view (memory words s)))
+
+abbrev μ-loop : tie.MeasureT-loop
+μ-loop words₀ client i₀ words i = i
+
+interface-count-requires : tie.Need-interface-count-requires Inv-loop μ-loop
+interface-count-requires c κs = search needs
+
+loop-holds : tie.Need-loop-holds Inv-loop μ-loop
+loop-holds c =
+    let start = c .before .before .before in
+    let ws = start .args .words .now in
+    (search needs, λ s. going-none (λ e. e .interfaces) (λ e. noneOf (start .args .client)) (cleared (start .args .client)) noInterface (view (memory ws s)) _ (c .interface-count .ensures .0 ∙ sym (interfaces-length ws)))
+
+sub-i : tie.Need-sub-i Inv-loop μ-loop
+sub-i c = omega arith
+
+add-set-count : tie.Need-add-set-count Inv-loop μ-loop
+add-set-count c = search needs
+
+set-count-requires : tie.Need-set-count-requires Inv-loop μ-loop
+set-count-requires c κs =
+    let l = c .before .before .loop in
+    let n = interfaces-length (l .words) in
+    let g = l .inv .1 (l .words) .within in
+    (l .inv .0, omega arith, omega arith)
+
+loop-less : tie.Need-loop-less Inv-loop μ-loop
+loop-less c = omega arith
+
+loop-again : tie.Need-loop-again Inv-loop μ-loop
+loop-again c =
+    let l = c .before .before .before .before .before .loop in
+    let start = c .before .before .before .before .before .before .before .before .before in
+    (search needs, λ s. rw (c .before .before .set-count .ensures s, add-one (start .args .client)) (clearing-row (start .args .client) (view (memory (start .args .words .now) s)) (view (memory (l .words) s)) (l .i) (l .inv .1 s) _ (omega arith)))
+
+same-length : tie.Need-same-length Inv-loop μ-loop
+same-length c = search needs
+
+returns : tie.Need-returns Inv-loop μ-loop
+returns c s =
+    let l = c .before .loop in
+    let start = c .before .before .before .before .before in
+    clearing-all (start .args .client) (view (memory (start .args .words .now) s)) (view (memory (l .words) s)) (l .i) (l .inv .1 s) (omega arith)
+
+pub clear-counts-spec : {M : Type 1} → statement M
+clear-counts-spec =
+    tie.close
+    (tie.spec
+    Inv-loop
+    μ-loop
+    interface-count-requires
+    loop-holds
+    sub-i
+    add-set-count
+    set-count-requires
+    loop-less
+    loop-again
+    same-length
+    returns)

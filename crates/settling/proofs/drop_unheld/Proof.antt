@@ -1,0 +1,73 @@
+-- `settling::drop_unheld`: the interfaces from i on are held, and what is left of all is the same.
+use Prim.Native.Nat.{ℕ}
+use mathlib.Core.Path.{_≡_, sym, _∙_}
+use mathlib.Core.List.{List}
+use native.Mathlib.Omega.{arith}
+use lib.ListN.{length}
+use borrow.Author.Needs.{needs}
+use Rattle.settling.specs.Leaving.{heldLeft}
+use Rattle.rules.specs.Sound.{held}
+use Rattle.rules.specs.Rules.{noInterface}
+use Rattle.table.specs.View.{memory, view}
+use Rattle.table.proofs.LiveRows.{interfaces-length}
+use Rattle.settling.proofs.Going.{HeldGoing, going-none, held-row, held-all}
+use Rattle.settling.proofs.drop_unheld.Statement.{statement}
+use Rattle.settling.proofs.drop_unheld.Tie as tie
+
+abbrev Inv-loop : tie.InvT-loop
+Inv-loop words₀ i₀ words i = (length words ≡ 8192) × ((s : List ℕ) → HeldGoing (view (memory words₀ s)) i (view (memory words s)))
+
+abbrev μ-loop : tie.MeasureT-loop
+μ-loop words₀ i₀ words i = i
+
+interface-count-requires : tie.Need-interface-count-requires Inv-loop μ-loop
+interface-count-requires c κs = search needs
+
+loop-holds : tie.Need-loop-holds Inv-loop μ-loop
+loop-holds c =
+    let start = c .before .before .before in
+    let ws = start .args .words .now in
+    (search needs, λ s. going-none (λ e. e .interfaces) (λ e. held) heldLeft noInterface (view (memory ws s)) _ (c .interface-count .ensures .0 ∙ sym (interfaces-length ws)))
+
+sub-i : tie.Need-sub-i Inv-loop μ-loop
+sub-i c = omega arith
+
+leave-unheld-requires : tie.Need-leave-unheld-requires Inv-loop μ-loop
+leave-unheld-requires c κs =
+    let l = c .before .before .loop in
+    let n = interfaces-length (l .words) in
+    let g = l .inv .1 (l .words) .within in
+    (l .inv .0, omega arith)
+
+loop-less : tie.Need-loop-less Inv-loop μ-loop
+loop-less c = omega arith
+
+loop-again : tie.Need-loop-again Inv-loop μ-loop
+loop-again c =
+    let l = c .before .before .before .before .before .loop in
+    let start = c .before .before .before .before .before .before .before .before .before in
+    (search needs, λ s. rw (c .before .before .leave-unheld .ensures s) (held-row (view (memory (start .args .words .now) s)) (view (memory (l .words) s)) (l .i) (l .inv .1 s) _ (omega arith)))
+
+same-length : tie.Need-same-length Inv-loop μ-loop
+same-length c = search needs
+
+returns : tie.Need-returns Inv-loop μ-loop
+returns c s =
+    let l = c .before .loop in
+    let start = c .before .before .before .before .before in
+    held-all (view (memory (start .args .words .now) s)) (view (memory (l .words) s)) (l .i) (l .inv .1 s) (omega arith)
+
+pub drop-unheld-spec : {M : Type 1} → statement M
+drop-unheld-spec =
+    tie.close
+    (tie.spec
+    Inv-loop
+    μ-loop
+    interface-count-requires
+    loop-holds
+    sub-i
+    leave-unheld-requires
+    loop-less
+    loop-again
+    same-length
+    returns)

@@ -1,0 +1,91 @@
+-- The counts in an interface's row.
+use Prim.Native.Nat.{ℕ, zero, suc, _+_, _*_, _%_, _^_, _<_}
+use mathlib.Core.Path.{_≡_, refl, sym, ap, _∙_}
+use mathlib.Core.Bool.{Bool, true, false, not}
+use mathlib.Core.List.{List, [], _∷_, map}
+use native.Mathlib.Omega.{arith}
+use lib.Dec.{eqb}
+use lib.ListN.{length, getD, set, drop, length-map, length-drop}
+use lib.Seq.{getD-drop, getD-set-other, drop-set-add}
+use Rattle.lists.specs.Lists.{some, every, tabulate}
+use Rattle.columns.specs.Rows.{rowAt}
+use Rattle.lists.proofs.Lists.{every-ext, some-not, map-set, tabulate-getD}
+use Rattle.columns.proofs.rows.Laws.{rowAt-getD, length-row}
+use Rattle.rules.specs.Entries.{Interface, countOf, withCount}
+use Rattle.rules.specs.Sound.{held}
+use Rattle.rules.specs.Rules.{noInterface}
+use Rattle.table.specs.View.{interfaceKind, interfaceCount, asInterface, interfacesOf}
+use Rattle.table.specs.Edits.{Became, changeInterface}
+use Rattle.table.proofs.LiveRows.{interface-at}
+use Rattle.table.proofs.judge.Checks.{everyRow, table-checked}
+use Rattle.table.proofs.edit.Rows.{only-stored, live-stored}
+use Rattle.table.proofs.edit.Changes.{interface-changed}
+
+-- a word as a count
+abbrev low32 : ℕ → ℕ
+low32 w = w % 2 ^ 32
+
+counts-at : (xs : List ℕ) (k : ℕ) → getD (map low32 xs) k 0 ≡ low32 (getD xs k 0)
+counts-at [] k = refl
+counts-at (x ∷ xs) zero = refl
+counts-at (x ∷ xs) (suc k) = counts-at xs k
+
+-- count k is word 5 + k of the row
+pub count-word : (ws : List ℕ) (i k : ℕ) → i < interfaceCount ws → k < 9 → countOf k (getD (interfacesOf ws) i noInterface) ≡ getD ws (2048 + 256 * k + i) 0 % 2 ^ 32
+count-word ws i k h b =
+    let q : 768 + (5 + k) * 256 + i ≡ 2048 + 256 * k + i = omega arith in
+    ap (countOf k) (interface-at ws i noInterface h)
+    ∙ counts-at (drop 5 (rowAt interfaceKind ws i)) k
+    ∙ ap low32 (getD-drop 5 (rowAt interfaceKind ws i) k 0 ∙ rowAt-getD interfaceKind ws i (5 + k) (omega arith) ∙ ap (λ (x : ℕ). getD ws x 0) q)
+
+-- there are nine
+nine : (ws : List ℕ) (i : ℕ) → length (map low32 (drop 5 (rowAt interfaceKind ws i))) ≡ 9
+nine ws i = length-map (drop 5 (rowAt interfaceKind ws i)) low32 ∙ length-drop 5 (rowAt interfaceKind ws i) ∙ (let q = length-row interfaceKind ws i in omega arith)
+
+-- an interface is held where not every count is zero
+pub zero-counts : (ws : List ℕ) (i : ℕ) → i < interfaceCount ws
+    → everyRow 9 (λ k. eqb (countOf k (getD (interfacesOf ws) i noInterface)) 0) ≡ not (held (getD (interfacesOf ws) i noInterface))
+zero-counts ws i h =
+    ap (λ (r : Interface). everyRow 9 (λ k. eqb (countOf k r) 0)) (interface-at ws i noInterface h)
+    ∙ table-checked (λ (n : ℕ). eqb n 0) (λ k. eqb (getD cs k 0) 0) (λ k. getD cs k 0) 9 9 refl (λ k b. refl)
+    ∙ ap (λ (n : ℕ). every (λ (m : ℕ). eqb m 0) (tabulate n (λ k. getD cs k 0))) (sym (nine ws i))
+    ∙ ap (every (λ (m : ℕ). eqb m 0)) (tabulate-getD cs 0)
+    ∙ none cs
+    ∙ sym (ap (λ (r : Interface). not (held r)) (interface-at ws i noInterface h))
+  where
+    cs : List ℕ
+    cs = map low32 (drop 5 (rowAt interfaceKind ws i))
+
+    twice : (b : Bool) → not (not b) ≡ b
+    twice true = refl
+    twice false = refl
+
+    none : (xs : List ℕ) → every (λ (m : ℕ). eqb m 0) xs ≡ not (some (λ (m : ℕ). not (eqb m 0)) xs)
+    none xs =
+        sym (every-ext (λ (m : ℕ). not (not (eqb m 0))) (λ m. eqb m 0) (λ m. twice (eqb m 0)) xs)
+        ∙ sym (twice _)
+        ∙ ap not (sym (some-not (λ (m : ℕ). not (eqb m 0)) xs))
+
+-- a row with another word for count k
+count-row : (r : List ℕ) (k n : ℕ) → n < 2 ^ 32 → asInterface (set r (5 + k) n) ≡ withCount k n (asInterface r)
+count-row r k n h u =
+    record {
+      ipid = record { low = other 0 (omega arith) u; high = other 1 (omega arith) u };
+      iid = record { low = other 2 (omega arith) u; high = other 3 (omega arith) u };
+      object = other 4 (omega arith) u;
+      counts = (ap (map low32) (drop-set-add 5 r k n) ∙ map-set low32 (drop 5 r) k n ∙ ap (set (map low32 (drop 5 r)) k) (let q : n % 2 ^ 32 ≡ n = omega arith in q)) u;
+    }
+  where
+    other : (j : ℕ) → j < 5 → getD (set r (5 + k) n) j 0 ≡ getD r j 0
+    other j b = getD-set-other r (5 + k) j n 0 (omega arith)
+
+-- count k of an interface is stored
+pub count-stored : (ws : List ℕ) (i k n : ℕ) → length ws ≡ 8192 → i < interfaceCount ws → k < 9 → n < 2 ^ 32
+    → Became (changeInterface i (withCount k n)) ws (set ws (2048 + 256 * k + i) n)
+count-stored ws i k n size h b d =
+    let q : 2048 + 256 * k + i ≡ 768 + (5 + k) * 256 + i = omega arith in
+    rw q
+    (interface-changed ws (set ws (768 + (5 + k) * 256 + i) n) (withCount k n) i (set (rowAt interfaceKind ws i) (5 + k) n)
+    (only-stored interfaceKind 4 ws i (5 + k) n (omega arith) (omega arith)) h
+    (live-stored interfaceKind 4 ws i (5 + k) n (omega arith) h (omega arith) (omega arith))
+    (count-row (rowAt interfaceKind ws i) k n d))
