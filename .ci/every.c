@@ -149,6 +149,14 @@ static void calls(void) {
     IS(rimonakh_add(TABLE, 3, 0x71, 0x72, 1, 2), 0);
     IS(rimonakh_add(TABLE, 8, 0x71, 0x72, 1, 2), RIMONAKH_NO_CLIENT);
     IS(rimonakh_drop_client(TABLE, 2), 0);
+    uint8_t items[48] = {0x71, 0, 0, 0, 0, 0, 0, 0, 0x72, 0, 0, 0, 0, 0, 0, 0, 1, 0, 0, 0, 2}; /* then an IPID of zeros */
+    uint8_t results[3] = {9, 9, 9};
+    IS(rimonakh_add_list(TABLE, 5, items, sizeof items, results, sizeof results), 0);
+    IS(results[0], 0);
+    IS(results[1], RIMONAKH_NO_INTERFACE);
+    IS(results[2], 9);
+    IS(rimonakh_release_list(TABLE, 5, items, sizeof items, results, 1), RIMONAKH_NO_ROOM);
+    IS(rimonakh_release_list(TABLE, 5, items, 24, results, 1), 0);
     rimonakh_pinged ping = rimonakh_complex_ping(TABLE, 0, 1, oids, 1, oids, 0);
     IS(ping.answer, 0);
     IS(ping.set, 1);

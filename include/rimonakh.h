@@ -272,6 +272,18 @@ rimonakh_released rimonakh_release(uint64_t *words, size_t words_len, const uint
                                    uint32_t client, uint64_t ipid_low, uint64_t ipid_high, uint32_t public_refs,
                                    uint32_t private_refs);
 
+/* Adds references by a list of items for a client. An item is 24 bytes: an IPID, and a public and a private count of four
+ * bytes, little-endian. The items are done one by one from the left, and the number of each, 0, 6 or 8, is written to its byte
+ * at the front of results; the rest is kept. The whole list is refused by 20; 13 (no whole items); 10 (more than 65,535);
+ * 15 (fewer bytes in results than items). */
+uint32_t rimonakh_add_list(uint64_t *words, size_t words_len, const uint8_t *store, size_t store_len, uint32_t client,
+                           const uint8_t *items, size_t items_len, uint8_t *results, size_t results_len);
+
+/* Gives references back by a list of items, likewise; the number of an item is 0 or 6. 20; 13; 10; 15. */
+uint32_t rimonakh_release_list(uint64_t *words, size_t words_len, const uint8_t *store, size_t store_len,
+                               uint32_t client, const uint8_t *items, size_t items_len, uint8_t *results,
+                               size_t results_len);
+
 /* Drops every private reference of a client, 0 to 7. What is left without references goes as in a release. 20. */
 uint32_t rimonakh_drop_client(uint64_t *words, size_t words_len, const uint8_t *store, size_t store_len,
                               uint32_t client);

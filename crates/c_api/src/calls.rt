@@ -10,11 +10,12 @@ use resolver::Pinged;
 use resolver::Released;
 use resolver::Resolved;
 use resolver::StopPlace;
-ghost use Rattle.rules.specs.Calls.{Call, numbered};
+ghost use Rattle.rules.specs.Calls.{Call, adding, releasing, numbered};
 ghost use Rattle.table.specs.View.{memory, Performed};
 ghost use Rattle.reading.specs.Replies.{censusReply, membersReply};
 ghost use Rattle.counting.specs.Replies.{releaseReply};
 ghost use Rattle.leaving.specs.Replies.{clockReply};
+ghost use Rattle.listing.specs.Listing.{listReply};
 ghost use Rattle.pinging.specs.Replies.{pingReply};
 ghost use Rattle.reading.specs.Replies.{resolveReply};
 ghost use Rattle.reading.specs.NextStop.{StopFound};
@@ -206,6 +207,38 @@ pub extern "C" fn rimonakh_drop_client<'a>(
         (numbered r) (memory (now (words .exit)) (now (store .entry))) ⌝ }
 {
     resolver::drop_client(words, store, client)
+}
+
+// Adds references by a list of items of 24 bytes, and writes the number of each to its byte of results.
+#[no_mangle]
+pub extern "C" fn rimonakh_add_list<'a>(
+    words: &'a mut [u64],
+    store: &'a [u8],
+    client: u32,
+    items: &'a [u8],
+    results: &'a mut [u8],
+) -> u32
+    ensures { λ r. ⌜
+        Performed (Call.countList adding client (now (items .entry)) (now (results .entry))) (memory (now (words .entry)) (now (store .entry)))
+        (listReply r (now (results .exit))) (memory (now (words .exit)) (now (store .entry))) ⌝ }
+{
+    resolver::add_list(words, store, client, items, results)
+}
+
+// Gives references back by a list of items, likewise.
+#[no_mangle]
+pub extern "C" fn rimonakh_release_list<'a>(
+    words: &'a mut [u64],
+    store: &'a [u8],
+    client: u32,
+    items: &'a [u8],
+    results: &'a mut [u8],
+) -> u32
+    ensures { λ r. ⌜
+        Performed (Call.countList releasing client (now (items .entry)) (now (results .entry))) (memory (now (words .entry)) (now (store .entry)))
+        (listReply r (now (results .exit))) (memory (now (words .exit)) (now (store .entry))) ⌝ }
+{
+    resolver::release_list(words, store, client, items, results)
 }
 
 // Pings a set.

@@ -4,7 +4,8 @@ use mathlib.Core.Bool.{Bool, true, false, cond}
 use lib.Dec.{eqb}
 use borrow.Author.Tests.{eqb-true}
 use Rattle.kinds.proofs.Refusing.{by-test}
-use Rattle.rules.specs.Calls.{Call, reset, enterExporter, removeExporter, enterObject, enterInterface, add, release, dropClient, simplePing, complexPing, clock, resolve, census, members, nextStop}
+use Rattle.rules.specs.Calls.{Call, reset, enterExporter, removeExporter, enterObject, enterInterface, add, release, dropClient, countList, simplePing, complexPing, clock, resolve, census, members, nextStop}
+use Rattle.rules.specs.Items.{itemsOf}
 use Rattle.rules.specs.Rules.{number, next}
 use Rattle.history.specs.History.{History, live, lived, feed}
 use Rattle.history.proofs.Lives.{Kept}
@@ -13,6 +14,7 @@ use Rattle.history.proofs.Steps.{Step}
 use Rattle.history.proofs.Entering.{exporter-step, object-step, interface-step}
 use Rattle.history.proofs.Leaving.{removal-step, clock-step}
 use Rattle.history.proofs.Counting.{add-step, release-step, drop-step}
+use Rattle.history.proofs.Items.{items-step}
 use Rattle.history.proofs.Pinging.{simple-step, complex-step}
 
 -- each accepted call
@@ -26,6 +28,7 @@ step (enterInterface o i iid n) h k a = interface-step h k o i iid n a
 step (add c i p q) h k a = add-step h k c i p q a
 step (release c i p q) h k a = release-step h k c i p q a
 step (dropClient c) h k a = drop-step h k c a
+step (countList w c s b) h k a = let r = items-step h k w c (itemsOf s) in record { entries = r .0; kept = r .1 }
 step (simplePing s) h k a = simple-step h k s a
 step (complexPing s n adds dels) h k a = complex-step h k s n adds dels a
 step (clock t) h k a = clock-step h k t a

@@ -6,8 +6,10 @@ pub mod Steps
 pub mod Entering
 pub mod Leaving
 pub mod Counting
+pub mod Items
 pub mod Pinging
 pub mod Feeding
+pub mod Answers
 pub mod Staying
 pub mod Room
 pub mod Demands

@@ -15,7 +15,7 @@ use Rattle.fields.specs.Fields.{field}
 use Rattle.references.specs.References.{isCustom, tailAnswer, layoutAnswer, referenceAnswer}
 use Rattle.lists.proofs.Tests.{below-or-not}
 use Rattle.rules.specs.Entries.{Entries}
-use Rattle.rules.specs.Calls.{Call, reset, enterExporter, removeExporter, enterObject, enterInterface, add, release, dropClient, simplePing, complexPing, clock, resolve, census, members, nextStop}
+use Rattle.rules.specs.Calls.{Call, reset, enterExporter, removeExporter, enterObject, enterInterface, add, release, dropClient, countList, simplePing, complexPing, clock, resolve, census, members, nextStop}
 use Rattle.rules.specs.Rules.{refusals, number}
 use Rattle.rules.specs.Contract.{Memory}
 use Rattle.table.specs.View.{view}
@@ -121,6 +121,7 @@ rows (enterInterface o i iid n) e p =
 rows (add c i m n) e p = other refl refl (other refl refl (other refl refl none))
 rows (release c i m n) e p = other refl refl (other refl refl none)
 rows (dropClient c) e p = other refl refl none
+rows (countList w c s b) e p = other refl refl (other refl refl (other refl refl (other refl refl none)))
 rows (simplePing s) e p = other refl refl none
 rows (complexPing s n adds dels) e p =
     other refl refl

@@ -10,18 +10,20 @@ use borrow.Author.Tests.{eq-eqb, ne-eqb}
 use Rattle.kinds.specs.Refusals.{order}
 use Rattle.lists.proofs.Tests.{true-or-false, same-or-not, and-left, and-right}
 use Rattle.rules.specs.Entries.{Entries}
-use Rattle.rules.specs.Calls.{Call, reset, enterExporter, removeExporter, enterObject, enterInterface, add, release, dropClient, simplePing, complexPing, clock, resolve, census, members, nextStop, Reply}
+use Rattle.rules.specs.Calls.{Call, reset, enterExporter, removeExporter, enterObject, enterInterface, add, release, dropClient, countList, simplePing, complexPing, clock, resolve, census, members, nextStop, Reply}
 use Rattle.rules.specs.Sound.{sound}
 use Rattle.rules.specs.Rules.{refusals, number, next, results, refused, done, reply}
 use Rattle.rules.specs.Contract as contract
 use Rattle.rules.specs.Contract.{Memory, rightLengths, lengthsOnly, fit, replyTo}
+use Rattle.rules.proofs.Stepping.{reply-number}
 use Rattle.rules.proofs.SoundLaws.{table-fields}
 use Rattle.table.specs.View.{view, soundMemory, Performed}
-use Rattle.history.specs.History.{History, begins, live, feed, feedAll, replies}
-use Rattle.history.specs.Runs.{Run, none, call, unbegun, historyOf, WholeRun, countsGranted, goneExactly, roomExactly}
+use Rattle.history.specs.History.{History, begins, live, feed, feedAll, replies, numbers}
+use Rattle.history.specs.Runs.{Run, none, call, answeredAll, callsIn, numbersIn, unbegun, historyOf, WholeRun, countsGranted, goneExactly, roomExactly}
 use Rattle.history.proofs.Lives.{Kept}
 use Rattle.history.proofs.Beginning.{kept-fresh}
 use Rattle.history.proofs.Feeding.{fed}
+use Rattle.history.proofs.Answers.{all-answers}
 use Rattle.history.proofs.Room.{room-exactly, view-placed}
 use Rattle.history.proofs.Demands.{identifiers-distinct, one-object, some-reference, objects-exported, members-live, counts-granted, gone-exactly}
 
@@ -37,15 +39,6 @@ fits c m s =
 replied : (c : Call) (m : Memory) → soundMemory m ≡ true → replyTo view c m ≡ reply c (view m)
 unfolding replyTo
 replied c m s = ap (λ (b : Bool). cond b (reply c (view m)) (refused 1 c (view m))) (fits c m s)
-
--- the number of a reply is the call's
-reply-number : (c : Call) (e : Entries) → reply c e .number ≡ number c e
-unfolding reply done refused
-reply-number c e =
-    ⊎-elim
-    (λ z. ap (λ (b : Bool). cond b (done c e) (refused (number c e) c e) .number) (eq-eqb (number c e) 0 z) ∙ sym z)
-    (λ d. ap (λ (b : Bool). cond b (done c e) (refused (number c e) c e) .number) (ne-eqb (number c e) 0 d))
-    (same-or-not (number c e) 0)
 
 -- the memory is sound and holds the live entries of the history
 pub record Follows (m : Memory) (h : History) : Type 0 where
@@ -106,6 +99,7 @@ begins-alike (enterInterface o i iid n) b e f = absurd (true≢false (sym b))
 begins-alike (add c i p q) b e f = absurd (true≢false (sym b))
 begins-alike (release c i p q) b e f = absurd (true≢false (sym b))
 begins-alike (dropClient c) b e f = absurd (true≢false (sym b))
+begins-alike (countList w c s l) b e f = absurd (true≢false (sym b))
 begins-alike (simplePing s) b e f = absurd (true≢false (sym b))
 begins-alike (complexPing s n adds dels) b e f = absurd (true≢false (sym b))
 begins-alike (clock t) b e f = absurd (true≢false (sym b))
@@ -160,9 +154,12 @@ whole-run c r cs rs m₀ m b z run =
     let w = begun-follows b z run in
     let h : History = historyOf (c ∷ cs) in
     let e = w .0 .entries in
+    let i = all-answers (c ∷ cs) unbegun (kept-fresh 0) in
     let s = table-fields view m (w .0 .sound) .entries in
     record {
       answers = w .1;
+      itemAnswers = ap (λ (q : List Reply). numbersIn (answeredAll (c ∷ cs) q)) (w .1) ∙ i .0 ∙ ap (λ (q : List Reply). numbers unbegun (callsIn (answeredAll (c ∷ cs) q))) (sym (w .1));
+      itemHistory = i .1 ∙ ap (λ (q : List Reply). feedAll unbegun (callsIn (answeredAll (c ∷ cs) q))) (sym (w .1));
       entries = e;
       sound = w .0 .sound;
       identifiers = identifiers-distinct (view m) s;

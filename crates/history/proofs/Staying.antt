@@ -15,10 +15,11 @@ use Rattle.lists.proofs.Lists.{map-append}
 use Rattle.lists.proofs.Distinct.{eqb-decides, same-eq}
 use Rattle.lists.proofs.Guids.{guid-decides}
 use Rattle.lists.proofs.Elements.{In, every-in, in-every, in-some, some-in, in-keep, map-in, snoc-in, one-in, first-sole}
-use Rattle.rules.specs.Calls.{Call, reset, enterExporter, removeExporter, enterObject, enterInterface, add, release, dropClient, simplePing, complexPing, clock, resolve, census, members, nextStop}
+use Rattle.rules.specs.Calls.{Call, Counting, adding, releasing, reset, enterExporter, removeExporter, enterObject, enterInterface, add, release, dropClient, countList, simplePing, complexPing, clock, resolve, census, members, nextStop}
+use Rattle.rules.specs.Items.{Item, itemsOf, itemCall}
 use Rattle.rules.specs.Rules.{anyIpid, number}
 use Rattle.rules.proofs.SoundLaws.{none, _and_}
-use Rattle.history.specs.History.{ExporterLife, ObjectLife, InterfaceLife, SetLife, History, begins, atZero, interfacesAtZero, exporterRemoved, unheardSince, unheard, objectGone, liveObjects, liveInterface, liveSet, noObjectLife, live, withSetLives, removedLife, heardLife, atAccount, atAccounts, granting, taking, takingAll, pingedLife, changed, atLiveInterfaces, atLiveSet, objectSerials, isMember, pingLives, startSet, lived, feed, feedAll, along, implies, staysGone}
+use Rattle.history.specs.History.{ExporterLife, ObjectLife, InterfaceLife, SetLife, History, begins, atZero, interfacesAtZero, exporterRemoved, unheardSince, unheard, objectGone, liveObjects, liveInterface, liveSet, noObjectLife, live, withSetLives, removedLife, heardLife, atAccount, atAccounts, granting, taking, takingAll, pingedLife, changed, atLiveInterfaces, atLiveSet, objectSerials, isMember, pingLives, startSet, countLived, itemFed, itemsFed, lived, feed, feedAll, along, implies, staysGone}
 use Rattle.history.specs.Runs.{historyOf, StaysGone}
 use Rattle.history.proofs.Lives.{Kept, serialOfObject}
 use Rattle.history.proofs.Beginning.{kept-fresh}
@@ -279,8 +280,53 @@ module _ (h : History) where
   unfolding Origin
   origins-more n d l m = ⊎-elim (λ a. inl (l, a, interface-stays l)) (λ q. inr (λ o a g e. d o a g (e ∙ ap (λ (p : InterfaceLife). p .object) q))) (snoc-in (h .interfaces) m)
 
-  -- ---- counts
+-- ---- counts
 
+-- nothing but counts differs
+record Recounted (h h′ : History) : Type 0 where
+  clock : h .clock ≡ h′ .clock
+  exporters : h .exporters ≡ h′ .exporters
+  objects : h .objects ≡ h′ .objects
+  sets : h .sets ≡ h′ .sets
+  interfaces : Along SameInterface (h .interfaces) (h′ .interfaces)
+  origins : (l′ : InterfaceLife) → In l′ (h′ .interfaces) → (l : InterfaceLife) × In l (h .interfaces) × SameInterface l l′
+
+recounted-self : (h : History) → Recounted h h
+recounted-self h =
+    record { clock = refl; exporters = refl; objects = refl; sets = refl; interfaces = interfaces-stay h; origins = λ l m. (l, m, interface-stays l) }
+
+interface-then : {l m n : InterfaceLife} → SameInterface l m → SameInterface m n → SameInterface l n
+interface-then a b = record { ipid = a .ipid ∙ b .ipid; object = a .object ∙ b .object; zero = λ z. b .zero (a .zero z) }
+
+along-then : {ls ms ns : List InterfaceLife} → Along SameInterface ls ms → Along SameInterface ms ns → Along SameInterface ls ns
+along-then rest b = rest
+along-then (one r a) (one s b) = one (interface-then r s) (along-then a b)
+
+recounted-then : (h g f : History) → Recounted h g → Recounted g f → Recounted h f
+recounted-then h g f a b =
+    record {
+      clock = a .clock ∙ b .clock;
+      exporters = a .exporters ∙ b .exporters;
+      objects = a .objects ∙ b .objects;
+      sets = a .sets ∙ b .sets;
+      interfaces = along-then (a .interfaces) (b .interfaces);
+      origins = λ n i. let m = b .origins n i in let l = a .origins (m .0) (m .1) in (l .0, l .1, interface-then (l .2) (m .2));
+    }
+
+recounted-later : (h h′ : History) → Recounted h h′ → Later h h′
+unfolding Origin
+recounted-later h h′ r =
+    let c = r .clock in
+    record {
+      clock = omega arith;
+      exporters = subst (Along SameExporter (h .exporters)) (r .exporters) (exporters-stay h);
+      objects = subst (Along (SameObject h) (h .objects)) (r .objects) (objects-stay h);
+      interfaces = r .interfaces;
+      origins = λ l m. inl (r .origins l m);
+      sets = subst (Along (SameSet h) (h .sets)) (r .sets) (sets-stay h);
+    }
+
+module _ (h : History) where
   module _ (meant : Guid → Bool) (f : InterfaceLife → InterfaceLife) (a : (l : InterfaceLife) → l .ipid ≡ f l .ipid) (b : (l : InterfaceLife) → l .object ≡ f l .object) where
     counted : InterfaceLife → InterfaceLife
     counted l = cond (meant (l .ipid) && liveInterface h l) (f l) l
@@ -294,17 +340,20 @@ module _ (h : History) where
         record { ipid = a l; object = b l; zero = λ z. absurd (true≢false (sym alive ∙ ap not z)) })
         (λ t. interface-stays l)
 
-    counts-later : Later h (atLiveInterfaces meant f h)
-    unfolding counted Origin
-    counts-later =
+    counts-recounted : Recounted h (atLiveInterfaces meant f h)
+    unfolding counted
+    counts-recounted =
         record {
-          clock = omega arith;
-          exporters = exporters-stay;
-          objects = objects-stay;
+          clock = refl;
+          exporters = refl;
+          objects = refl;
+          sets = refl;
           interfaces = mapped SameInterface counted (h .interfaces) (λ l m. counted-same l);
-          origins = λ l m. let r = map-in counted (h .interfaces) m in inl (r .0, r .1, subst (SameInterface (r .0)) (sym (r .2)) (counted-same (r .0)));
-          sets = sets-stay;
+          origins = λ l m. let r = map-in counted (h .interfaces) m in (r .0, r .1, subst (SameInterface (r .0)) (sym (r .2)) (counted-same (r .0)));
         }
+
+    counts-later : Later h (atLiveInterfaces meant f h)
+    counts-later = recounted-later h _ counts-recounted
 
   -- ---- pings
 
@@ -341,10 +390,10 @@ module _ (h : History) where
     ping-later =
         record {
           clock = omega arith;
-          exporters = exporters-stay;
+          exporters = exporters-stay h;
           objects = mapped (SameObject h) hearing (h .objects) (λ o m. hearing-same o);
-          interfaces = interfaces-stay;
-          origins = origins-stay;
+          interfaces = interfaces-stay h;
+          origins = origins-stay h;
           sets = then-mapped (SameSet h) pinging pinging-same c;
         }
 
@@ -384,6 +433,19 @@ removal-later h x =
       origins = origins-stay h;
       sets = sets-stay h;
     }
+
+-- an item's counts, and the items
+count-recounted : (w : Counting) (c : ℕ) (i : Guid) (p q : ℕ) (h : History) → Recounted h (countLived w c i p q h)
+count-recounted adding c i p q h = counts-recounted h (sameGuid i) (atAccounts c (granting p) (granting q)) (λ l. refl) (λ l. refl)
+count-recounted releasing c i p q h = counts-recounted h (sameGuid i) (atAccounts c (taking p) (taking q)) (λ l. refl) (λ l. refl)
+
+items-recounted : (w : Counting) (c : ℕ) (ts : List Item) (h : History) → Recounted h (itemsFed w c ts h)
+unfolding itemsFed
+items-recounted w c [] h = recounted-self h
+items-recounted w c (t ∷ ts) h =
+    recounted-then h (itemFed w c t h) _
+    (by-test (Recounted h) (eqb (number (itemCall w c t) (live h)) 0) _ h (λ a. count-recounted w c (t .ipid) (t .public) (t .private) h) (λ a. recounted-self h))
+    (items-recounted w c ts (itemFed w c t h))
 
 -- every accepted call but one that begins a history
 later : (c : Call) (h : History) → Kept h → begins c ≡ false → number c (live h) ≡ 0 → Later h (lived c h)
@@ -425,6 +487,7 @@ later (enterInterface o i iid n) h k b a =
 later (add c i p q) h k b a = counts-later h (sameGuid i) (atAccounts c (granting p) (granting q)) (λ l. refl) (λ l. refl)
 later (release c i p q) h k b a = counts-later h (sameGuid i) (atAccounts c (taking p) (taking q)) (λ l. refl) (λ l. refl)
 later (dropClient c) h k b a = counts-later h anyIpid (atAccount (suc c) takingAll) (λ l. refl) (λ l. refl)
+later (countList w c s l) h k b a = recounted-later h _ (items-recounted w c (itemsOf s) h)
 later (simplePing s) h k b a = ping-later h s (h .next) (h .sets) (sets-stay h)
 later (complexPing s n adds dels) h k b a = complex-later h (cond (eqb s 0) (h .next) s) n (objectSerials h adds) (objectSerials h dels) (eqb s 0)
 later (clock t) h k b a =

@@ -9,7 +9,8 @@ use Rattle.kinds.specs.declared.Guid.{Guid}
 use Rattle.lists.specs.Lists.{keep, some, every, firstOr, firstIndex, tabulate, among, holding}
 use Rattle.lists.specs.Guids.{nil, sameGuid}
 use Rattle.rules.specs.Entries.{Exporter, Object, Interface, PingSet, Entries, fresh, oxids, oids}
-use Rattle.rules.specs.Calls.{Call, reset, enterExporter, removeExporter, enterObject, enterInterface, add, release, dropClient, simplePing, complexPing, clock, resolve, census, members, nextStop, Reply}
+use Rattle.rules.specs.Calls.{Call, Counting, adding, releasing, reset, enterExporter, removeExporter, enterObject, enterInterface, add, release, dropClient, countList, simplePing, complexPing, clock, resolve, census, members, nextStop, Reply}
+use Rattle.rules.specs.Items.{Item, itemsOf, itemCall}
 use Rattle.rules.specs.Rules.{noExporter, noObject, number, reply, anyIpid}
 
 -- An identifier that went may be entered again, as a new life; so lives name each other by serial numbers, which are never given twice.
@@ -105,6 +106,7 @@ begins (enterInterface o i iid n) = false
 begins (add c i p q) = false
 begins (release c i p q) = false
 begins (dropClient c) = false
+begins (countList w c s b) = false
 begins (simplePing s) = false
 begins (complexPing s n adds dels) = false
 begins (clock t) = false
@@ -293,6 +295,19 @@ pingLives s h =
 abbrev pub startSet : History → History
 startSet h = withSetLives (h .next + 1) (h .sets ++ (record { number = h .next; sequence = 0; pinged = h .clock; members = [] } ∷ [])) h
 
+-- references counted, one way or the other
+abbrev pub countLived : Counting → ℕ → Guid → ℕ → ℕ → History → History
+countLived adding c i p q h = atLiveInterfaces (sameGuid i) (atAccounts c (granting p) (granting q)) h
+countLived releasing c i p q h = atLiveInterfaces (sameGuid i) (atAccounts c (taking p) (taking q)) h
+
+-- each item of an accepted list counts as a call of its own
+abbrev pub itemFed : Counting → ℕ → Item → History → History
+itemFed w c t h = cond (eqb (number (itemCall w c t) (live h)) 0) (countLived w c (t .ipid) (t .public) (t .private) h) h
+
+unfoldable pub itemsFed : Counting → ℕ → List Item → History → History
+itemsFed w c [] h = h
+itemsFed w c (t ∷ ts) h = itemsFed w c ts (itemFed w c t h)
+
 unfoldable pub lived : Call → History → History
 lived (reset t) h = begin (fresh t)
 lived (enterExporter x u b) h =
@@ -304,10 +319,11 @@ lived (enterObject o x i iid n np) h =
     withObjectLives (h .objects ++ (record { serial = k; oid = o; exporter = exporterSerial h x; noping = np; heard = h .clock } ∷ []))
     (withInterfaceLives (h .interfaces ++ (enteredInterface i iid k n ∷ [])) h)
 lived (enterInterface o i iid n) h = withInterfaceLives (h .interfaces ++ (enteredInterface i iid (objectSerial h o) n ∷ [])) h
-lived (add c i p q) h = atLiveInterfaces (sameGuid i) (atAccounts c (granting p) (granting q)) h
-lived (release c i p q) h = atLiveInterfaces (sameGuid i) (atAccounts c (taking p) (taking q)) h
+lived (add c i p q) h = countLived adding c i p q h
+lived (release c i p q) h = countLived releasing c i p q h
 -- a client's drop takes all that is left of its private counts
 lived (dropClient c) h = atLiveInterfaces anyIpid (atAccount (suc c) takingAll) h
+lived (countList w c s b) h = itemsFed w c (itemsOf s) h
 lived (simplePing s) h = pingLives s h
 lived (complexPing s n adds dels) h =
     let k : ℕ = cond (eqb s 0) (h .next) s in
@@ -330,6 +346,11 @@ feedAll h (c ∷ cs) = feedAll (feed h c) cs
 unfoldable pub replies : History → List Call → List Reply
 replies h [] = []
 replies h (c ∷ cs) = reply c (live h) ∷ replies (feed h c) cs
+
+-- the numbers alone
+unfoldable pub numbers : History → List Call → List ℕ
+numbers h [] = []
+numbers h (c ∷ cs) = number c (live h) ∷ numbers (feed h c) cs
 
 -- ---- what has gone stays gone
 

@@ -2,19 +2,20 @@
 use Prim.Native.Nat.{ℕ, _+_}
 use mathlib.Core.Path.{_≡_}
 use mathlib.Core.Bool.{Bool, true, false, cond, not, _&&_, _||_}
-use mathlib.Core.List.{List, [], _∷_, map}
-use lib.ListN.{length}
+use mathlib.Core.List.{List, [], _∷_, _++_, map}
+use lib.ListN.{length, getD}
 use lib.Dec.{eqb, ltb, leb}
 use Rattle.kinds.specs.Refusals.{Row, order}
 use Rattle.lists.specs.Lists.{keep, every, distinct, among, some, tabulate}
 use Rattle.lists.specs.Guids.{sameGuid}
 use Rattle.rules.specs.Entries.{Object, Interface, PingSet, Entries, fresh, oxids, oids, setNumbers, ipids, countOf}
-use Rattle.rules.specs.Calls.{Call, reset, enterExporter, removeExporter, enterObject, enterInterface, add, release, dropClient, simplePing, complexPing, clock, resolve, census, members, nextStop, Reply}
+use Rattle.rules.specs.Calls.{Call, reset, enterExporter, removeExporter, enterObject, enterInterface, add, release, dropClient, countList, simplePing, complexPing, clock, resolve, census, members, nextStop, Reply}
+use Rattle.rules.specs.Items.{itemAt, itemCount, itemCall}
 use Rattle.rules.specs.Sound.{sound}
 use Rattle.rules.specs.Rules.{isLiveExporter, isLiveObject, interfaceOf, refusals, number}
 use Rattle.rules.specs.Contract.{Memory}
 use Rattle.table.specs.View.{view, soundMemory, Performed}
-use Rattle.history.specs.History.{ObjectLife, InterfaceLife, History, begin, begins, interfacesAtZero, exporterRemoved, unheard, liveInterface, live, feed, feedAll, replies, staysGone, accountOf}
+use Rattle.history.specs.History.{ObjectLife, InterfaceLife, History, begin, begins, interfacesAtZero, exporterRemoved, unheard, liveInterface, live, feed, feedAll, replies, numbers, staysGone, accountOf}
 
 -- ---- the sentences of demand 3, as tests
 
@@ -77,6 +78,7 @@ needsFullKind (enterInterface o i iid n) e = eqb (length (e .interfaces)) 256
 needsFullKind (add c i p q) e = false
 needsFullKind (release c i p q) e = false
 needsFullKind (dropClient c) e = false
+needsFullKind (countList w c s b) e = false
 needsFullKind (simplePing s) e = false
 needsFullKind (complexPing s n adds dels) e = eqb s 0 && eqb (length (e .sets)) 32
 needsFullKind (clock t) e = false
@@ -97,6 +99,48 @@ pub data Run : List Call → List Reply → Memory → Memory → Type 0 where
       {c : Call} {r : Reply} {cs : List Call} {rs : List Reply} {m m′ m″ : Memory}
       → Performed c m r m′ → Run cs rs m′ m″ → Run (c ∷ cs) (r ∷ rs) m m″
 
+-- a call that counts in the history, with its answer number
+pub record Answered : Type 0 where
+  pub call : Call
+  pub number : ℕ
+
+abbrev pub once : Call → Reply → List Answered
+once c r = record { call = c; number = r .number } ∷ []
+
+-- each item of an accepted list counts as a call of its own, with its byte for answer; every other call counts once
+unfoldable pub answered : Call → Reply → List Answered
+answered (reset t) r = once (reset t) r
+answered (enterExporter x u b) r = once (enterExporter x u b) r
+answered (removeExporter x) r = once (removeExporter x) r
+answered (enterObject o x i iid n np) r = once (enterObject o x i iid n np) r
+answered (enterInterface o i iid n) r = once (enterInterface o i iid n) r
+answered (add c i p q) r = once (add c i p q) r
+answered (release c i p q) r = once (release c i p q) r
+answered (dropClient c) r = once (dropClient c) r
+answered (countList w c s b) r =
+    cond (eqb (r .number) 0)
+    (tabulate (itemCount s) (λ k. record { call = itemCall w c (itemAt s k); number = getD (r .buffer) k 0 }))
+    (once (countList w c s b) r)
+answered (simplePing s) r = once (simplePing s) r
+answered (complexPing s n adds dels) r = once (complexPing s n adds dels) r
+answered (clock t) r = once (clock t) r
+answered (resolve x buffer) r = once (resolve x buffer) r
+answered census r = once census r
+answered (members s) r = once (members s) r
+answered (nextStop s) r = once (nextStop s) r
+
+-- of a run's calls with their replies
+unfoldable pub answeredAll : List Call → List Reply → List Answered
+answeredAll [] rs = []
+answeredAll (c ∷ cs) [] = []
+answeredAll (c ∷ cs) (r ∷ rs) = answered c r ++ answeredAll cs rs
+
+abbrev pub callsIn : List Answered → List Call
+callsIn xs = map (λ (a : Answered). a .call) xs
+
+abbrev pub numbersIn : List Answered → List ℕ
+numbersIn xs = map (λ (a : Answered). a .number) xs
+
 -- the history before the first call, of which a call that begins one leaves nothing
 abbrev pub unbegun : History
 unbegun = begin (fresh 0)
@@ -109,6 +153,9 @@ historyOf cs = feedAll unbegun cs
 pub record AfterRun (cs : List Call) (rs : List Reply) (m : Memory) : Type 0 where
   -- each is answered as demand 2 says, on the history's own live entries
   pub answers : rs ≡ replies unbegun cs
+  -- each item of an accepted list counts as a call of its own, with its byte for answer
+  pub itemAnswers : numbersIn (answeredAll cs rs) ≡ numbers unbegun (callsIn (answeredAll cs rs))
+  pub itemHistory : historyOf cs ≡ historyOf (callsIn (answeredAll cs rs))
   -- the live entries, with every field, list and member, the clock and the next set number are exactly the history's
   pub entries : view m ≡ live (historyOf cs)
   pub sound : soundMemory m ≡ true

@@ -11,6 +11,8 @@ pub use entering::reset;
 pub use leaving::Expired;
 pub use leaving::clock;
 pub use leaving::remove_exporter;
+pub use listing::add_list;
+pub use listing::release_list;
 pub use pinging::Pinged;
 pub use pinging::complex_ping;
 pub use pinging::simple_ping;

@@ -2,20 +2,21 @@
 use Prim.Native.Nat.{ℕ}
 use mathlib.Core.Path.{_≡_, refl}
 use mathlib.Core.Bool.{Bool, true}
-use mathlib.Core.List.{List}
+use mathlib.Core.List.{List, [], _∷_}
 use native.Mathlib.Omega.{arith}
 use borrow.Author.Tests.{not-false, ltb-false}
 use lib.ListN.{length}
 use lib.Dec.{eqb}
 use Rattle.kinds.specs.declared.Guid.{Guid}
-use Rattle.kinds.proofs.Refusing.{or-false, passed, passed-on}
+use Rattle.kinds.proofs.Refusing.{or-false, passed, passed-on, by-test}
 use Rattle.bindings.specs.Bindings.{listAnswer}
 use Rattle.lists.specs.Lists.{every, distinct, holding, among}
 use Rattle.lists.specs.Guids.{sameGuid}
 use Rattle.rules.specs.Entries.{Entries, fresh, oxids, oids}
-use Rattle.rules.specs.Calls.{reset, enterExporter, removeExporter, enterObject, enterInterface, add, release, dropClient, simplePing, complexPing, clock, resolve, census, members, nextStop}
+use Rattle.rules.specs.Calls.{Counting, adding, releasing, reset, enterExporter, removeExporter, enterObject, enterInterface, add, release, dropClient, countList, simplePing, complexPing, clock, resolve, census, members, nextStop}
+use Rattle.rules.specs.Items.{Item, itemsOf, itemCall}
 use Rattle.rules.specs.Sound.{longestList, sound}
-use Rattle.rules.specs.Rules.{refusals, number, next, anyIpid}
+use Rattle.rules.specs.Rules.{counted, itemsDone, refusals, number, next, anyIpid}
 use Rattle.rules.specs.Contract.{Keeps}
 use Rattle.rules.proofs.Groups.{Grouped, grouped, sound-grouped}
 use Rattle.rules.proofs.Counts.{entered-held}
@@ -60,6 +61,18 @@ module _ (e : Entries) (g : Grouped e) where
   unfolding number refusals
   clock-case t h = clock-set e t g (ltb-false t (e .clock) (passed _ 2 _ (omega arith) h .0))
 
+-- references counted
+pub counted-grouped : (w : Counting) (c : ℕ) (i : Guid) (p q : ℕ) (e : Entries) → Grouped e → Grouped (counted w c i p q e)
+counted-grouped adding c i p q e g = counts-added e i c p q g
+counted-grouped releasing c i p q e g = counts-taken e (sameGuid i) _ (λ r. refl) g
+
+-- items done
+items-grouped : (w : Counting) (c : ℕ) (ts : List Item) (e : Entries) → Grouped e → Grouped (itemsDone w c ts e)
+unfolding itemsDone
+items-grouped w c [] e g = g
+items-grouped w c (t ∷ ts) e g =
+    items-grouped w c ts _ (by-test Grouped (eqb (number (itemCall w c t) e) 0) _ e (λ h. counted-grouped w c (t .ipid) (t .public) (t .private) e g) (λ h. g))
+
 -- each accepted call leaves sound entries
 pub keeps : Keeps
 unfolding next
@@ -68,9 +81,10 @@ keeps (enterExporter x u b) e s h = sound-grouped _ (exporter-case e (grouped e 
 keeps (removeExporter x) e s h = sound-grouped _ (exporter-removed e x (grouped e s))
 keeps (enterObject o x i iid n np) e s h = sound-grouped _ (object-case e (grouped e s) o x i iid n np h)
 keeps (enterInterface o i iid n) e s h = sound-grouped _ (interface-case e (grouped e s) o i iid n h)
-keeps (add c i p q) e s h = sound-grouped _ (counts-added e i c p q (grouped e s))
-keeps (release c i p q) e s h = sound-grouped _ (counts-taken e (sameGuid i) _ (λ r. refl) (grouped e s))
+keeps (add c i p q) e s h = sound-grouped _ (counted-grouped adding c i p q e (grouped e s))
+keeps (release c i p q) e s h = sound-grouped _ (counted-grouped releasing c i p q e (grouped e s))
 keeps (dropClient c) e s h = sound-grouped _ (counts-taken e anyIpid _ (λ r. refl) (grouped e s))
+keeps (countList w c s b) e d h = sound-grouped _ (items-grouped w c (itemsOf s) e (grouped e d))
 keeps (simplePing k) e s h = sound-grouped _ (set-pinged e k (grouped e s))
 keeps (complexPing k n adds dels) e s h = sound-grouped _ (members-pinged e (eqb k 0) _ n adds dels (grouped e s))
 keeps (clock t) e s h = sound-grouped _ (clock-case e (grouped e s) t h)

@@ -7,6 +7,8 @@ pub mod Entering
 pub mod Leaving
 pub mod Pinging
 pub mod Keeps
+pub mod Listing
+pub mod ListLoop
 pub mod ByRow
 pub mod PingRows
 pub mod Cases

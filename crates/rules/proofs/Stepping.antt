@@ -16,7 +16,7 @@ use Rattle.rules.proofs.Performing.{refused-number, done-number, fit-so
 use Rattle.rules.proofs.Keeps.{keeps}
 
 -- the number of a reply is the number of the rules
-reply-number : (c : Call) (e : Entries) → reply c e .number ≡ number c e
+pub reply-number : (c : Call) (e : Entries) → reply c e .number ≡ number c e
 unfolding reply refused done
 reply-number c e =
     ⊎-elim

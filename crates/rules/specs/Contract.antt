@@ -6,7 +6,7 @@ use mathlib.Core.List.{List}
 use lib.ListN.{length}
 use lib.Dec.{eqb}
 use Rattle.rules.specs.Entries.{Entries}
-use Rattle.rules.specs.Calls.{Call, reset, enterExporter, removeExporter, enterObject, enterInterface, add, release, dropClient, simplePing, complexPing, clock, resolve, census, members, nextStop, Reply}
+use Rattle.rules.specs.Calls.{Call, reset, enterExporter, removeExporter, enterObject, enterInterface, add, release, dropClient, countList, simplePing, complexPing, clock, resolve, census, members, nextStop, Reply}
 use Rattle.rules.specs.Sound.{sound}
 use Rattle.rules.specs.Rules.{number, next, refused, reply}
 
@@ -29,6 +29,7 @@ lengthsOnly (enterInterface o i iid n) = false
 lengthsOnly (add c i p q) = false
 lengthsOnly (release c i p q) = false
 lengthsOnly (dropClient c) = false
+lengthsOnly (countList w c s b) = false
 lengthsOnly (simplePing s) = false
 lengthsOnly (complexPing s n adds dels) = false
 lengthsOnly (clock t) = false

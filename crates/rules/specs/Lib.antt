@@ -1,7 +1,9 @@
 pub mod Entries
 pub mod Calls
+pub mod Items
 pub mod Sound
 pub mod Rules
 pub mod PingRows
 pub mod Contract
+pub mod OneByOne
 pub mod Cases

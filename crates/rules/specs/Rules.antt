@@ -13,7 +13,8 @@ use Rattle.references.specs.References.{referenceAnswer, referenceAt, isCustom,
 use Rattle.lists.specs.Lists.{keep, some, every, firstOr, among}
 use Rattle.lists.specs.Guids.{nil, sameGuid}
 use Rattle.rules.specs.Entries.{Exporter, Object, Interface, PingSet, Entries, fresh, oxids, oids, setNumbers, interfaceIpids, ipids, withClock, withNext, withExporters, withObjects, withInterfaces, withSets, heardAt, publicOf, privateOf, atCount, atCounts, pingedAt, withSequence, withMembers}
-use Rattle.rules.specs.Calls.{Call, reset, enterExporter, removeExporter, enterObject, enterInterface, add, release, dropClient, simplePing, complexPing, clock, resolve, census, members, nextStop, Reply, Results, only}
+use Rattle.rules.specs.Calls.{Call, Counting, adding, releasing, reset, enterExporter, removeExporter, enterObject, enterInterface, add, release, dropClient, countList, simplePing, complexPing, clock, resolve, census, members, nextStop, Reply, Results, only}
+use Rattle.rules.specs.Items.{Item, itemSize, itemCount, itemsOf, itemCall}
 use Rattle.rules.specs.Sound.{longestList, held, hasInterface, overdue}
 
 -- ---- tests on the entries
@@ -123,6 +124,12 @@ refusals (add c i p q) e =
     ∷ []
 refusals (release c i p q) e = noClient c gives 20 ∷ not (isLiveInterface e i) gives 6 ∷ []
 refusals (dropClient c) e = noClient c gives 20 ∷ []
+refusals (countList w c s b) e =
+    noClient c gives 20
+    ∷ not (eqb (length s % itemSize) 0) gives 13
+    ∷ ltb 65535 (itemCount s) gives 10
+    ∷ ltb (length b) (itemCount s) gives 15
+    ∷ []
 refusals (simplePing s) e = (eqb s 0 || not (isLiveSet e s)) gives 11 ∷ []
 refusals (complexPing s n adds dels) e =
     (tooMany adds || tooMany dels) gives 10
@@ -210,6 +217,24 @@ decreased c p q = atCounts c (λ (n : ℕ). n - p) (λ (n : ℕ). n - q)
 abbrev pub emptied : ℕ → Interface → Interface
 emptied c = atCount (suc c) (λ (n : ℕ). 0)
 
+-- references counted, one way or the other
+abbrev pub counted : Counting → ℕ → Guid → ℕ → ℕ → Entries → Entries
+counted adding c i p q e = atInterface i (increased c p q) e
+counted releasing c i p q e = dropEmpty (atInterface i (decreased c p q) e)
+
+-- an item done: the entries as they are where its call is refused
+abbrev pub itemDone : Counting → ℕ → Item → Entries → Entries
+itemDone w c t e = cond (eqb (number (itemCall w c t) e) 0) (counted w c (t .ipid) (t .public) (t .private) e) e
+
+-- items done one by one from the left, and their numbers
+unfoldable pub itemsDone : Counting → ℕ → List Item → Entries → Entries
+itemsDone w c [] e = e
+itemsDone w c (t ∷ ts) e = itemsDone w c ts (itemDone w c t e)
+
+unfoldable pub itemNumbers : Counting → ℕ → List Item → Entries → List ℕ
+itemNumbers w c [] e = []
+itemNumbers w c (t ∷ ts) e = number (itemCall w c t) e ∷ itemNumbers w c ts (itemDone w c t e)
+
 unfoldable pub next : Call → Entries → Entries
 next (reset t) e = fresh t
 next (enterExporter x u b) e = withExporters (e .exporters ++ (record { oxid = x; unknown = u; bindings = b } ∷ [])) e
@@ -221,9 +246,10 @@ next (enterObject o x i iid n np) e =
     (withInterfaces (e .interfaces ++ (record { ipid = i; iid = iid; object = o; counts = enteredCounts n } ∷ [])) e)
 next (enterInterface o i iid n) e =
     withInterfaces (e .interfaces ++ (record { ipid = i; iid = iid; object = o; counts = enteredCounts n } ∷ [])) e
-next (add c i p q) e = atInterface i (increased c p q) e
-next (release c i p q) e = dropEmpty (atInterface i (decreased c p q) e)
+next (add c i p q) e = counted adding c i p q e
+next (release c i p q) e = counted releasing c i p q e
 next (dropClient c) e = dropEmpty (atInterfaces anyIpid (emptied c) e)
+next (countList w c s b) e = itemsDone w c (itemsOf s) e
 next (simplePing s) e = ping s e
 next (complexPing s n adds dels) e =
     let k : ℕ = setMeant s (e .next) in
@@ -279,6 +305,8 @@ results (enterInterface o i iid n) e = only []
 results (add c i p q) e = only []
 results (release c i p q) e = only (releaseValues c i p q e (next (release c i p q) e))
 results (dropClient c) e = only []
+-- a byte for each item at the front of the buffer
+results (countList w c s b) e = record { values = []; part = []; front = itemNumbers w c (itemsOf s) e; buffer = b }
 results (simplePing s) e = only []
 -- the set's number, and the backoff factor
 results (complexPing s n adds dels) e = only (setMeant s (e .next) ∷ 0 ∷ [])

@@ -3,7 +3,7 @@
 
 use plain::bytes as pb;
 use plain::table as pt;
-use rimonakh::{Block, Guid, Oid, Oxid, Reference, SetId, Table};
+use rimonakh::{Block, Guid, Item, Oid, Oxid, Reference, SetId, Table};
 use std::hint::black_box;
 use std::time::Instant;
 
@@ -137,6 +137,22 @@ fn references(n: u16, calls: u32) {
     );
 }
 
+/// Items in one list.
+const LIST: usize = 1000;
+
+/// The bytes of a list of items of live interfaces, in no order, each with one public and two private references.
+fn items() -> Vec<u8> {
+    let item = |k: u64| {
+        Item {
+            ipid: guid(ipid(spread(k) >> 40 & 255)),
+            public: 1,
+            private: 2,
+        }
+        .to_bytes()
+    };
+    (0..LIST as u64).flat_map(item).collect()
+}
+
 fn tables() {
     let (words, store) = full_table();
     let mut table = Table::over(words.clone(), store.clone());
@@ -174,6 +190,36 @@ fn tables() {
             keep(pt::release(&mut w, &s, 0, black_box(i), 2, 1));
         },
     );
+    let items = items();
+    let (mut ours, mut theirs) = ([0; LIST], [0; LIST]);
+    measure(
+        "1,000 adds, then 1,000 releases, in two lists",
+        500 / TURNS as u32,
+        || {
+            keep(table.add_list(2, black_box(&items), &mut ours));
+            keep(table.release_list(2, black_box(&items), &mut ours));
+        },
+        || {
+            keep(pt::count_list(
+                &mut w,
+                &s,
+                false,
+                2,
+                black_box(&items),
+                &mut theirs,
+            ));
+            keep(pt::count_list(
+                &mut w,
+                &s,
+                true,
+                2,
+                black_box(&items),
+                &mut theirs,
+            ));
+        },
+    );
+    assert_eq!(ours, theirs);
+    assert_eq!(ours, [0; LIST]);
     let members: Vec<u64> = (0..20).map(|i| spread(6 * i)).collect();
     let oids: Vec<Oid> = members.iter().copied().map(Oid).collect();
     let (mut ours, mut theirs) = (1, 1);

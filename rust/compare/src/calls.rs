@@ -8,7 +8,7 @@ use crate::shrink::shrink;
 use crate::subject::Subject;
 use crate::tally::Tally;
 use crate::Differs;
-use model::entries::{Entries, Interface, OBJECTS};
+use model::entries::{Entries, Interface, Way, OBJECTS};
 use model::Guid;
 use std::marker::PhantomData;
 use std::panic::{catch_unwind, AssertUnwindSafe};
@@ -103,6 +103,10 @@ impl<S: Subject> Pair<S> {
                 answer.number
             ));
         }
+        if let (Op::CountList { .. }, 0) = (call, answer.number) {
+            self.cut_list(call, &answer.bytes)?;
+            self.tally.event("lists cut and done one by one");
+        }
         if answer.number == 0 {
             let left = decode::entries(self.words(), self.store());
             if !decode::same(&left, &self.side.entries) {
@@ -110,6 +114,71 @@ impl<S: Subject> Pair<S> {
             }
             if !self.side.entries.sound() {
                 return Err("the model is not sound".to_string());
+            }
+        }
+        Ok(())
+    }
+}
+
+impl<S: Subject> Pair<S> {
+    /// The same accepted list from the memory before it, cut between items and done in turn, and item by item by the single
+    /// calls: results and live entries are the same.
+    fn cut_list(&self, list: &Op, results: &[u8]) -> Result<(), String> {
+        let Op::CountList {
+            way, client, items, ..
+        } = list
+        else {
+            return Ok(());
+        };
+        let n = items.len() / 24;
+        if n > 100 {
+            return Ok(()); // the longest lists have one item many times
+        }
+        let left = decode::entries(self.words(), self.store());
+        let part = |items: &[u8]| Op::CountList {
+            way: *way,
+            client: *client,
+            items: items.to_vec(),
+            room: items.len() / 24,
+        };
+        let single = |item: &[u8]| {
+            let count = |at: usize| u32::from_le_bytes(item[at..at + 4].try_into().unwrap());
+            let (ipid, public, private) = (item[..16].try_into().unwrap(), count(16), count(20));
+            let client = *client;
+            match way {
+                Way::Add => Op::Add {
+                    client,
+                    ipid,
+                    public,
+                    private,
+                },
+                Way::Release => Op::Release {
+                    client,
+                    ipid,
+                    public,
+                    private,
+                },
+            }
+        };
+        let cut = 24 * (results.iter().map(|b| *b as usize).sum::<usize>() % (n + 1));
+        let parts = vec![part(&items[..cut]), part(&items[cut..])];
+        let singles: Vec<Op> = items.chunks(24).map(single).collect();
+        for (ops, what) in [(parts, "cut"), (singles, "one by one")] {
+            let mut memory = self.before.clone();
+            let (words, store) = (&mut memory.words[..LENGTH], &mut memory.store[..LENGTH]);
+            let mut joined = Vec::new();
+            for op in &ops {
+                let reply = S::perform(words, store, op);
+                match op {
+                    Op::CountList { .. } => joined.extend(reply.bytes),
+                    _ => joined.push(reply.number as u8),
+                }
+            }
+            if joined != results[..n] || !decode::same(&decode::entries(words, store), &left) {
+                return Err(format!(
+                    "{what}: results {joined:?} for {:?}",
+                    &results[..n]
+                ));
             }
         }
         Ok(())

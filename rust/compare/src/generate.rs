@@ -3,7 +3,7 @@
 use crate::decode;
 use crate::op::Op;
 use crate::random::Random;
-use model::entries::{Entries, EXPORTERS, INTERFACES, OBJECTS, SETS};
+use model::entries::{Entries, Way, EXPORTERS, INTERFACES, OBJECTS, SETS};
 use model::Guid;
 use std::ops::Range;
 
@@ -181,6 +181,36 @@ impl Pools {
         number.to_le_bytes()
     }
 
+    /// A list of items; now and then its length or its results' are off, or it has as many items as a list may have, or more.
+    fn count_list(&self, random: &mut Random) -> Op {
+        let counts = [0, 1, 1, 2, 3, u32::MAX];
+        let way = random.pick(&[Way::Add, Way::Add, Way::Release]);
+        let mut items: Vec<u8> = Vec::new();
+        for _ in 0..random.pick(&[0, 1, 2, 3, 5, 9, 30]) {
+            items.extend(self.guid(random));
+            items.extend(random.pick(&counts).to_le_bytes());
+            items.extend(random.pick(&counts).to_le_bytes());
+        }
+        if random.once_in(60) && items.len() >= 24 {
+            let item = items[..24].to_vec();
+            items = item.repeat(random.pick(&[65_535, 65_536]));
+        }
+        if random.once_in(12) {
+            items.extend(random.bytes(1));
+        } else if random.once_in(12) {
+            items.pop();
+        }
+        let n = items.len() / 24;
+        let room = random.pick(&[n, n, n, n + 1, n + 7, n.saturating_sub(1)]);
+        let client = self.client(random);
+        Op::CountList {
+            way,
+            client,
+            items,
+            room,
+        }
+    }
+
     /// Mostly one of three clients; now and then another, or none.
     fn client(&self, random: &mut Random) -> u32 {
         if random.once_in(30) {
@@ -305,7 +335,7 @@ impl Pools {
                 iid: self.guid(random),
                 public: random.pick(&counts),
             },
-            40..=47 => Op::Add {
+            40..=45 => Op::Add {
                 client: self.client(random),
                 ipid: self.guid(random),
                 public: random.pick(&counts),
@@ -317,6 +347,7 @@ impl Pools {
                 public: random.pick(&counts),
                 private: random.pick(&counts),
             },
+            46 | 47 => self.count_list(random),
             58 if random.once_in(self.calm) => Op::DropClient(self.client(random)),
             48..=60 => Op::SimplePing(self.set(random, e)),
             61..=77 => {

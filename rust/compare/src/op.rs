@@ -1,7 +1,7 @@
 //! A step of a run: a call with its arguments, or a change of the memory behind the library's back.
 
 use crate::decode;
-use model::entries::{Counts, Entries, Stop};
+use model::entries::{Counts, Entries, Stop, Way};
 use model::Guid;
 
 #[derive(Clone, Debug)]
@@ -40,6 +40,13 @@ pub enum Op {
         private: u32,
     },
     DropClient(u32),
+    /// A list of items, with a buffer of so many bytes for results.
+    CountList {
+        way: Way,
+        client: u32,
+        items: Vec<u8>,
+        room: usize,
+    },
     SimplePing(u64),
     ComplexPing {
         set: u64,
@@ -112,6 +119,7 @@ impl Op {
                     Op::Release { .. } | Op::Clock(_) | Op::Census => (4, 0),
                     Op::ComplexPing { .. } => (2, 0),
                     Op::Resolve { room, .. } => (3, *room),
+                    Op::CountList { room, .. } => (0, *room),
                     Op::Members(_) | Op::NextStop(_) => (1, 0),
                     _ => (0, 0),
                 };
@@ -181,6 +189,16 @@ impl Side {
                 private,
             } => e.add(client, ipid, public, private).map(none),
             Op::DropClient(client) => e.drop_client(client).map(none),
+            Op::CountList {
+                way,
+                client,
+                ref items,
+                room,
+            } => {
+                let mut out = buffer(room);
+                e.count_list(way, client, items, &mut out)
+                    .map(|()| (vec![], out))
+            }
             Op::Release {
                 client,
                 ipid,

@@ -1,6 +1,7 @@
 //! What is compared with the model: the library, and plain Rust over the same array and store.
 
 use crate::op::{buffer, halves, Op, Reply, Results};
+use model::entries::Way;
 use model::Guid;
 use plain::table as p;
 use rimonakh::{ffi, Error, Oid, Oxid, SetId, Stop, Table};
@@ -62,6 +63,22 @@ impl Subject for Library {
                 private,
             } => table.add(client, guid(ipid), public, private).map(none),
             Op::DropClient(client) => table.drop_client(client).map(none),
+            Op::CountList {
+                way,
+                client,
+                ref items,
+                room,
+            } => {
+                let mut out = buffer(room);
+                let done = match way {
+                    Way::Add => table.add_list(client, items, &mut out),
+                    Way::Release => table.release_list(client, items, &mut out),
+                };
+                if done.is_err() {
+                    assert_eq!(out, buffer(room), "a refused list leaves its results");
+                }
+                done.map(|()| (vec![], out))
+            }
             Op::Release {
                 client,
                 ipid,
@@ -218,6 +235,15 @@ impl Subject for Plain {
                 private,
             } => p::add(words, store, client, guid(ipid), public, private).map(none),
             Op::DropClient(client) => p::drop_client(words, store, client).map(none),
+            Op::CountList {
+                way,
+                client,
+                ref items,
+                room,
+            } => {
+                let (back, mut out) = (way == Way::Release, buffer(room));
+                p::count_list(words, store, back, client, items, &mut out).map(|()| (vec![], out))
+            }
             Op::Release {
                 client,
                 ipid,

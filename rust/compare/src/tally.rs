@@ -14,7 +14,7 @@ const NUMBERS: [u32; 23] = [
 ];
 
 /// What runs of calls have to reach.
-const EVENTS: [&str; 15] = [
+const EVENTS: [&str; 16] = [
     "exporters full",
     "objects or interfaces full at an object",
     "interfaces full",
@@ -24,6 +24,7 @@ const EVENTS: [&str; 15] = [
     "objects released",
     "interfaces kept by another client",
     "objects dropped with a client",
+    "lists cut and done one by one",
     "exporters removed",
     "sequence numbers wrapped",
     "members of a full table",

@@ -45,6 +45,13 @@ impl Interface {
     }
 }
 
+/// What a list of items does.
+#[derive(Clone, Copy, Debug, PartialEq, Eq)]
+pub enum Way {
+    Add,
+    Release,
+}
+
 /// The index of a client, or 20.
 fn client_index(client: u32) -> Result<usize, u32> {
     let index = client as usize;
@@ -318,6 +325,37 @@ impl Entries {
             interface_went: after.interfaces < before.interfaces,
             object_went: after.objects < before.objects,
         })
+    }
+
+    /// Adds or releases by items of 24 bytes, one by one from the left. The number of each goes to its byte of `results`.
+    pub fn count_list(
+        &mut self,
+        way: Way,
+        client: u32,
+        items: &[u8],
+        results: &mut [u8],
+    ) -> Result<(), u32> {
+        client_index(client)?;
+        if items.len() % 24 != 0 {
+            return Err(13);
+        }
+        if items.len() / 24 > 65_535 {
+            return Err(10);
+        }
+        if results.len() < items.len() / 24 {
+            return Err(15);
+        }
+        for (item, result) in items.chunks(24).zip(results) {
+            let ipid: Guid = item[..16].try_into().unwrap();
+            let public = u32::from_le_bytes(item[16..20].try_into().unwrap());
+            let private = u32::from_le_bytes(item[20..].try_into().unwrap());
+            let done = match way {
+                Way::Add => self.add(client, ipid, public, private),
+                Way::Release => self.release(client, ipid, public, private).map(|_| ()),
+            };
+            *result = done.err().unwrap_or(0) as u8;
+        }
+        Ok(())
     }
 
     /// Takes every private reference of a client.

@@ -9,6 +9,7 @@ pub const BYTES: usize = 8192;
 const SLOT: usize = 512;
 const TIMEOUT: u64 = 360;
 const CLIENTS: usize = 8;
+const ITEM: usize = 24;
 
 const CLOCK: usize = 0;
 const NEXT_SET: usize = 1;
@@ -380,6 +381,16 @@ pub fn add(
 ) -> Result<(), u32> {
     judged(words, store)?;
     let column = private_column(client)?;
+    add_counts(words, column, ipid, public, private)
+}
+
+fn add_counts(
+    words: &mut [u64],
+    column: usize,
+    ipid: Guid,
+    public: u32,
+    private: u32,
+) -> Result<(), u32> {
     let row = find_ipid(words, ipid).ok_or(6u32)?;
     let (p, q) = (INTERFACES.at(PUBLIC, row), INTERFACES.at(column, row));
     let more_public = (words[p] as u32).checked_add(public).ok_or(8u32)?;
@@ -399,6 +410,16 @@ pub fn release(
 ) -> Result<Released, u32> {
     judged(words, store)?;
     let column = private_column(client)?;
+    take_counts(words, column, ipid, public, private)
+}
+
+fn take_counts(
+    words: &mut [u64],
+    column: usize,
+    ipid: Guid,
+    public: u32,
+    private: u32,
+) -> Result<Released, u32> {
     let row = find_ipid(words, ipid).ok_or(6u32)?;
     let (p, q) = (INTERFACES.at(PUBLIC, row), INTERFACES.at(column, row));
     let public = public.min(words[p] as u32);
@@ -413,6 +434,41 @@ pub fn release(
         interface_went,
         object_went,
     })
+}
+
+/// Adds, or gives back, by a list of items of 24 bytes; the table is judged once.
+pub fn count_list(
+    words: &mut [u64],
+    store: &[u8],
+    back: bool,
+    client: u32,
+    items: &[u8],
+    results: &mut [u8],
+) -> Result<(), u32> {
+    judged(words, store)?;
+    let column = private_column(client)?;
+    if !items.len().is_multiple_of(ITEM) {
+        return Err(13);
+    }
+    if items.len() / ITEM > 65_535 {
+        return Err(10);
+    }
+    if results.len() < items.len() / ITEM {
+        return Err(15);
+    }
+    for (item, result) in items.chunks_exact(ITEM).zip(results) {
+        let half = |at: usize| u64::from_le_bytes(item[at..at + 8].try_into().unwrap());
+        let count = |at: usize| u32::from_le_bytes(item[at..at + 4].try_into().unwrap());
+        let (low, high, public, private) = (half(0), half(8), count(16), count(20));
+        let ipid = Guid { low, high };
+        let done = if back {
+            take_counts(words, column, ipid, public, private).map(|_| ())
+        } else {
+            add_counts(words, column, ipid, public, private)
+        };
+        *result = done.err().unwrap_or(0) as u8;
+    }
+    Ok(())
 }
 
 /// Removes an interface, and its object where that has no other; whether the object went.

@@ -224,6 +224,28 @@ extern "C" {
         public: u32,
         private: u32,
     ) -> Released;
+    pub fn rimonakh_add_list(
+        words: *mut u64,
+        words_len: usize,
+        store: *const u8,
+        store_len: usize,
+        client: u32,
+        items: *const u8,
+        items_len: usize,
+        results: *mut u8,
+        results_len: usize,
+    ) -> u32;
+    pub fn rimonakh_release_list(
+        words: *mut u64,
+        words_len: usize,
+        store: *const u8,
+        store_len: usize,
+        client: u32,
+        items: *const u8,
+        items_len: usize,
+        results: *mut u8,
+        results_len: usize,
+    ) -> u32;
     pub fn rimonakh_drop_client(
         words: *mut u64,
         words_len: usize,

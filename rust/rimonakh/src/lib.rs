@@ -41,7 +41,7 @@ mod table;
 pub use bytes::{list, Block, OrpcThat, OrpcThis, Part, Reference};
 pub use error::{wire_code, Error};
 pub use ids::{Guid, Oid, Oxid, SetId};
-pub use table::{Counts, Pinged, Released, Resolved, Stop, Table, BYTES, WORDS};
+pub use table::{Counts, Item, Pinged, Released, Resolved, Stop, Table, BYTES, WORDS};
 
 /// `Ok` is answer 0.
 pub type Result<T> = std::result::Result<T, Error>;

@@ -28,6 +28,27 @@ pub struct Released {
     pub object_went: bool,
 }
 
+/// An item of a list of adds or releases (REMINTERFACEREF): an interface, and public and private references.
+#[derive(Clone, Copy, Debug, PartialEq, Eq)]
+pub struct Item {
+    pub ipid: Guid,
+    pub public: u32,
+    pub private: u32,
+}
+
+impl Item {
+    /// The length of an item, in bytes.
+    pub const SIZE: usize = 24;
+
+    pub fn to_bytes(self) -> [u8; Item::SIZE] {
+        let mut bytes = [0; Item::SIZE];
+        bytes[..16].copy_from_slice(&self.ipid.0);
+        bytes[16..20].copy_from_slice(&self.public.to_le_bytes());
+        bytes[20..].copy_from_slice(&self.private.to_le_bytes());
+        bytes
+    }
+}
+
 /// The number of the set that was pinged, and the backoff factor.
 #[repr(C)]
 #[derive(Clone, Copy, Debug, PartialEq, Eq)]
@@ -245,6 +266,45 @@ where
             object_went: r.objects != 0,
         };
         answered(r.answer, released)
+    }
+
+    /// Adds references by a list of items' bytes for a client, one by one from the left. The number of each item is written to
+    /// its byte at the front of `results`, whose rest is kept; 6 and 8 belong to one item and do not stop the rest.
+    pub fn add_list(&mut self, client: u32, items: &[u8], results: &mut [u8]) -> Result<()> {
+        let (words, store) = (self.words.as_mut(), self.store.as_ref());
+        let number = unsafe {
+            ffi::rimonakh_add_list(
+                words.as_mut_ptr(),
+                words.len(),
+                store.as_ptr(),
+                store.len(),
+                client,
+                items.as_ptr(),
+                items.len(),
+                results.as_mut_ptr(),
+                results.len(),
+            )
+        };
+        answered(number, ())
+    }
+
+    /// Gives references back by a list of items' bytes, likewise.
+    pub fn release_list(&mut self, client: u32, items: &[u8], results: &mut [u8]) -> Result<()> {
+        let (words, store) = (self.words.as_mut(), self.store.as_ref());
+        let number = unsafe {
+            ffi::rimonakh_release_list(
+                words.as_mut_ptr(),
+                words.len(),
+                store.as_ptr(),
+                store.len(),
+                client,
+                items.as_ptr(),
+                items.len(),
+                results.as_mut_ptr(),
+                results.len(),
+            )
+        };
+        answered(number, ())
     }
 
     /// Drops every private reference of a client, 0 to 7. What is left without references goes as in a release.

@@ -12,6 +12,8 @@
 //!     N words bytes CALL      a call that is lent the first so many words and bytes
 //!     J  R time  C  M set  X oxid unknown list  D oxid  O oid oxid ipid iid public no-ping  I oid ipid iid public
 //!     A client ipid public private  L client ipid public private  Y client (its drop)  S set  Q set sequence n adds.. m deletes..  K time  V oxid room  T reference
+//!     a client room items  l client room items  whole lists of adds and of releases, the items in hex
+//!     z way client room n bytes item  such a list (0 adds, 1 releases) of n times the item and so many bytes more
 //!     Z set sequence oid n m  a complex ping with n times the oid on its list of adds and m times on that of deletes
 //!
 //! J is whether the table is sound. A GUID is its two halves; lists and references are in hex. After an answer stands " kept"
@@ -23,7 +25,7 @@ use crate::model_side::Model;
 use crate::op::{buffer, Op};
 use crate::subject::{Library, Subject};
 use model::bytes::read_reference;
-use model::entries::{Entries, Exporter, Interface, Object, PingSet};
+use model::entries::{Entries, Exporter, Interface, Object, PingSet, Way};
 use std::fmt::Write;
 
 /// Where a next stop stands: whether in the store, from, to.
@@ -70,6 +72,8 @@ const ANSWERS: Answers = &[
     (b'A', &[0, 1, 20, 6, 8]),
     (b'L', &[0, 1, 20, 6]),
     (b'Y', &[0, 1, 20]),
+    (b'a', &[0, 1, 20, 13, 10, 15]),
+    (b'l', &[0, 1, 20, 13, 10, 15]),
     (b'S', &[0, 1, 11]),
     (b'Q', &[0, 1, 10, 11, 12, 5, 9, 18]),
     (b'K', &[0, 1, 2]),
@@ -272,6 +276,29 @@ fn called<S: Stops>(
             private: a.narrow(),
         },
         b'Y' => Op::DropClient(a.narrow()),
+        b'a' | b'l' => Op::CountList {
+            way: if letter == b'a' {
+                Way::Add
+            } else {
+                Way::Release
+            },
+            client: a.narrow(),
+            room: a.number() as usize,
+            items: a.bytes(),
+        },
+        b'z' => {
+            let way = [Way::Add, Way::Release][a.number() as usize];
+            let (client, room) = (a.narrow(), a.number() as usize);
+            let (n, more) = (a.number() as usize, a.number() as usize);
+            let mut items = a.bytes().repeat(n);
+            items.resize(items.len() + more, 0);
+            Op::CountList {
+                way,
+                client,
+                room,
+                items,
+            }
+        }
         b'L' => Op::Release {
             client: a.narrow(),
             ipid: a.guid(),
@@ -303,7 +330,13 @@ fn called<S: Stops>(
         other => panic!("no such line: {}", other as char),
     };
     let r = S::perform(words, store, &op);
-    seen.insert((if letter == b'Z' { b'Q' } else { letter }, r.number));
+    let asked = match (letter, &op) {
+        (b'Z', _) => b'Q',
+        (_, Op::CountList { way: Way::Add, .. }) => b'a',
+        (_, Op::CountList { .. }) => b'l',
+        _ => letter,
+    };
+    seen.insert((asked, r.number));
     let v = &r.values;
     let mut out = match (letter, &op) {
         (b'J', _) => if r.number == 1 { "unsound" } else { "sound" }.to_string(),
@@ -332,6 +365,15 @@ fn called<S: Stops>(
                 hex(&r.bytes[..length])
             )
         }
+        (_, Op::CountList { items, room, .. }) => {
+            let n = if r.number == 0 { items.len() / 24 } else { 0 };
+            assert_eq!(
+                r.bytes[n..],
+                buffer(*room)[n..],
+                "the rest of the results is kept"
+            );
+            format!("{} results {}", r.number, runs_of(&r.bytes[..n]))
+        }
         (_, Op::NextStop(reference)) => {
             let (in_store, from, to) = S::stop(words, store, reference, &r);
             let from_which = if in_store { "store" } else { "reference" };
@@ -343,6 +385,15 @@ fn called<S: Stops>(
         out += " kept";
     }
     out + "\n"
+}
+
+/// The numbers of items, each run of the same ones as one: `3x0 6` for 0, 0, 0, 6.
+fn runs_of(results: &[u8]) -> String {
+    let runs = results.chunk_by(|a, b| a == b).map(|run| match run.len() {
+        1 => run[0].to_string(),
+        n => format!("{n}x{}", run[0]),
+    });
+    runs.collect::<Vec<String>>().join(" ")
 }
 
 /// The live entries, one to a line: the words of each row in hex.

@@ -1,0 +1,48 @@
+-- `listing::add_list`: a table that is not sound is refused; else the step is the call.
+use mathlib.Core.Path.{_≡_, refl}
+use native.Mathlib.Omega.{arith}
+use lib.ListN.{length}
+use Rattle.rules.specs.Rules.{results, refused}
+use Rattle.calls.proofs.Calls.{sound-table, unsound-call, stepped-call}
+use borrow.Author.Needs.{needs}
+use Rattle.listing.proofs.add_list.Statement.{statement}
+use Rattle.listing.proofs.add_list.Tie as tie
+
+sound-requires : tie.Need-sound-requires
+sound-requires c κs = search needs
+
+same-length : tie.Need-same-length
+same-length c = search needs
+
+returns : tie.Need-returns
+unfolding refused results
+returns c = unsound-call (c .before .sound .ensures) _ refl (c .if1 .taken)
+
+list-step-requires : tie.Need-list-step-requires
+list-step-requires c κs = sound-table (c .before .before .before .sound .ensures) (c .before .before .if1 .left)
+
+same-length-2 : tie.Need-same-length-2
+same-length-2 c = search needs
+
+same-length-3 : tie.Need-same-length-3
+same-length-3 c = search needs
+
+returns-2 : tie.Need-returns-2
+returns-2 c =
+    let judged = c .before .before .before .before .before .before .before .before .sound .ensures in
+    let left = c .before .before .before .before .before .before .before .if1 .left in
+    let t = sound-table judged left in
+    let words : length (c .before .before .before .before .list-step .last .0) ≡ 8192 = omega arith in
+    stepped-call judged _ refl left (c .before .before .before .before .list-step .ensures) words (t .store)
+
+pub add-list-spec : {M : Type 1} → statement M
+add-list-spec =
+    tie.close
+    (tie.spec
+    sound-requires
+    same-length
+    returns
+    list-step-requires
+    same-length-2
+    same-length-3
+    returns-2)

@@ -1,0 +1,106 @@
+// Whole lists of adds and releases: items of 24 bytes, an IPID and two counts, as RemAddRef and RemRelease carry them.
+use kinds::answer;
+use table::judge;
+ghost use mathlib.Core.Path.{_≡_};
+ghost use Prim.Native.Nat.{ℕ, _≤_, _<_};
+ghost use Rattle.rules.specs.Calls.{Call, adding, releasing};
+ghost use Rattle.rules.specs.Items.{itemAt};
+ghost use Rattle.table.specs.View.{memory, SoundTable, Stepped, Performed};
+ghost use Rattle.listing.specs.Listing.{wayOf, listReply, ItemStepped};
+
+// Adds references by a list of items for a client, and writes the number of each item to its byte of buffer, whose rest is kept:
+// 0, or 1; 20; 13; 10; 15. An item's own number is 0, 6 or 8, and does not stop the rest.
+pub fn add_list<'a>(
+    words: &'a mut [u64],
+    store: &'a [u8],
+    client: u32,
+    items: &'a [u8],
+    buffer: &'a mut [u8],
+) -> u32
+    ensures { λ r. ⌜
+        Performed (Call.countList adding client (now (items .entry)) (now (buffer .entry))) (memory (now (words .entry)) (now (store .entry)))
+        (listReply r (now (buffer .exit))) (memory (now (words .exit)) (now (store .entry))) ⌝ }
+{
+    if !judge::sound(words, store) {
+        return answer::UNSOUND;
+    }
+    list_step(words, store, false, client, items, buffer)
+}
+
+// Gives references back by a list of items, likewise.
+pub fn release_list<'a>(
+    words: &'a mut [u64],
+    store: &'a [u8],
+    client: u32,
+    items: &'a [u8],
+    buffer: &'a mut [u8],
+) -> u32
+    ensures { λ r. ⌜
+        Performed (Call.countList releasing client (now (items .entry)) (now (buffer .entry))) (memory (now (words .entry)) (now (store .entry)))
+        (listReply r (now (buffer .exit))) (memory (now (words .exit)) (now (store .entry))) ⌝ }
+{
+    if !judge::sound(words, store) {
+        return answer::UNSOUND;
+    }
+    list_step(words, store, true, client, items, buffer)
+}
+
+// A list on a sound table: given back, or else added.
+pub fn list_step<'a>(
+    words: &'a mut [u64],
+    store: &'a [u8],
+    back: bool,
+    client: u32,
+    items: &'a [u8],
+    buffer: &'a mut [u8],
+) -> u32
+    requires { ⌜ SoundTable (memory (now words) (now store)) ⌝ }
+    ensures { λ r. ⌜
+        Stepped (Call.countList (wayOf back) client (now (items .entry)) (now (buffer .entry))) (memory (now (words .entry)) (now (store .entry)))
+        (listReply r (now (buffer .exit))) (memory (now (words .exit)) (now (store .entry))) ⌝ }
+{
+    if 7 < client {
+        return answer::NO_CLIENT;
+    }
+    if items.len() % 24 != 0 {
+        return answer::SHORT;
+    }
+    let n = items.len() / 24;
+    if 65535 < n {
+        return answer::TOO_MANY;
+    }
+    if buffer.len() < n {
+        return answer::NO_ROOM;
+    }
+    let mut k = 0;
+    while k < n {
+        let number = item_step(words, store, back, client, items, k);
+        buffer[k] = number as u8;
+        k += 1;
+    }
+    answer::DONE
+}
+
+// Item k of a list.
+fn item_step<'a>(
+    words: &'a mut [u64],
+    store: &'a [u8],
+    back: bool,
+    client: u32,
+    items: &'a [u8],
+    k: usize,
+) -> u32
+    requires { ⌜ SoundTable (memory (now words) (now store)) × (k < 65535) × (client ≤ 7) ⌝ }
+    ensures { λ r. ⌜
+        ItemStepped (wayOf back) client (itemAt (now (items .entry)) k) (memory (now (words .entry)) (now (store .entry)))
+        r (memory (now (words .exit)) (now (store .entry))) ⌝ }
+{
+    let ipid = fields::read_guid(items, 24 * k);
+    let public = fields::read_u32(items, 24 * k + 16);
+    let private = fields::read_u32(items, 24 * k + 20);
+    if back {
+        let released = counting::release_step(words, store, client, ipid, public, private);
+        return released.answer;
+    }
+    counting::add_step(words, store, client, ipid, public, private)
+}
