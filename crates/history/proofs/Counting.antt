@@ -11,15 +11,14 @@ use Rattle.kinds.proofs.Refusing.{by-test}
 use Rattle.lists.specs.Lists.{keep, some, every}
 use Rattle.lists.specs.Guids.{sameGuid}
 use Rattle.lists.proofs.Tests.{true-or-false, and-right}
-use Rattle.lists.proofs.Lists.{every-map, every-mono, some-map, some-keep, some-not, keep-map, keep-all, keep-keep, map-unread}
+use Rattle.lists.proofs.Lists.{every-map, every-mono, some-map, some-keep, some-not, keep-map, keep-keep, map-unread}
 use Rattle.lists.proofs.Distinct.{eqb-decides}
 use Rattle.rules.specs.Entries.{Interface, Entries, withInterfaces, atCount, atCounts}
 use Rattle.rules.specs.Calls.{add, release, dropClient}
 use Rattle.rules.specs.Sound.{sound, held, hasInterface}
 use Rattle.rules.specs.Rules.{anyIpid, number, next, atInterfaces, withoutObjects, dropEmpty}
-use Rattle.rules.proofs.SoundLaws.{sound-fields}
 use Rattle.rules.proofs.Keeps.{keeps}
-use Rattle.rules.proofs.ByRow.{nothing-goes}
+use Rattle.rules.proofs.ByRow.{full-kept}
 use Rattle.history.specs.History.{ObjectLife, Account, InterfaceLife, History, atZero, interfacesAtZero, exporterRemoved, unheard, objectGone, liveExporters, liveObjects, liveInterface, exporterEntry, objectEntry, interfaceEntry, live, atAccount, atAccounts, atLiveInterfaces, lived}
 use Rattle.lists.proofs.Elements.{In, map-in, in-some, some-in, keep-in, in-keep, keep-ext-in, kept-changed, one-in}
 use Rattle.history.proofs.Lives.{Kept, kept-from, Bounded, still}
@@ -223,13 +222,6 @@ unfolding lived next
 drop-step h k c a =
     let w = accountChange h takes-all (suc c) in
     stepped (dropClient c) h k a (change-entries h k anyIpid _ _ w) (count-kept h k anyIpid _ _ w)
-
--- from sound entries nothing is dropped
-full-kept : (e : Entries) → sound e ≡ true → dropEmpty e ≡ e
-full-kept e s =
-    let g = sound-fields e s in
-    ap (λ (is : List Interface). withoutObjects (hasInterface (withInterfaces is e)) (withInterfaces is e)) (keep-all held (e .interfaces) (g .counted))
-    ∙ nothing-goes (hasInterface e) e (g .haveInterfaces) (g .objectsNamed) (g .membersNamed)
 
 -- add
 pub add-step : (h : History) → Kept h → (c : ℕ) (i : Guid) (p q : ℕ) → number (add c i p q) (live h) ≡ 0 → Step (add c i p q) h

@@ -14,3 +14,4 @@ pub mod Staying
 pub mod Room
 pub mod Demands
 pub mod Runs
+pub mod Orders

@@ -36,7 +36,7 @@ fits c m s =
     (λ u. and-left (rightLengths m) (sound (view m)) s u && (lengthsOnly c || and-right (rightLengths m) (sound (view m)) s u)) ∙ or-true (lengthsOnly c)
 
 -- it is answered by the rules
-replied : (c : Call) (m : Memory) → soundMemory m ≡ true → replyTo view c m ≡ reply c (view m)
+pub replied : (c : Call) (m : Memory) → soundMemory m ≡ true → replyTo view c m ≡ reply c (view m)
 unfolding replyTo
 replied c m s = ap (λ (b : Bool). cond b (reply c (view m)) (refused 1 c (view m))) (fits c m s)
 

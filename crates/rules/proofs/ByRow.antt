@@ -20,7 +20,8 @@ use Rattle.lists.proofs.Guids.{guid-decides}
 use Rattle.rules.specs.Entries.{Exporter, Object, Interface, PingSet, Entries, oxids, oids, setNumbers, interfaceIpids, ipids, withExporters, withObjects, withInterfaces, withSets, withMembers, publicOf, privateOf}
 use Rattle.rules.specs.Calls.{removeExporter, add, release, clock}
 use Rattle.rules.specs.Sound.{held, hasInterface, sound}
-use Rattle.rules.specs.Rules.{isLiveExporter, isLiveObject, isLiveInterface, isLiveSet, noExporter, noInterface, noSet, exporterOf, interfaceOf, setOf, flag, withoutObjects, atInterface, increased, decreased, atSet, next, results, releaseValues}
+use Rattle.rules.specs.Rules.{dropEmpty, isLiveExporter, isLiveObject, isLiveInterface, isLiveSet, noExporter, noInterface, noSet, exporterOf, interfaceOf, setOf, flag, withoutObjects, atInterface, increased, decreased, atSet, next, results, releaseValues}
+use Rattle.rules.proofs.SoundLaws.{sound-fields}
 use Rattle.rules.proofs.Groups.{fine-distinct, grouped, serving-objects}
 use Rattle.rules.proofs.Leaving.{staysAt, setStaysAt}
 
@@ -135,6 +136,13 @@ nothing-goes stays e a b c =
 
     cut : List Object → PingSet → PingSet
     cut os s = withMembers (keep (among (map (λ (o : Object). o .oid) os)) (s .members)) s
+
+-- from sound entries nothing is dropped
+pub full-kept : (e : Entries) → sound e ≡ true → dropEmpty e ≡ e
+full-kept e s =
+    let g = sound-fields e s in
+    ap (λ (is : List Interface). withoutObjects (hasInterface (withInterfaces is e)) (withInterfaces is e)) (keep-all held (e .interfaces) (g .counted))
+    ∙ nothing-goes (hasInterface e) e (g .haveInterfaces) (g .objectsNamed) (g .membersNamed)
 
 -- ---- release
 

@@ -8,6 +8,7 @@ pub mod Leaving
 pub mod Pinging
 pub mod Keeps
 pub mod Listing
+pub mod EitherOrder
 pub mod ListLoop
 pub mod ByRow
 pub mod PingRows

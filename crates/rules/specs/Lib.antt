@@ -6,4 +6,5 @@ pub mod Rules
 pub mod PingRows
 pub mod Contract
 pub mod OneByOne
+pub mod EitherOrder
 pub mod Cases

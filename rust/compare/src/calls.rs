@@ -3,6 +3,7 @@
 use crate::decode;
 use crate::generate::Pools;
 use crate::op::{Op, Reply, Side};
+use crate::orders::either;
 use crate::random::Random;
 use crate::shrink::shrink;
 use crate::subject::Subject;
@@ -185,6 +186,24 @@ impl<S: Subject> Pair<S> {
     }
 }
 
+impl<S: Subject> Pair<S> {
+    /// Two calls from the memory as it is, in either order.
+    fn either_order(&mut self, pools: &Pools, random: &mut Random) -> Result<(), Differs> {
+        let Some((a, b)) = pools.pair(random, &self.side.entries) else {
+            return Ok(());
+        };
+        let moved = either::<S>(self.words(), self.store(), &a, &b).map_err(|difference| {
+            println!("FAILED: {} in another order: {difference}", S::NAME);
+            Differs
+        })?;
+        self.tally.event("pairs in either order");
+        if moved {
+            self.tally.event("notes moved to the later call");
+        }
+        Ok(())
+    }
+}
+
 impl<S> Pair<S> {
     /// The sequence number of the set that a complex ping names.
     fn last_sequence(&self, call: &Op) -> Option<u16> {
@@ -269,6 +288,9 @@ fn run<S: Subject>(seed: u64, length: usize, pokes: bool) -> Result<Tally, Diffe
             if let Err(difference) = done {
                 return Err(report::<S>(seed, &steps, &difference));
             }
+        }
+        if pair.side.sound && random.once_in(12) {
+            pair.either_order(&pools, &mut random)?;
         }
     }
     Ok(pair.tally)

@@ -211,6 +211,42 @@ impl Pools {
         }
     }
 
+    /// Two adds or releases on different IPIDs, mostly releases of all that two interfaces of one object have left.
+    pub fn pair(&self, random: &mut Random, e: &Entries) -> Option<(Op, Op)> {
+        let other = |a: Guid, random: &mut Random| {
+            let owner = e.interfaces.iter().find(|i| i.ipid == a)?.object;
+            let of_it = e.interfaces.iter().filter(|i| i.object == owner);
+            let beside: Vec<Guid> = of_it.map(|i| i.ipid).filter(|g| *g != a).collect();
+            (!beside.is_empty()).then(|| random.pick(&beside))
+        };
+        let a = match e.interfaces.len() {
+            0 => self.guid(random),
+            n => e.interfaces[random.below(n)].ipid,
+        };
+        let b = other(a, random).unwrap_or_else(|| self.guid(random));
+        let count = |random: &mut Random| random.pick(&[0, 1, 2, u32::MAX, u32::MAX]);
+        let call = |ipid: Guid, random: &mut Random| {
+            let client = self.client(random);
+            let (public, private) = (count(random), count(random));
+            if random.once_in(4) {
+                Op::Add {
+                    client,
+                    ipid,
+                    public,
+                    private,
+                }
+            } else {
+                Op::Release {
+                    client,
+                    ipid,
+                    public,
+                    private,
+                }
+            }
+        };
+        (a != b).then(|| (call(a, random), call(b, random)))
+    }
+
     /// Mostly one of three clients; now and then another, or none.
     fn client(&self, random: &mut Random) -> u32 {
         if random.once_in(30) {

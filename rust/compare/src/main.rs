@@ -11,6 +11,7 @@ mod generate;
 mod lines;
 mod model_side;
 mod op;
+mod orders;
 mod random;
 mod shrink;
 mod subject;
