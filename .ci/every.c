@@ -174,6 +174,12 @@ static void calls(void) {
     IS(found.unknown.low, 0x61);
     IS(found.unknown.high, 0x62);
     IS(memcmp(buffer, list, sizeof list), 0);
+    const uint16_t protocols[] = {8};
+    found = rimonakh_resolve_filtered(TABLE, 0x51, protocols, 1, buffer, sizeof buffer);
+    IS(found.answer, 0);
+    IS(found.length, sizeof list - 4);
+    IS(found.unknown.high, 0x62);
+    IS(buffer[2], 1);
     rimonakh_released gone = rimonakh_release(TABLE, 3, 0x71, 0x72, 9, 2);
     IS(gone.answer, 0);
     IS(gone.public_refs, 6);

@@ -91,6 +91,7 @@ static uint64_t take_up(const uint8_t *reference, size_t length) {
     rimonakh_block block = read.reference.block;
     rimonakh_resolved resolved;
     rimonakh_pinged pinged;
+    const uint16_t udp = 8;
     step("client: reads the reference", read.answer);
     printf(", OXID %#" PRIx64 ", OID %#" PRIx64 ", %" PRIu32 " public references, %s\n", block.oxid, block.oid,
            block.public_refs, block.flags & RIMONAKH_NO_PING ? "not pinged" : "pinged");
@@ -100,6 +101,9 @@ static uint64_t take_up(const uint8_t *reference, size_t length) {
     printf(", %zu bytes, ", resolved.length);
     print_address(list, resolved.length);
     printf("\n");
+    resolved = rimonakh_resolve_filtered(TABLE, block.oxid, &udp, 1, list, sizeof list);
+    step("client: resolves it for UDP alone", resolved.answer);
+    printf(", %zu bytes\n", resolved.length);
     done("client: takes 2 public and 1 private references more",
          rimonakh_add(TABLE, 0, block.ipid.low, block.ipid.high, 2, 1));
     pinged = rimonakh_complex_ping(TABLE, 0, 1, &block.oid, 1, &block.oid, 0); /* a list of one, and an empty one */

@@ -306,6 +306,12 @@ rimonakh_counts rimonakh_clock(uint64_t *words, size_t words_len, const uint8_t 
 rimonakh_resolved rimonakh_resolve(const uint64_t *words, size_t words_len, const uint8_t *store, size_t store_len,
                                    uint64_t oxid, uint8_t *buffer, size_t buffer_len);
 
+/* The same list with only the string bindings whose tower is among the requested protocols, in their order, and the whole
+ * security part. 10 (more than 65,535 protocols); 4; 15, by the length of what is written. */
+rimonakh_resolved rimonakh_resolve_filtered(const uint64_t *words, size_t words_len, const uint8_t *store,
+                                            size_t store_len, uint64_t oxid, const uint16_t *protocols,
+                                            size_t protocols_len, uint8_t *buffer, size_t buffer_len);
+
 /* Where to go next with a reference: the binding list of its exporter in the store where its OXID is live, else its own list.
  * The reference's refusals; 14 for a custom one. */
 rimonakh_stop_place rimonakh_next_stop(const uint64_t *words, size_t words_len, const uint8_t *store, size_t store_len,

@@ -2,3 +2,6 @@ pub mod Parts
 pub mod Laws
 pub mod Grammar
 pub mod ListBytes
+pub mod Filtering
+pub mod FilterLoops
+pub mod FilterWriting

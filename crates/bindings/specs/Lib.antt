@@ -1,3 +1,4 @@
 pub mod Bindings
 pub mod Layout
 pub mod ListBytes
+pub mod Filter

@@ -1,4 +1,6 @@
 // The binding list (DUALSTRINGARRAY) of an object reference or an exporter.
+pub mod filter;
+
 use kinds::answer;
 ghost use mathlib.Core.Path.{_≡_};
 ghost use mathlib.Core.Bool.{cond};

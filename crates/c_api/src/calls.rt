@@ -293,6 +293,22 @@ pub extern "C" fn rimonakh_resolve<'a>(
     resolver::resolve(words, store, Oxid(oxid), buffer)
 }
 
+// Writes an exporter's binding list with only the string bindings of the requested protocols at the front of buffer.
+#[no_mangle]
+pub extern "C" fn rimonakh_resolve_filtered<'a>(
+    words: &'a [u64],
+    store: &'a [u8],
+    oxid: u64,
+    protocols: &'a [u16],
+    buffer: &'a mut [u8],
+) -> Resolved
+    ensures { λ r. ⌜
+        Performed (Call.resolveFiltered oxid (now (protocols .entry)) (now (buffer .entry))) (memory (now (words .entry)) (now (store .entry)))
+        (resolveReply r (now (buffer .exit))) (memory (now (words .entry)) (now (store .entry))) ⌝ }
+{
+    resolver::resolve_filtered(words, store, Oxid(oxid), protocols, buffer)
+}
+
 // Where to go next with a reference: the list of its exporter in the store, or its own list.
 #[no_mangle]
 pub extern "C" fn rimonakh_next_stop<'a>(

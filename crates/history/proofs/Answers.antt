@@ -1,16 +1,14 @@
 -- Each item of an accepted list counts as a call of its own, with its byte for answer.
 use Prim.Native.Nat.{ℕ}
 use mathlib.Core.Path.{_≡_, refl, sym, ap, _∙_}
-use mathlib.Core.Bool.{Bool, true, false, cond}
+use mathlib.Core.Bool.{Bool, true, cond}
 use mathlib.Core.List.{List, [], _∷_, _++_, map}
-use borrow.Author.Tests.{eqb-true}
 use lib.ListN.{length, getD, drop, List·getD-append}
 use lib.Dec.{eqb}
 use Rattle.kinds.proofs.Refusing.{by-test}
 use Rattle.lists.specs.Lists.{tabulate}
 use Rattle.lists.proofs.Lists.{map-append, map-tabulate, length-tabulate, tabulate-ext, tabulate-getD}
-use Rattle.rules.specs.Entries.{Entries}
-use Rattle.rules.specs.Calls.{Call, Counting, reset, enterExporter, removeExporter, enterObject, enterInterface, add, release, dropClient, countList, simplePing, complexPing, clock, resolve, census, members, nextStop}
+use Rattle.rules.specs.Calls.{Call, Counting, reset, enterExporter, removeExporter, enterObject, enterInterface, add, release, dropClient, countList, simplePing, complexPing, clock, resolve, resolveFiltered, census, members, nextStop}
 use Rattle.rules.specs.Items.{itemAt, itemCount, itemsOf, itemCall}
 use Rattle.rules.specs.Rules.{itemNumbers, number, results, done, refused, reply}
 use Rattle.rules.proofs.Stepping.{reply-number}
@@ -91,6 +89,7 @@ same (simplePing s) h k = same-once (simplePing s) h
 same (complexPing s n adds dels) h k = same-once (complexPing s n adds dels) h
 same (clock t) h k = same-once (clock t) h
 same (resolve x buffer) h k = same-once (resolve x buffer) h
+same (resolveFiltered x protocols buffer) h k = same-once (resolveFiltered x protocols buffer) h
 same census h k = same-once census h
 same (members s) h k = same-once (members s) h
 same (nextStop s) h k = same-once (nextStop s) h

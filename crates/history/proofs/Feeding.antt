@@ -4,7 +4,7 @@ use mathlib.Core.Bool.{Bool, true, false, cond}
 use lib.Dec.{eqb}
 use borrow.Author.Tests.{eqb-true}
 use Rattle.kinds.proofs.Refusing.{by-test}
-use Rattle.rules.specs.Calls.{Call, reset, enterExporter, removeExporter, enterObject, enterInterface, add, release, dropClient, countList, simplePing, complexPing, clock, resolve, census, members, nextStop}
+use Rattle.rules.specs.Calls.{Call, reset, enterExporter, removeExporter, enterObject, enterInterface, add, release, dropClient, countList, simplePing, complexPing, clock, resolve, resolveFiltered, census, members, nextStop}
 use Rattle.rules.specs.Items.{itemsOf}
 use Rattle.rules.specs.Rules.{number, next}
 use Rattle.history.specs.History.{History, live, lived, feed}
@@ -33,6 +33,7 @@ step (simplePing s) h k a = simple-step h k s a
 step (complexPing s n adds dels) h k a = complex-step h k s n adds dels a
 step (clock t) h k a = clock-step h k t a
 step (resolve x buffer) h k a = record { entries = refl; kept = k }
+step (resolveFiltered x protocols buffer) h k a = record { entries = refl; kept = k }
 step census h k a = record { entries = refl; kept = k }
 step (members s) h k a = record { entries = refl; kept = k }
 step (nextStop r) h k a = record { entries = refl; kept = k }

@@ -15,7 +15,7 @@ use Rattle.fields.specs.Fields.{field}
 use Rattle.references.specs.References.{isCustom, tailAnswer, layoutAnswer, referenceAnswer}
 use Rattle.lists.proofs.Tests.{below-or-not}
 use Rattle.rules.specs.Entries.{Entries}
-use Rattle.rules.specs.Calls.{Call, reset, enterExporter, removeExporter, enterObject, enterInterface, add, release, dropClient, countList, simplePing, complexPing, clock, resolve, census, members, nextStop}
+use Rattle.rules.specs.Calls.{Call, reset, enterExporter, removeExporter, enterObject, enterInterface, add, release, dropClient, countList, simplePing, complexPing, clock, resolve, resolveFiltered, census, members, nextStop}
 use Rattle.rules.specs.Rules.{refusals, number}
 use Rattle.rules.specs.Contract.{Memory}
 use Rattle.table.specs.View.{view}
@@ -130,6 +130,7 @@ rows (complexPing s n adds dels) e p =
     (other refl refl (other refl refl (other refl refl none))))
 rows (clock t) e p = other refl refl none
 rows (resolve x buffer) e p = other refl refl (other refl refl none)
+rows (resolveFiltered x protocols buffer) e p = other refl refl (other refl refl (other refl refl none))
 rows census e p = none
 rows (members s) e p = other refl refl none
 rows (nextStop r) e p = passing (referenceAnswer r) (reference-answer r) (other refl refl none)

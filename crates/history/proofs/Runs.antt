@@ -10,7 +10,7 @@ use borrow.Author.Tests.{eq-eqb, ne-eqb}
 use Rattle.kinds.specs.Refusals.{order}
 use Rattle.lists.proofs.Tests.{true-or-false, same-or-not, and-left, and-right}
 use Rattle.rules.specs.Entries.{Entries}
-use Rattle.rules.specs.Calls.{Call, reset, enterExporter, removeExporter, enterObject, enterInterface, add, release, dropClient, countList, simplePing, complexPing, clock, resolve, census, members, nextStop, Reply}
+use Rattle.rules.specs.Calls.{Call, reset, enterExporter, removeExporter, enterObject, enterInterface, add, release, dropClient, countList, simplePing, complexPing, clock, resolve, resolveFiltered, census, members, nextStop, Reply}
 use Rattle.rules.specs.Sound.{sound}
 use Rattle.rules.specs.Rules.{refusals, number, next, results, refused, done, reply}
 use Rattle.rules.specs.Contract as contract
@@ -104,6 +104,7 @@ begins-alike (simplePing s) b e f = absurd (true≢false (sym b))
 begins-alike (complexPing s n adds dels) b e f = absurd (true≢false (sym b))
 begins-alike (clock t) b e f = absurd (true≢false (sym b))
 begins-alike (resolve x buffer) b e f = absurd (true≢false (sym b))
+begins-alike (resolveFiltered x protocols buffer) b e f = absurd (true≢false (sym b))
 begins-alike census b e f = absurd (true≢false (sym b))
 begins-alike (members s) b e f = absurd (true≢false (sym b))
 begins-alike (nextStop r) b e f = absurd (true≢false (sym b))

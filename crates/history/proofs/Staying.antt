@@ -15,7 +15,7 @@ use Rattle.lists.proofs.Lists.{map-append}
 use Rattle.lists.proofs.Distinct.{eqb-decides, same-eq}
 use Rattle.lists.proofs.Guids.{guid-decides}
 use Rattle.lists.proofs.Elements.{In, every-in, in-every, in-some, some-in, in-keep, map-in, snoc-in, one-in, first-sole}
-use Rattle.rules.specs.Calls.{Call, Counting, adding, releasing, reset, enterExporter, removeExporter, enterObject, enterInterface, add, release, dropClient, countList, simplePing, complexPing, clock, resolve, census, members, nextStop}
+use Rattle.rules.specs.Calls.{Call, Counting, adding, releasing, reset, enterExporter, removeExporter, enterObject, enterInterface, add, release, dropClient, countList, simplePing, complexPing, clock, resolve, resolveFiltered, census, members, nextStop}
 use Rattle.rules.specs.Items.{Item, itemsOf, itemCall}
 use Rattle.rules.specs.Rules.{anyIpid, number}
 use Rattle.rules.proofs.SoundLaws.{none, _and_}
@@ -494,6 +494,7 @@ later (clock t) h k b a =
     let z : h .clock ≤ t = rw (clock-live h) at (clock-accepted (live h) t a) in
     record { clock = z; exporters = exporters-stay h; objects = objects-stay h; interfaces = interfaces-stay h; origins = origins-stay h; sets = sets-stay h }
 later (resolve x buffer) h k b a = later-self h
+later (resolveFiltered x protocols buffer) h k b a = later-self h
 later census h k b a = later-self h
 later (members s) h k b a = later-self h
 later (nextStop r) h k b a = later-self h

@@ -9,7 +9,7 @@ use Rattle.kinds.specs.declared.Guid.{Guid}
 use Rattle.lists.specs.Lists.{keep, some, every, firstOr, firstIndex, tabulate, among, holding}
 use Rattle.lists.specs.Guids.{nil, sameGuid}
 use Rattle.rules.specs.Entries.{Exporter, Object, Interface, PingSet, Entries, fresh, oxids, oids}
-use Rattle.rules.specs.Calls.{Call, Counting, adding, releasing, reset, enterExporter, removeExporter, enterObject, enterInterface, add, release, dropClient, countList, simplePing, complexPing, clock, resolve, census, members, nextStop, Reply}
+use Rattle.rules.specs.Calls.{Call, Counting, adding, releasing, reset, enterExporter, removeExporter, enterObject, enterInterface, add, release, dropClient, countList, simplePing, complexPing, clock, resolve, resolveFiltered, census, members, nextStop, Reply}
 use Rattle.rules.specs.Items.{Item, itemsOf, itemCall}
 use Rattle.rules.specs.Rules.{noExporter, noObject, number, reply, anyIpid}
 
@@ -111,6 +111,7 @@ begins (simplePing s) = false
 begins (complexPing s n adds dels) = false
 begins (clock t) = false
 begins (resolve x buffer) = false
+begins (resolveFiltered x protocols buffer) = false
 begins census = false
 begins (members s) = false
 begins (nextStop r) = false
@@ -330,6 +331,7 @@ lived (complexPing s n adds dels) h =
     pingLives k (atLiveSet k (changed n (objectSerials h adds) (objectSerials h dels)) (cond (eqb s 0) (startSet h) h))
 lived (clock t) h = atClock t h
 lived (resolve x buffer) h = h
+lived (resolveFiltered x protocols buffer) h = h
 lived census h = h
 lived (members s) h = h
 lived (nextStop r) h = h

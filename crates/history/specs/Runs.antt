@@ -9,7 +9,7 @@ use Rattle.kinds.specs.Refusals.{Row, order}
 use Rattle.lists.specs.Lists.{keep, every, distinct, among, some, tabulate}
 use Rattle.lists.specs.Guids.{sameGuid}
 use Rattle.rules.specs.Entries.{Object, Interface, PingSet, Entries, fresh, oxids, oids, setNumbers, ipids, countOf}
-use Rattle.rules.specs.Calls.{Call, reset, enterExporter, removeExporter, enterObject, enterInterface, add, release, dropClient, countList, simplePing, complexPing, clock, resolve, census, members, nextStop, Reply}
+use Rattle.rules.specs.Calls.{Call, reset, enterExporter, removeExporter, enterObject, enterInterface, add, release, dropClient, countList, simplePing, complexPing, clock, resolve, resolveFiltered, census, members, nextStop, Reply}
 use Rattle.rules.specs.Items.{itemAt, itemCount, itemCall}
 use Rattle.rules.specs.Sound.{sound}
 use Rattle.rules.specs.Rules.{isLiveExporter, isLiveObject, interfaceOf, refusals, number}
@@ -83,6 +83,7 @@ needsFullKind (simplePing s) e = false
 needsFullKind (complexPing s n adds dels) e = eqb s 0 && eqb (length (e .sets)) 32
 needsFullKind (clock t) e = false
 needsFullKind (resolve x buffer) e = false
+needsFullKind (resolveFiltered x protocols buffer) e = false
 needsFullKind census e = false
 needsFullKind (members s) e = false
 needsFullKind (nextStop r) e = false
@@ -125,6 +126,7 @@ answered (simplePing s) r = once (simplePing s) r
 answered (complexPing s n adds dels) r = once (complexPing s n adds dels) r
 answered (clock t) r = once (clock t) r
 answered (resolve x buffer) r = once (resolve x buffer) r
+answered (resolveFiltered x protocols buffer) r = once (resolveFiltered x protocols buffer) r
 answered census r = once census r
 answered (members s) r = once (members s) r
 answered (nextStop s) r = once (nextStop s) r

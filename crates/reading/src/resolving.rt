@@ -1,4 +1,5 @@
 // Resolving an exporter.
+use bindings::filter;
 use kinds::Guid;
 use kinds::Oxid;
 use kinds::answer;
@@ -66,6 +67,57 @@ pub fn resolve_step<'a>(
     Resolved {
         answer: answer::DONE,
         length: list.len(),
+        unknown: unknown,
+    }
+}
+
+// The same of the list with only the string bindings whose tower is requested: 0, or 1; 10; 4; 15.
+pub fn resolve_filtered<'a>(
+    words: &'a [u64],
+    store: &'a [u8],
+    oxid: Oxid,
+    protocols: &'a [u16],
+    buffer: &'a mut [u8],
+) -> Resolved
+    ensures { λ r. ⌜
+        Performed (Call.resolveFiltered (oxid .0) (now (protocols .entry)) (now (buffer .entry))) (memory (now (words .entry)) (now (store .entry)))
+        (resolveReply r (now (buffer .exit))) (memory (now (words .entry)) (now (store .entry))) ⌝ }
+{
+    if !judge::sound(words, store) {
+        return refused(answer::UNSOUND);
+    }
+    resolve_filtered_step(words, store, oxid, protocols, buffer)
+}
+
+// The same on a sound table.
+pub fn resolve_filtered_step<'a>(
+    words: &'a [u64],
+    store: &'a [u8],
+    oxid: Oxid,
+    protocols: &'a [u16],
+    buffer: &'a mut [u8],
+) -> Resolved
+    requires { ⌜ SoundTable (memory (now words) (now store)) ⌝ }
+    ensures { λ r. ⌜
+        Stepped (Call.resolveFiltered (oxid .0) (now (protocols .entry)) (now (buffer .entry))) (memory (now (words .entry)) (now (store .entry)))
+        (resolveReply r (now (buffer .exit))) (memory (now (words .entry)) (now (store .entry))) ⌝ }
+{
+    if 65535 < protocols.len() {
+        return refused(answer::TOO_MANY);
+    }
+    let i = find::exporter_row(words, oxid.0);
+    if layout::exporter_count(words) <= i {
+        return refused(answer::NO_EXPORTER);
+    }
+    let list = find::list(words, store, i);
+    let w = filter::write_filtered(list, protocols, buffer);
+    if w.answer != answer::DONE {
+        return refused(answer::NO_ROOM);
+    }
+    let unknown = find::unknown(words, i);
+    Resolved {
+        answer: answer::DONE,
+        length: w.length,
         unknown: unknown,
     }
 }

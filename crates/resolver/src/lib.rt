@@ -26,3 +26,4 @@ pub use reading::next_stop;
 pub use reading::next_stop_answer;
 pub use reading::next_stop_place;
 pub use reading::resolve;
+pub use reading::resolve_filtered;

@@ -13,7 +13,7 @@ use Rattle.bindings.specs.Bindings.{listAnswer}
 use Rattle.lists.specs.Lists.{every, distinct, holding, among}
 use Rattle.lists.specs.Guids.{sameGuid}
 use Rattle.rules.specs.Entries.{Entries, fresh, oxids, oids}
-use Rattle.rules.specs.Calls.{Counting, adding, releasing, reset, enterExporter, removeExporter, enterObject, enterInterface, add, release, dropClient, countList, simplePing, complexPing, clock, resolve, census, members, nextStop}
+use Rattle.rules.specs.Calls.{Counting, adding, releasing, reset, enterExporter, removeExporter, enterObject, enterInterface, add, release, dropClient, countList, simplePing, complexPing, clock, resolve, resolveFiltered, census, members, nextStop}
 use Rattle.rules.specs.Items.{Item, itemsOf, itemCall}
 use Rattle.rules.specs.Sound.{longestList, sound}
 use Rattle.rules.specs.Rules.{counted, itemsDone, refusals, number, next, anyIpid}
@@ -89,6 +89,7 @@ keeps (simplePing k) e s h = sound-grouped _ (set-pinged e k (grouped e s))
 keeps (complexPing k n adds dels) e s h = sound-grouped _ (members-pinged e (eqb k 0) _ n adds dels (grouped e s))
 keeps (clock t) e s h = sound-grouped _ (clock-case e (grouped e s) t h)
 keeps (resolve x buffer) e s h = s
+keeps (resolveFiltered x protocols buffer) e s h = s
 keeps census e s h = s
 keeps (members k) e s h = s
 keeps (nextStop r) e s h = s

@@ -10,6 +10,7 @@ pub mod Keeps
 pub mod Listing
 pub mod EitherOrder
 pub mod ListLoop
+pub mod Filtered
 pub mod ByRow
 pub mod PingRows
 pub mod Cases

@@ -6,7 +6,7 @@ use mathlib.Core.List.{List}
 use lib.ListN.{length}
 use lib.Dec.{eqb}
 use Rattle.rules.specs.Entries.{Entries}
-use Rattle.rules.specs.Calls.{Call, reset, enterExporter, removeExporter, enterObject, enterInterface, add, release, dropClient, countList, simplePing, complexPing, clock, resolve, census, members, nextStop, Reply}
+use Rattle.rules.specs.Calls.{Call, reset, enterExporter, removeExporter, enterObject, enterInterface, add, release, dropClient, countList, simplePing, complexPing, clock, resolve, resolveFiltered, census, members, nextStop, Reply}
 use Rattle.rules.specs.Sound.{sound}
 use Rattle.rules.specs.Rules.{number, next, refused, reply}
 
@@ -34,6 +34,7 @@ lengthsOnly (simplePing s) = false
 lengthsOnly (complexPing s n adds dels) = false
 lengthsOnly (clock t) = false
 lengthsOnly (resolve x buffer) = false
+lengthsOnly (resolveFiltered x protocols buffer) = false
 lengthsOnly census = false
 lengthsOnly (members s) = false
 lengthsOnly (nextStop r) = false

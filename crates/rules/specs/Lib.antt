@@ -7,4 +7,5 @@ pub mod PingRows
 pub mod Contract
 pub mod OneByOne
 pub mod EitherOrder
+pub mod Filtering
 pub mod Cases

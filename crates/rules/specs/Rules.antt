@@ -9,11 +9,12 @@ use Rattle.kinds.specs.Refusals.{Row, order, _gives_, passes}
 use Rattle.kinds.specs.declared.Guid.{Guid}
 use Rattle.fields.specs.Fields.{field}
 use Rattle.bindings.specs.Bindings.{listAnswer}
+use Rattle.bindings.specs.Filter.{filtered}
 use Rattle.references.specs.References.{referenceAnswer, referenceAt, isCustom, tailOf}
 use Rattle.lists.specs.Lists.{keep, some, every, firstOr, among}
 use Rattle.lists.specs.Guids.{nil, sameGuid}
 use Rattle.rules.specs.Entries.{Exporter, Object, Interface, PingSet, Entries, fresh, oxids, oids, setNumbers, interfaceIpids, ipids, withClock, withNext, withExporters, withObjects, withInterfaces, withSets, heardAt, publicOf, privateOf, atCount, atCounts, pingedAt, withSequence, withMembers}
-use Rattle.rules.specs.Calls.{Call, Counting, adding, releasing, reset, enterExporter, removeExporter, enterObject, enterInterface, add, release, dropClient, countList, simplePing, complexPing, clock, resolve, census, members, nextStop, Reply, Results, only}
+use Rattle.rules.specs.Calls.{Call, Counting, adding, releasing, reset, enterExporter, removeExporter, enterObject, enterInterface, add, release, dropClient, countList, simplePing, complexPing, clock, resolve, resolveFiltered, census, members, nextStop, Reply, Results, only}
 use Rattle.rules.specs.Items.{Item, itemSize, itemCount, itemsOf, itemCall}
 use Rattle.rules.specs.Sound.{longestList, held, hasInterface, overdue}
 
@@ -147,6 +148,11 @@ refusals (resolve x buffer) e =
     not (isLiveExporter e x) gives 4
     ∷ ltb (length buffer) (length (exporterOf e x .bindings)) gives 15
     ∷ []
+refusals (resolveFiltered x protocols buffer) e =
+    tooMany protocols gives 10
+    ∷ not (isLiveExporter e x) gives 4
+    ∷ ltb (length buffer) (length (filtered protocols (exporterOf e x .bindings))) gives 15
+    ∷ []
 refusals census e = []
 refusals (members s) e = not (isLiveSet e s) gives 11 ∷ []
 refusals (nextStop r) e = passes (referenceAnswer r) ∷ isCustom (field r 4 4) gives 14 ∷ []
@@ -260,6 +266,7 @@ next (clock t) e =
     let f : Entries = withoutObjects (λ (o : Object). o .noping || not (overdue t (o .heard))) e in
     withClock t (withSets (keep (λ (s : PingSet). not (overdue t (s .pinged))) (f .sets)) f)
 next (resolve x buffer) e = e
+next (resolveFiltered x protocols buffer) e = e
 next census e = e
 next (members s) e = e
 next (nextStop r) e = e
@@ -315,6 +322,11 @@ results (clock t) e = only (clockValues e (next (clock t) e))
 results (resolve x buffer) e =
     let p : Exporter = exporterOf e x in
     record { values = length (p .bindings) ∷ p .unknown .low ∷ p .unknown .high ∷ []; part = []; front = p .bindings; buffer = buffer }
+-- the same of the list with only the requested string bindings
+results (resolveFiltered x protocols buffer) e =
+    let p : Exporter = exporterOf e x in
+    let list : List ℕ = filtered protocols (p .bindings) in
+    record { values = length list ∷ p .unknown .low ∷ p .unknown .high ∷ []; part = []; front = list; buffer = buffer }
 results census e = only (liveNumbers e)
 results (members s) e = only (length (setOf e s .members) ∷ [])
 -- a part of the store where the OXID is live, else a part of the reference; and which of the two it is: 1 for the store

@@ -15,6 +15,7 @@ fn take_up<'a>(words: &'a mut [u64], store: &'a [u8], reference: &'a [u8]) -> Se
     described(read.reference.block);
     next_stop(words, store, reference);
     resolve(words, store, read.reference.block.oxid);
+    resolve_udp(words, store, read.reference.block.oxid);
     say::done(
         resolver::add(words, store, 0, read.reference.block.ipid, 2, 1),
         b"client: takes 2 public and 1 private references more",
@@ -74,6 +75,16 @@ fn resolve<'a>(words: &'a [u64], store: &'a [u8], oxid: Oxid) {
         say::address(&list[0..n]);
     }
     print::end_line();
+}
+
+// Asks for addresses of one protocol alone, UDP, which the server does not offer.
+fn resolve_udp<'a>(words: &'a [u64], store: &'a [u8], oxid: Oxid) {
+    let mut list = [0u8; 512];
+    let protocols = [8u16];
+    let r = resolver::resolve_filtered(words, store, oxid, &protocols, &mut list);
+    say::step(r.answer, b"client: resolves it for UDP alone");
+    say::counted(b", ", r.length as u64);
+    print::text(b" bytes\n");
 }
 
 // So many periods of two minutes have passed since 8 o'clock.

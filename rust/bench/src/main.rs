@@ -250,6 +250,33 @@ fn tables() {
         || keep(table.resolve(black_box(Oxid(x)), &mut ours)),
         || keep(pt::resolve(&w, &s, black_box(x), &mut theirs)),
     );
+    for (what, calls, protocols) in [
+        (
+            "resolve by 3 protocols on a full table",
+            200,
+            vec![8, 7, 31],
+        ),
+        (
+            "resolve by 65,535 protocols, none there",
+            5,
+            vec![9; 65_535],
+        ),
+    ] {
+        measure(
+            what,
+            calls,
+            || keep(table.resolve_filtered(Oxid(x), black_box(&protocols), &mut ours)),
+            || {
+                keep(pt::resolve_filtered(
+                    &w,
+                    &s,
+                    x,
+                    black_box(&protocols),
+                    &mut theirs,
+                ))
+            },
+        );
+    }
     assert_eq!(table.words(), w);
     assert_eq!(table.store(), s);
 }

@@ -252,6 +252,15 @@ impl<S> Pair<S> {
             }
             (Op::NextStop(_), 0) if reply.values[0] != 0 => "next stops in the store",
             (Op::NextStop(_), 0) => "next stops in the reference",
+            (Op::ResolveFiltered { oxid, .. }, 0) => {
+                let mut exporters = self.side.entries.exporters.iter();
+                let list = exporters.find(|x| x.oxid == *oxid).map(|x| x.list.len());
+                if list == Some(reply.values[0] as usize) {
+                    "lists resolved whole by protocols"
+                } else {
+                    "bindings left out by protocols"
+                }
+            }
             (Op::Census, 1) if !self.side.sound => "tables unsound",
             _ => return None,
         };

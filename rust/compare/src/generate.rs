@@ -3,6 +3,7 @@
 use crate::decode;
 use crate::op::Op;
 use crate::random::Random;
+use model::bytes::filtered_list;
 use model::entries::{Entries, Way, EXPORTERS, INTERFACES, OBJECTS, SETS};
 use model::Guid;
 use std::ops::Range;
@@ -211,6 +212,29 @@ impl Pools {
         }
     }
 
+    /// A resolve with requested protocols: some towers of the list and others, into a buffer near the length of what is written.
+    fn filtered_resolve(&self, random: &mut Random, e: &Entries) -> Op {
+        let oxid = self.oxid(random);
+        let mut protocols: Vec<u16> = Vec::new();
+        for tower in [7, 8, 0x1F, 0xFFFF, 0, 9, 0x61] {
+            if !random.once_in(3) {
+                protocols.push(tower);
+            }
+        }
+        if random.once_in(200) {
+            let n = random.pick(&[65_535, 65_536]);
+            protocols.resize(n, random.pick(&[7, 9]));
+        }
+        let listed = e.exporters.iter().find(|x| x.oxid == oxid);
+        let length = listed.map_or(8, |x| filtered_list(&x.list, &protocols).len());
+        let room = random.pick(&[0, length.saturating_sub(1), length, length + 1, 600]);
+        Op::ResolveFiltered {
+            oxid,
+            protocols,
+            room,
+        }
+    }
+
     /// Two adds or releases on different IPIDs, mostly releases of all that two interfaces of one object have left.
     pub fn pair(&self, random: &mut Random, e: &Entries) -> Option<(Op, Op)> {
         let other = |a: Guid, random: &mut Random| {
@@ -404,7 +428,8 @@ impl Pools {
                 }
             }
             78..=85 => Op::Clock(self.time(random, e.clock)),
-            86..=89 => {
+            88 | 89 => self.filtered_resolve(random, e),
+            86..=87 => {
                 let oxid = self.oxid(random);
                 let listed = e.exporters.iter().find(|x| x.oxid == oxid);
                 let length = listed.map_or(8, |x| x.list.len());

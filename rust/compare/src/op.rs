@@ -60,6 +60,12 @@ pub enum Op {
         oxid: u64,
         room: usize,
     },
+    /// By requested protocols, with a buffer of so many bytes.
+    ResolveFiltered {
+        oxid: u64,
+        protocols: Vec<u16>,
+        room: usize,
+    },
     Census,
     Members(u64),
     NextStop(Vec<u8>),
@@ -100,6 +106,12 @@ fn counts(c: Counts) -> Results {
     (numbers.map(|n| n as u64).to_vec(), vec![])
 }
 
+/// What a resolve answers with this length and remote-unknown IPID, and the buffer as it is left.
+pub fn resolved((length, unknown): (usize, Guid), out: Vec<u8>) -> Results {
+    let [low, high] = halves(unknown);
+    (vec![length as u64, low, high], out)
+}
+
 pub fn halves(g: Guid) -> [u64; 2] {
     let (low, high) = g.split_at(8);
     [low, high].map(|half| u64::from_le_bytes(half.try_into().unwrap()))
@@ -118,7 +130,7 @@ impl Op {
                 let (values, room) = match self {
                     Op::Release { .. } | Op::Clock(_) | Op::Census => (4, 0),
                     Op::ComplexPing { .. } => (2, 0),
-                    Op::Resolve { room, .. } => (3, *room),
+                    Op::Resolve { room, .. } | Op::ResolveFiltered { room, .. } => (3, *room),
                     Op::CountList { room, .. } => (0, *room),
                     Op::Members(_) | Op::NextStop(_) => (1, 0),
                     _ => (0, 0),
@@ -223,10 +235,17 @@ impl Side {
             Op::Clock(time) => e.set_clock(time).map(counts),
             Op::Resolve { oxid, room } => {
                 let mut out = buffer(room);
-                e.resolve(oxid, &mut out).map(|(length, unknown)| {
-                    let [low, high] = halves(unknown);
-                    (vec![length as u64, low, high], out)
-                })
+                let answer = e.resolve(oxid, &mut out);
+                answer.map(|found| resolved(found, out))
+            }
+            Op::ResolveFiltered {
+                oxid,
+                ref protocols,
+                room,
+            } => {
+                let mut out = buffer(room);
+                let answer = e.resolve_filtered(oxid, protocols, &mut out);
+                answer.map(|found| resolved(found, out))
             }
             Op::Census => Ok(counts(e.census())),
             Op::Members(set) => e.members(set).map(|n| (vec![n as u64], vec![])),

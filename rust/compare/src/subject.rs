@@ -1,6 +1,6 @@
 //! What is compared with the model: the library, and plain Rust over the same array and store.
 
-use crate::op::{buffer, halves, Op, Reply, Results};
+use crate::op::{buffer, halves, resolved, Op, Reply, Results};
 use model::entries::Way;
 use model::Guid;
 use plain::table as p;
@@ -107,10 +107,16 @@ impl Subject for Library {
             Op::Resolve { oxid, room } => {
                 let mut out = buffer(room);
                 let answer = table.resolve(Oxid(oxid), &mut out);
-                answer.map(|r| {
-                    let [low, high] = halves(r.unknown.0);
-                    (vec![r.length as u64, low, high], out)
-                })
+                answer.map(|r| resolved((r.length, r.unknown.0), out))
+            }
+            Op::ResolveFiltered {
+                oxid,
+                ref protocols,
+                room,
+            } => {
+                let mut out = buffer(room);
+                let answer = table.resolve_filtered(Oxid(oxid), protocols, &mut out);
+                answer.map(|r| resolved((r.length, r.unknown.0), out))
             }
             Op::Census => table.census().map(counts),
             Op::Members(set) => table.members(SetId(set)).map(|n| (vec![n as u64], vec![])),
@@ -170,6 +176,18 @@ fn zeros(words: &mut [u64], store: &mut [u8], op: &Op) -> bool {
             Op::Resolve { oxid, room } => {
                 let mut out = buffer(room);
                 let r = ffi::rimonakh_resolve(w, n, s, m, oxid, out.as_mut_ptr(), out.len());
+                r.resolved.length == 0
+                    && r.resolved.unknown == rimonakh::Guid::NIL
+                    && out == buffer(room)
+            }
+            Op::ResolveFiltered {
+                oxid,
+                ref protocols,
+                room,
+            } => {
+                let mut out = buffer(room);
+                let (p, k, b) = (protocols.as_ptr(), protocols.len(), out.as_mut_ptr());
+                let r = ffi::rimonakh_resolve_filtered(w, n, s, m, oxid, p, k, b, room);
                 r.resolved.length == 0
                     && r.resolved.unknown == rimonakh::Guid::NIL
                     && out == buffer(room)
@@ -268,6 +286,15 @@ impl Subject for Plain {
             Op::Resolve { oxid, room } => {
                 let mut out = buffer(room);
                 let answer = p::resolve(words, store, oxid, &mut out);
+                answer.map(|(length, g)| (vec![length as u64, g.low, g.high], out))
+            }
+            Op::ResolveFiltered {
+                oxid,
+                ref protocols,
+                room,
+            } => {
+                let mut out = buffer(room);
+                let answer = p::resolve_filtered(words, store, oxid, protocols, &mut out);
                 answer.map(|(length, g)| (vec![length as u64, g.low, g.high], out))
             }
             Op::Census => p::census(words, store).map(counts),

@@ -14,7 +14,7 @@ const NUMBERS: [u32; 23] = [
 ];
 
 /// What runs of calls have to reach.
-const EVENTS: [&str; 18] = [
+const EVENTS: [&str; 20] = [
     "exporters full",
     "objects or interfaces full at an object",
     "interfaces full",
@@ -25,6 +25,8 @@ const EVENTS: [&str; 18] = [
     "interfaces kept by another client",
     "objects dropped with a client",
     "lists cut and done one by one",
+    "lists resolved whole by protocols",
+    "bindings left out by protocols",
     "pairs in either order",
     "notes moved to the later call",
     "exporters removed",

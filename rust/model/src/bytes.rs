@@ -20,7 +20,7 @@ fn guid_at(s: &[u8], at: usize) -> Guid {
 }
 
 /// Writes `made` at the front of `buffer` and keeps the rest, or refuses with 15.
-fn put(made: &[u8], buffer: &mut [u8]) -> Result<usize, u32> {
+pub(crate) fn put(made: &[u8], buffer: &mut [u8]) -> Result<usize, u32> {
     if buffer.len() < made.len() {
         return Err(15);
     }
@@ -116,6 +116,28 @@ impl List {
         };
         bindings.get(k).cloned().ok_or(24)
     }
+}
+
+/// The list with only the string bindings whose tower is among the protocols, and the whole security part.
+pub fn filtered_list(s: &[u8], protocols: &[u16]) -> Vec<u8> {
+    let Ok(found) = list(s) else { return vec![] };
+    if s == [0; 4] {
+        return s.to_vec();
+    }
+    let mut strings: Vec<u8> = Vec::new();
+    for place in found.strings {
+        if protocols.contains(&u16_at(s, place.start)) {
+            strings.extend(&s[place]);
+        }
+    }
+    strings.extend([0, 0]);
+    let security = &s[4 + 2 * u16_at(s, 2) as usize..];
+    let words = |bytes: usize| (bytes / 2) as u16;
+    let mut made = words(strings.len() + security.len()).to_le_bytes().to_vec();
+    made.extend(words(strings.len()).to_le_bytes());
+    made.extend(strings);
+    made.extend(security);
+    made
 }
 
 /// Where binding `k` of a part of a whole list stands.

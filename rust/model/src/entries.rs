@@ -466,12 +466,22 @@ impl Entries {
     /// Writes the list; answers its length and the remote-unknown IPID.
     pub fn resolve(&self, oxid: u64, buffer: &mut [u8]) -> Result<(usize, Guid), u32> {
         let x = self.exporters.iter().find(|x| x.oxid == oxid).ok_or(4u32)?;
-        let n = x.list.len();
-        if buffer.len() < n {
-            return Err(15);
+        Ok((bytes::put(&x.list, buffer)?, x.unknown))
+    }
+
+    /// The same with only the string bindings of the requested protocols.
+    pub fn resolve_filtered(
+        &self,
+        oxid: u64,
+        protocols: &[u16],
+        buffer: &mut [u8],
+    ) -> Result<(usize, Guid), u32> {
+        if protocols.len() > 65_535 {
+            return Err(10);
         }
-        buffer[..n].copy_from_slice(&x.list);
-        Ok((n, x.unknown))
+        let x = self.exporters.iter().find(|x| x.oxid == oxid).ok_or(4u32)?;
+        let list = bytes::filtered_list(&x.list, protocols);
+        Ok((bytes::put(&list, buffer)?, x.unknown))
     }
 
     pub fn census(&self) -> Counts {

@@ -92,6 +92,52 @@ pub fn judge_list(s: &[u8]) -> Result<(), u32> {
     Ok(())
 }
 
+/// The words of the string binding that begins at a word.
+fn binding_words(s: &[u8], at: usize) -> usize {
+    let mut n = 1;
+    while u16_at(s, 4 + 2 * (at + n)) != 0 {
+        n += 1;
+    }
+    n + 1
+}
+
+/// Writes an accepted list with only the string bindings of the requested protocols; answers its length.
+pub fn write_filtered(s: &[u8], protocols: &[u16], buffer: &mut [u8]) -> Result<usize, u32> {
+    let split = u16_at(s, 2) as usize;
+    if split == 0 {
+        buffer.get_mut(..4).ok_or(15u32)?.copy_from_slice(s);
+        return Ok(4);
+    }
+    let kept = |each: &mut dyn FnMut(Range<usize>)| {
+        let mut at = 0;
+        while at + 1 < split {
+            let n = binding_words(s, at);
+            if protocols.contains(&u16_at(s, 4 + 2 * at)) {
+                each(4 + 2 * at..4 + 2 * (at + n));
+            }
+            at += n;
+        }
+    };
+    let mut strings = 0;
+    kept(&mut |place| strings += place.len());
+    let rest = &s[2 + 2 * split..]; // the string part's zero word and the security part
+    let length = 4 + strings + rest.len();
+    if buffer.len() < length {
+        return Err(15);
+    }
+    let words = |bytes: usize| ((bytes / 2) as u16).to_le_bytes();
+    buffer[..2].copy_from_slice(&words(strings + rest.len()));
+    buffer[2..4].copy_from_slice(&words(strings + 2));
+    let mut to = 4;
+    kept(&mut |place| {
+        let n = place.len();
+        buffer[to..to + n].copy_from_slice(&s[place]);
+        to += n;
+    });
+    buffer[to..length].copy_from_slice(rest);
+    Ok(length)
+}
+
 /// The length that the list at the front states, if it is no more than the bytes that are there.
 pub fn stated_length(s: &[u8]) -> usize {
     s.len().min(4 + 2 * u16_at(s, 0) as usize)

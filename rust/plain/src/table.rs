@@ -1,6 +1,6 @@
 //! The table's calls. The live rows of a kind are its first ones; a removed row is closed up.
 
-use crate::bytes::{judge_list, read_reference, stated_length};
+use crate::bytes::{judge_list, read_reference, stated_length, write_filtered};
 use crate::Guid;
 use std::ops::Range;
 
@@ -589,6 +589,13 @@ pub fn clock(words: &mut [u64], store: &[u8], time: u64) -> Result<Counts, u32> 
     })
 }
 
+fn unknown(words: &[u64], row: usize) -> Guid {
+    Guid {
+        low: words[EXPORTERS.at(UNKNOWN_LOW, row)],
+        high: words[EXPORTERS.at(UNKNOWN_HIGH, row)],
+    }
+}
+
 /// Writes an exporter's list; answers its length and the remote-unknown IPID.
 pub fn resolve(
     words: &[u64],
@@ -603,11 +610,24 @@ pub fn resolve(
         return Err(15);
     }
     buffer[..list.len()].copy_from_slice(list);
-    let unknown = Guid {
-        low: words[EXPORTERS.at(UNKNOWN_LOW, row)],
-        high: words[EXPORTERS.at(UNKNOWN_HIGH, row)],
-    };
-    Ok((list.len(), unknown))
+    Ok((list.len(), unknown(words, row)))
+}
+
+/// The same with only the string bindings of the requested protocols.
+pub fn resolve_filtered(
+    words: &[u64],
+    store: &[u8],
+    oxid: u64,
+    protocols: &[u16],
+    buffer: &mut [u8],
+) -> Result<(usize, Guid), u32> {
+    judged(words, store)?;
+    if protocols.len() > 65_535 {
+        return Err(10);
+    }
+    let row = EXPORTERS.find(words, oxid).ok_or(4u32)?;
+    let length = write_filtered(list_of(store, row), protocols, buffer)?;
+    Ok((length, unknown(words, row)))
 }
 
 fn counts(words: &[u64]) -> Counts {

@@ -288,6 +288,17 @@ extern "C" {
         buffer: *mut u8,
         buffer_len: usize,
     ) -> ResolvedList;
+    pub fn rimonakh_resolve_filtered(
+        words: *const u64,
+        words_len: usize,
+        store: *const u8,
+        store_len: usize,
+        oxid: u64,
+        protocols: *const u16,
+        protocols_len: usize,
+        buffer: *mut u8,
+        buffer_len: usize,
+    ) -> ResolvedList;
     pub fn rimonakh_next_stop(
         words: *const u64,
         words_len: usize,

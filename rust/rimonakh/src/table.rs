@@ -395,6 +395,31 @@ where
         answered(r.answer, r.resolved)
     }
 
+    /// Writes the same list with only the string bindings whose tower is among the requested protocols, and the whole security
+    /// part.
+    pub fn resolve_filtered(
+        &self,
+        oxid: Oxid,
+        protocols: &[u16],
+        buffer: &mut [u8],
+    ) -> Result<Resolved> {
+        let (words, store) = (self.words.as_ref(), self.store.as_ref());
+        let r = unsafe {
+            ffi::rimonakh_resolve_filtered(
+                words.as_ptr(),
+                words.len(),
+                store.as_ptr(),
+                store.len(),
+                oxid.0,
+                protocols.as_ptr(),
+                protocols.len(),
+                buffer.as_mut_ptr(),
+                buffer.len(),
+            )
+        };
+        answered(r.answer, r.resolved)
+    }
+
     /// Where to go next with a reference.
     pub fn next_stop<'a>(&'a self, reference: &'a [u8]) -> Result<Stop<'a>> {
         let (words, store) = (self.words.as_ref(), self.store.as_ref());

@@ -13,6 +13,8 @@
 //!     J  R time  C  M set  X oxid unknown list  D oxid  O oid oxid ipid iid public no-ping  I oid ipid iid public
 //!     A client ipid public private  L client ipid public private  Y client (its drop)  S set  Q set sequence n adds.. m deletes..  K time  V oxid room  T reference
 //!     a client room items  l client room items  whole lists of adds and of releases, the items in hex
+//!     v oxid room n protocols..  a resolve by protocols
+//!     w oxid room n protocol     the same with n times the protocol
 //!     z way client room n bytes item  such a list (0 adds, 1 releases) of n times the item and so many bytes more
 //!     Z set sequence oid n m  a complex ping with n times the oid on its list of adds and m times on that of deletes
 //!
@@ -78,6 +80,7 @@ const ANSWERS: Answers = &[
     (b'Q', &[0, 1, 10, 11, 12, 5, 9, 18]),
     (b'K', &[0, 1, 2]),
     (b'V', &[0, 1, 4, 15]),
+    (b'v', &[0, 1, 10, 4, 15]),
     (b'C', &[0, 1]),
     (b'M', &[0, 1, 11]),
     (b'T', &[0, 1, 13, 14, 22]),
@@ -326,12 +329,26 @@ fn called<S: Stops>(
             oxid: a.number(),
             room: a.number() as usize,
         },
+        b'v' => Op::ResolveFiltered {
+            oxid: a.number(),
+            room: a.number() as usize,
+            protocols: a.numbers().iter().map(|n| *n as u16).collect(),
+        },
+        b'w' => {
+            let (oxid, room, n) = (a.number(), a.number() as usize, a.number() as usize);
+            Op::ResolveFiltered {
+                oxid,
+                room,
+                protocols: vec![a.number() as u16; n],
+            }
+        }
         b'T' => Op::NextStop(a.bytes()),
         other => panic!("no such line: {}", other as char),
     };
     let r = S::perform(words, store, &op);
     let asked = match (letter, &op) {
         (b'Z', _) => b'Q',
+        (b'w', _) => b'v',
         (_, Op::CountList { way: Way::Add, .. }) => b'a',
         (_, Op::CountList { .. }) => b'l',
         _ => letter,
@@ -350,7 +367,7 @@ fn called<S: Stops>(
         ),
         (b'Q' | b'Z', _) => format!("{} set {} backoff {}", r.number, v[0], v[1]),
         (b'M', _) => format!("{} members {}", r.number, v[0]),
-        (_, Op::Resolve { room, .. }) => {
+        (_, Op::Resolve { room, .. } | Op::ResolveFiltered { room, .. }) => {
             let length = v[0] as usize;
             assert_eq!(
                 r.bytes[length..],

@@ -1,0 +1,156 @@
+-- `filter::put_filtered`: N, S, the requested bindings and the rest, one after the other.
+use Prim.Native.Nat.{_+_, _-_, _<_}
+use mathlib.Core.Path.{_≡_, sym, ap, _∙_}
+use native.Mathlib.Omega.{arith}
+use lib.ListN.{length}
+use Rattle.fields.specs.Fields.{written, Bytes}
+use Rattle.fields.proofs.Laws.{length-written}
+use Rattle.bindings.specs.Bindings.{count, listLength}
+use Rattle.bindings.proofs.Laws.{accepted}
+use Rattle.bindings.proofs.FilterWriting.{no-words, filtered-size, filtered-written, filtered-count}
+use borrow.Author.Needs.{needs}
+use Rattle.bindings.proofs.filter.put_filtered.Statement.{statement}
+use Rattle.bindings.proofs.filter.put_filtered.Tie as tie
+
+read-u16-requires : tie.Need-read-u16-requires
+read-u16-requires c κs = search needs
+
+cast-n : tie.Need-cast-n
+cast-n c = search needs
+
+read-u16-requires-2 : tie.Need-read-u16-requires-2
+read-u16-requires-2 c κs = search needs
+
+cast-k : tie.Need-cast-k
+cast-k c = search needs
+
+copy-requires : tie.Need-copy-requires
+copy-requires c κs = search needs
+
+same-length : tie.Need-same-length
+same-length c = search needs
+
+returns : tie.Need-returns
+returns c =
+    let a = c .before .before .before .before .before .before .before .before .before .before .args in
+    c .before .before .copy .ensures ∙ ap (written (a .buf .now) 0) (sym (no-words (a .protocols .now) (a .s .now) (c .before .before .before .before .before .before .before .before .before .before .pre .0) (sym (c .before .before .before .before .before .before .read-u16 .ensures) ∙ c .before .before .before .before .if1 .taken)))
+
+requested-words-requires : tie.Need-requested-words-requires
+unfolding listLength
+requested-words-requires c κs = let h = accepted _ (c .before .before .before .before .before .before .pre .0) in omega arith
+
+-- past the list without words
+some : (c : tie.After-requested-words) → count (c .before .before .before .before .before .before .before .args .s .now) ≡ 0 → ⊥
+some c z = c .before .if1 .left (c .before .before .before .read-u16 .ensures ∙ z)
+
+bytes : (c : tie.After-requested-words) → Bytes (c .before .before .before .before .before .before .before .args .s .now)
+bytes c i = omega (arith, c .before .before .before .before .before .before .shared-slice-known .given i)
+
+few : (c : tie.After-requested-words) → c .requested-words .result + 1 + (c .before .before .before .read-u16 .result - c .before .before .read-u162 .result) < 65536
+few c =
+    filtered-count (c .before .before .before .before .before .before .before .args .protocols .now) (c .before .before .before .before .before .before .before .args .s .now) (c .before .before .before .before .before .before .before .pre .0) (some c) (bytes c) _ _ _ (c .before .before .before .read-u16 .ensures) (c .before .before .read-u162 .ensures) (c .requested-words .ensures .0)
+
+add-write-u16 : tie.Need-add-write-u16
+add-write-u16 c = search needs
+
+sub-write-u16 : tie.Need-sub-write-u16
+sub-write-u16 c = let h = accepted _ (c .before .before .before .before .before .before .before .before .pre .0) in omega arith
+
+add-write-u16-2 : tie.Need-add-write-u16-2
+add-write-u16-2 c = search needs
+
+cast-write-u16 : tie.Need-cast-write-u16
+cast-write-u16 c = let h = few (c .before) in omega arith
+
+write-u16-requires : tie.Need-write-u16-requires
+write-u16-requires c κs = search needs
+
+add-write-u16-3 : tie.Need-add-write-u16-3
+add-write-u16-3 c = search needs
+
+cast-write-u16-2 : tie.Need-cast-write-u16-2
+cast-write-u16-2 c = let h = few (c .before .before .before .before .before) in omega arith
+
+write-u16-requires-2 : tie.Need-write-u16-requires-2
+write-u16-requires-2 c κs = search needs
+
+put-requested-requires : tie.Need-put-requested-requires
+unfolding listLength
+put-requested-requires c κs =
+    let w = c .before .before .before .before .before .before .before .before .before in
+    let a = w .before .before .before .before .before .before .before .args in
+    let h = accepted _ (w .before .before .before .before .before .before .before .pre .0) in
+    let room = w .before .before .before .before .before .before .before .pre .1 in
+    let k = w .before .before .read-u162 .ensures in
+    let z = rw (← k) at (filtered-size (a .protocols .now) (a .s .now) (w .before .before .before .before .before .before .before .pre .0) (some w)) in
+    let l₁ = simp length-written at (ap length (c .before .before .before .before .before .before .before .write-u16 .ensures)) in
+    let l₂ = simp length-written at (ap length (c .before .before .before .write-u162 .ensures)) in
+    (omega arith, omega arith)
+
+mul-rest : tie.Need-mul-rest
+mul-rest c = search needs
+
+add-rest : tie.Need-add-rest
+add-rest c = search needs
+
+mul-copy : tie.Need-mul-copy
+mul-copy c = search needs
+
+add-copy : tie.Need-add-copy
+add-copy c = search needs
+
+sub-copy : tie.Need-sub-copy
+unfolding listLength
+sub-copy c = let h = accepted _ (c .before .before .before .before .before .before .before .before .before .before .before .before .before .before .before .before .before .before .before .before .pre .0) in omega arith
+
+part-copy-start : tie.Need-part-copy-start
+unfolding listLength
+part-copy-start c = let h = accepted _ (c .before .before .before .before .before .before .before .before .before .before .before .before .before .before .before .before .before .before .before .before .pre .0) in omega arith
+
+part-copy-end : tie.Need-part-copy-end
+part-copy-end c = search needs
+
+copy-requires-2 : tie.Need-copy-requires-2
+copy-requires-2 c κs = search needs
+
+same-length-2 : tie.Need-same-length-2
+same-length-2 c = search needs
+
+returns-2 : tie.Need-returns-2
+returns-2 c =
+    let w = c .before .before .before .before .before .before .before .before .before .before .before .before .before .before .before .before .before in
+    let a = w .before .before .before .before .before .before .before .args in
+    filtered-written (a .protocols .now) (a .s .now) (w .before .before .before .before .before .before .before .pre .0) (some w) (bytes w) _ _ _ (w .before .before .before .read-u16 .ensures) (w .before .before .read-u162 .ensures) (w .requested-words .ensures .0)
+    (a .buf .now) _ _ _ _ (w .before .before .before .before .before .before .before .pre .1) (c .before .before .before .before .before .before .before .before .before .before .before .before .before .before .before .write-u16 .ensures) (c .before .before .before .before .before .before .before .before .before .before .before .write-u162 .ensures) (c .before .before .before .before .before .before .before .put-requested .ensures) (c .before .before .copy2 .ensures)
+
+pub put-filtered-spec : {M : Type 1} → statement M
+put-filtered-spec =
+    tie.close
+    (tie.spec
+    read-u16-requires
+    cast-n
+    read-u16-requires-2
+    cast-k
+    copy-requires
+    same-length
+    returns
+    requested-words-requires
+    add-write-u16
+    sub-write-u16
+    add-write-u16-2
+    cast-write-u16
+    write-u16-requires
+    add-write-u16-3
+    cast-write-u16-2
+    write-u16-requires-2
+    put-requested-requires
+    mul-rest
+    add-rest
+    mul-copy
+    add-copy
+    sub-copy
+    part-copy-start
+    part-copy-end
+    copy-requires-2
+    same-length-2
+    returns-2)

@@ -1,0 +1,55 @@
+-- `filter::write_filtered`: the list's refusals, then room; else the list is written.
+use mathlib.Core.Path.{_≡_, refl, sym, ap, _∙_}
+use native.Mathlib.Omega.{arith}
+use borrow.Author.Tests.{ne-eqb}
+use lib.ListN.{length}
+use Rattle.bindings.specs.Bindings.{listAnswer}
+use Rattle.bindings.proofs.FilterWriting.{answer-list, answer-room, answer-done, write-refused, write-done}
+use borrow.Author.Needs.{needs}
+use Rattle.bindings.proofs.filter.write_filtered.Statement.{statement}
+use Rattle.bindings.proofs.filter.write_filtered.Tie as tie
+
+list-answer-requires : tie.Need-list-answer-requires
+list-answer-requires c κs = search needs
+
+returns : tie.Need-returns
+returns c =
+    let a = c .before .before .before .before .before .args in
+    let e = c .before .list-answer .ensures in
+    let bad = c .if1 .taken in
+    (write-refused (a .protocols .now) (a .s .now) (length (a .buf .now)) _ (answer-list (a .protocols .now) (a .s .now) (length (a .buf .now)) (λ z. bad (e ∙ z)) ∙ sym e) bad, rw (ne-eqb _ 0 bad))
+
+filtered-length-requires : tie.Need-filtered-length-requires
+filtered-length-requires c κs = search needs
+
+returns-2 : tie.Need-returns-2
+returns-2 c =
+    let a = c .before .before .before .before .before .before .before .args in
+    let done = sym (c .before .before .before .list-answer .ensures) ∙ c .before .before .if1 .left in
+    let size = c .before .filtered-length .ensures in
+    (write-refused (a .protocols .now) (a .s .now) (length (a .buf .now)) 15 (answer-room (a .protocols .now) (a .s .now) (length (a .buf .now)) done (omega arith)) (λ z. omega arith), refl)
+
+put-filtered-requires : tie.Need-put-filtered-requires
+put-filtered-requires c κs = search needs
+
+same-length : tie.Need-same-length
+same-length c = search needs
+
+returns-3 : tie.Need-returns-3
+returns-3 c =
+    let a = c .before .before .before .before .before .before .before .before .before .before .before .args in
+    let done = sym (c .before .before .before .before .before .before .before .list-answer .ensures) ∙ c .before .before .before .before .before .before .if1 .left in
+    let size = c .before .before .before .before .before .filtered-length .ensures in
+    (rw size (write-done (a .protocols .now) (a .s .now) (length (a .buf .now)) (answer-done (a .protocols .now) (a .s .now) (length (a .buf .now)) done (omega arith))), c .before .before .put-filtered .ensures)
+
+pub write-filtered-spec : {M : Type 1} → statement M
+write-filtered-spec =
+    tie.close
+    (tie.spec
+    list-answer-requires
+    returns
+    filtered-length-requires
+    returns-2
+    put-filtered-requires
+    same-length
+    returns-3)

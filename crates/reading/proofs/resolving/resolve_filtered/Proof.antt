@@ -1,0 +1,41 @@
+-- `resolving::resolve_filtered`: a table that is not sound is refused; else the step is the call.
+use mathlib.Core.Path.{refl}
+use Rattle.rules.specs.Rules.{results, refused}
+use Rattle.calls.proofs.Calls.{sound-table, unsound-call, stepped-call}
+use borrow.Author.Needs.{needs}
+use Rattle.reading.proofs.resolving.resolve_filtered.Statement.{statement}
+use Rattle.reading.proofs.resolving.resolve_filtered.Tie as tie
+
+sound-requires : tie.Need-sound-requires
+sound-requires c κs = search needs
+
+refused-requires : tie.Need-refused-requires
+refused-requires c κs = search needs
+
+returns : tie.Need-returns
+unfolding refused results
+returns c = rw (c .refused .ensures) (unsound-call (c .before .before .sound .ensures) _ refl (c .before .if1 .taken))
+
+resolve-filtered-step-requires : tie.Need-resolve-filtered-step-requires
+resolve-filtered-step-requires c κs = sound-table (c .before .before .sound .ensures) (c .before .if1 .left)
+
+same-length : tie.Need-same-length
+same-length c = search needs
+
+returns-2 : tie.Need-returns-2
+returns-2 c =
+    let judged = c .before .before .before .before .before .sound .ensures in
+    let left = c .before .before .before .before .if1 .left in
+    let t = sound-table judged left in
+    stepped-call judged _ refl left (c .before .before .resolve-filtered-step .ensures) (t .words) (t .store)
+
+pub resolve-filtered-spec : {M : Type 1} → statement M
+resolve-filtered-spec =
+    tie.close
+    (tie.spec
+    sound-requires
+    refused-requires
+    returns
+    resolve-filtered-step-requires
+    same-length
+    returns-2)

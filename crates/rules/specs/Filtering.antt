@@ -1,0 +1,22 @@
+-- What a resolve with requested protocols has in common with the first resolve (document 02, request 6). A statement only.
+use Prim.Native.Nat.{ℕ, _≤_}
+use mathlib.Core.Path.{_≡_}
+use mathlib.Core.Bool.{true}
+use mathlib.Core.List.{List}
+use lib.ListN.{length}
+use Rattle.fields.specs.Fields.{Bytes}
+use Rattle.bindings.specs.Filter.{allRequested}
+use Rattle.rules.specs.Entries.{Entries}
+use Rattle.rules.specs.Calls.{resolve, resolveFiltered}
+use Rattle.rules.specs.Sound.{sound}
+use Rattle.rules.specs.Rules.{exporterOf, reply}
+
+-- a request within the limit that asks for every tower present: the whole reply is the resolve's, refusals included
+abbrev pub FilteredAgrees : Type 0
+FilteredAgrees =
+    (e : Entries) (x : ℕ) (protocols buffer : List ℕ)
+    → length protocols ≤ 65535
+    → Bytes (exporterOf e x .bindings)
+    → allRequested protocols (exporterOf e x .bindings) ≡ true
+    → sound e ≡ true
+    → reply (resolveFiltered x protocols buffer) e ≡ reply (resolve x buffer) e
