@@ -1,5 +1,5 @@
 /* Calls every function of the header once, as C and as C++, and holds the structs to the layout that the archive has. With the
- * argument "handler" or "custom" it writes such a reference to standard output instead. */
+ * argument "handler", "custom", "extended" or "nested" it writes such a reference to standard output instead. */
 #include "rimonakh.h"
 
 #include <assert.h>
@@ -27,14 +27,27 @@ AT(rimonakh_block, public_refs, 4);
 AT(rimonakh_block, oxid, 8);
 AT(rimonakh_block, oid, 16);
 AT(rimonakh_block, ipid, 24);
-SIZE(rimonakh_reference, 88);
+SIZE(rimonakh_reference, 104);
 AT(rimonakh_reference, iid, 8);
 AT(rimonakh_reference, block, 24);
 AT(rimonakh_reference, clsid, 64);
 AT(rimonakh_reference, extension, 80);
 AT(rimonakh_reference, size, 84);
-SIZE(rimonakh_read_reference, 96);
+AT(rimonakh_reference, element, 88);
+SIZE(rimonakh_read_reference, 112);
 AT(rimonakh_read_reference, reference, 8);
+SIZE(rimonakh_context, 32);
+AT(rimonakh_context, reserved, 16);
+AT(rimonakh_context, marshal, 20);
+AT(rimonakh_context, count, 24);
+AT(rimonakh_context, frozen, 28);
+SIZE(rimonakh_read_context, 40);
+AT(rimonakh_read_context, context, 8);
+SIZE(rimonakh_property, 40);
+AT(rimonakh_property, policy, 16);
+AT(rimonakh_property, flags, 32);
+SIZE(rimonakh_read_property, 48);
+AT(rimonakh_read_property, property, 8);
 SIZE(rimonakh_written, 16);
 AT(rimonakh_written, length, 8);
 SIZE(rimonakh_counts, 40);
@@ -78,14 +91,50 @@ static void expect(int line, uint64_t got, uint64_t wanted) {
 }
 #define IS(got, wanted) expect(__LINE__, got, wanted)
 
-static size_t write_reference(uint32_t flags, uint8_t *buffer, size_t room) {
-    static const uint8_t data[] = {1, 2, 3};
-    int custom = flags == RIMONAKH_CUSTOM;
-    rimonakh_written w =
-        rimonakh_reference_write(flags, 0x11, 0x12, RIMONAKH_NO_PING, 5, 0x51, 0x41, 0x71, 0x72, 0x31, 0x32, 8, 3,
-                                 custom ? data : list, custom ? sizeof data : sizeof list, buffer, room);
+static const uint8_t data[] = {1, 2, 3};
+
+/* tail is the list or the object data, content the data of the element */
+static size_t write_with(uint32_t flags, uint64_t clsid_low, uint64_t clsid_high, const uint8_t *tail, size_t tail_len,
+                         const uint8_t *content, size_t content_len, uint8_t *buffer, size_t room) {
+    rimonakh_written w = rimonakh_reference_write(flags, 0x11, 0x12, RIMONAKH_NO_PING, 5, 0x51, 0x41, 0x71, 0x72,
+                                                  clsid_low, clsid_high, 8, 3, 0x33, 0x34, tail, tail_len, content,
+                                                  content_len, buffer, room);
     IS(w.answer, RIMONAKH_DONE);
     return w.length;
+}
+
+static size_t write_reference(uint32_t flags, uint8_t *buffer, size_t room) {
+    int custom = flags == RIMONAKH_CUSTOM;
+    return write_with(flags, 0x31, 0x32, custom ? data : list, custom ? sizeof data : sizeof list, data, sizeof data,
+                      buffer, room);
+}
+
+/* a context with two properties, the first without data */
+static size_t write_context(uint8_t *buffer, size_t room) {
+    uint8_t properties[128];
+    rimonakh_written w = rimonakh_property_write(0x81, 0x82, 0x83, 0x84, 1, data, 0, properties, sizeof properties);
+    IS(w.answer, 0);
+    IS(w.length, 40);
+    w = rimonakh_property_write(0x85, 0x86, 0x87, 0x88, 4, data, sizeof data, properties + 40, sizeof properties - 40);
+    IS(w.length, 43);
+    w = rimonakh_context_write(0x91, 0x92, 0x93, 0x94, 2, 1, properties, 83, buffer, room);
+    IS(w.answer, 0);
+    return w.length;
+}
+
+/* in a reference of the context marshaler */
+static size_t write_context_reference(uint8_t *buffer, size_t room) {
+    uint8_t context[256];
+    size_t n = write_context(context, sizeof context);
+    return write_with(RIMONAKH_CUSTOM, 0x33B, 0x46000000000000C0, context, n, data, 0, buffer, room);
+}
+
+/* the same in an extended reference in an extended one */
+static size_t write_nested(uint8_t *buffer, size_t room) {
+    uint8_t inner[256], middle[384];
+    size_t n = write_context_reference(inner, sizeof inner);
+    n = write_with(RIMONAKH_EXTENDED, 0, 0, LIST, inner, n, middle, sizeof middle);
+    return write_with(RIMONAKH_EXTENDED, 0, 0, LIST, middle, n, buffer, room);
 }
 
 static void bytes(void) {
@@ -136,6 +185,43 @@ static void bytes(void) {
     r = rimonakh_reference_read(buffer, n);
     IS(r.reference.extension, 8);
     IS(r.reference.size, 3);
+    n = write_reference(RIMONAKH_EXTENDED, buffer, sizeof buffer);
+    IS(n, 126);
+    r = rimonakh_reference_read(buffer, n);
+    IS(r.reference.flags, RIMONAKH_EXTENDED);
+    IS(r.reference.element.low, 0x33);
+    IS(r.reference.element.high, 0x34);
+    p = rimonakh_reference_element(buffer, n, 0);
+    IS(p.answer, 0);
+    IS(p.from, 118);
+    IS(p.to, 121);
+    IS(rimonakh_reference_element(buffer, n, 1).answer, RIMONAKH_NO_BINDING);
+}
+
+static void contexts(void) {
+    uint8_t buffer[256];
+    size_t n = write_context(buffer, sizeof buffer);
+    rimonakh_read_context c = rimonakh_context_read(buffer, n);
+    IS(c.answer, 0);
+    IS(c.context.id.low, 0x91);
+    IS(c.context.id.high, 0x92);
+    IS(c.context.reserved, 0x93);
+    IS(c.context.marshal, 0x94);
+    IS(c.context.count, 2);
+    IS(c.context.frozen, 1);
+    rimonakh_read_property p = rimonakh_context_property(buffer, n, 1);
+    IS(p.answer, 0);
+    IS(p.property.clsid.low, 0x85);
+    IS(p.property.clsid.high, 0x86);
+    IS(p.property.policy.low, 0x87);
+    IS(p.property.policy.high, 0x88);
+    IS(p.property.flags, 4);
+    n = write_context_reference(buffer, sizeof buffer);
+    rimonakh_place place = rimonakh_reference_property(buffer, n, 1);
+    IS(place.answer, 0);
+    IS(place.from, n - 3);
+    IS(place.to, n);
+    IS(rimonakh_reference_property(buffer, n, 2).answer, RIMONAKH_NO_BINDING);
 }
 
 static void calls(void) {
@@ -201,13 +287,23 @@ static void calls(void) {
     IS(rimonakh_remove_exporter(TABLE, 0x51), RIMONAKH_NO_EXPORTER);
 }
 
+static size_t write_named(const char *name, uint8_t *buffer, size_t room) {
+    if (strcmp(name, "nested") == 0) {
+        return write_nested(buffer, room);
+    }
+    return write_reference(strcmp(name, "handler") == 0    ? RIMONAKH_HANDLER
+                           : strcmp(name, "extended") == 0 ? RIMONAKH_EXTENDED
+                                                           : RIMONAKH_CUSTOM,
+                           buffer, room);
+}
+
 int main(int argc, char **argv) {
     if (argc == 2) {
-        uint8_t buffer[128];
-        uint32_t flags = strcmp(argv[1], "handler") == 0 ? RIMONAKH_HANDLER : RIMONAKH_CUSTOM;
-        fwrite(buffer, 1, write_reference(flags, buffer, sizeof buffer), stdout);
+        uint8_t buffer[512];
+        fwrite(buffer, 1, write_named(argv[1], buffer, sizeof buffer), stdout);
     } else {
         bytes();
+        contexts();
         calls();
     }
     return failed;

@@ -69,7 +69,7 @@ static size_t serve(const uint8_t *list, size_t list_len, uint8_t *reference, si
     done("server: enters the tank level group with 5 public references",
          rimonakh_enter_object(TABLE, OID, OXID, IPID.low, IPID.high, IID.low, IID.high, 5, false));
     written = rimonakh_reference_write(RIMONAKH_STANDARD, IID.low, IID.high, 0, 5, OXID, OID, IPID.low, IPID.high, 0, 0,
-                                       0, 0, list, list_len, reference, room);
+                                       0, 0, 0, 0, list, list_len, list, 0, reference, room);
     step("server: writes the reference", written.answer);
     printf(", %zu bytes\n", written.length);
     return written.length;

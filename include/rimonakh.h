@@ -56,15 +56,17 @@ enum {
     RIMONAKH_SETS_USED_UP = 18, /* the set numbers are used up */
     RIMONAKH_LONG_LIST = 19, /* a binding list of more than 512 bytes */
     RIMONAKH_NO_CLIENT = 20, /* the client is none of 0 to 7 */
+    RIMONAKH_TOO_DEEP = 21, /* references nested deeper than 8 */
     RIMONAKH_NIL_IDENTIFIER = 22, /* the OXID, OID or IPID of a reference is zero */
-    RIMONAKH_NO_BINDING = 24 /* the list has no binding of this number */
+    RIMONAKH_NO_BINDING = 24 /* no binding, element or property of this number */
 };
 
 /* The flags of a reference, which name its form. */
 enum {
     RIMONAKH_STANDARD = 1,
     RIMONAKH_HANDLER = 2,
-    RIMONAKH_CUSTOM = 4
+    RIMONAKH_CUSTOM = 4,
+    RIMONAKH_EXTENDED = 8
 };
 
 typedef struct {
@@ -114,11 +116,38 @@ typedef struct {
 typedef struct {
     uint32_t flags;
     rimonakh_guid iid;
-    rimonakh_block block; /* standard and handler */
+    rimonakh_block block; /* standard, handler and extended */
     rimonakh_guid clsid; /* handler and custom */
     uint32_t extension; /* custom: the extension size, kept and not used */
     uint32_t size; /* custom: the size, kept and not used */
+    rimonakh_guid element; /* extended: the identifier of its element */
 } rimonakh_reference;
+
+/* The fields of a context that are not fixed. Reserved, marshal flags and frozen are kept and not used. */
+typedef struct {
+    rimonakh_guid id;
+    uint32_t reserved;
+    uint32_t marshal;
+    uint32_t count; /* of the properties */
+    uint32_t frozen;
+} rimonakh_context;
+
+typedef struct {
+    uint32_t answer;
+    rimonakh_context context;
+} rimonakh_read_context;
+
+/* The fields of a context's property before its data. */
+typedef struct {
+    rimonakh_guid clsid;
+    rimonakh_guid policy;
+    uint32_t flags; /* 1 propagate, 2 expose, 4 envoy */
+} rimonakh_property;
+
+typedef struct {
+    uint32_t answer;
+    rimonakh_property property;
+} rimonakh_read_property;
 
 typedef struct {
     uint32_t answer;
@@ -214,13 +243,15 @@ rimonakh_place rimonakh_list_security_binding(const uint8_t *bytes, size_t bytes
 
 /* ---- references */
 
-/* Whether bytes are a reference: 0; 13; 14; 22. */
+/* Whether bytes are a reference: 0; 13, 14 and 21 in the order of the bytes; 22. The element of an extended reference may hold a
+ * reference, which is judged too, and the object data of a custom one with the context marshaler's CLSID is judged as a
+ * context. */
 uint32_t rimonakh_reference_answer(const uint8_t *bytes, size_t bytes_len);
 
-/* Reads the fixed fields of a reference. 13; 14; 22. */
+/* Reads the fixed fields of a reference. 13, 14, 21; 22. */
 rimonakh_read_reference rimonakh_reference_read(const uint8_t *bytes, size_t bytes_len);
 
-/* Where the binding list of a reference stands in bytes, or the object data of a custom one. 13; 14; 22. */
+/* Where the binding list of a reference stands in bytes, or the object data of a custom one. 13, 14, 21; 22. */
 rimonakh_place rimonakh_reference_tail(const uint8_t *bytes, size_t bytes_len);
 
 /* Where string binding k, from 0, of a reference stands in bytes. The reference's refusals; 24, also for a custom one. */
@@ -229,15 +260,47 @@ rimonakh_place rimonakh_reference_string_binding(const uint8_t *bytes, size_t by
 /* The same of security binding k. */
 rimonakh_place rimonakh_reference_security_binding(const uint8_t *bytes, size_t bytes_len, size_t k);
 
+/* Where the data of element k, from 0, of an extended reference stands in bytes, without its padding. The reference's refusals;
+ * 24, also for the other forms. */
+rimonakh_place rimonakh_reference_element(const uint8_t *bytes, size_t bytes_len, size_t k);
+
+/* Where the data of property k, from 0, of the context in a custom reference stands in bytes. The reference's refusals; 24, also
+ * for a reference without a context. */
+rimonakh_place rimonakh_reference_property(const uint8_t *bytes, size_t bytes_len, size_t k);
+
 /* Writes a reference at the front of buffer, keeps the rest, and answers its length. Flags (the form); IID; the block's flags,
- * public references, OXID, OID and IPID; CLSID; extension size and size; then tail, which is read: the binding list, or the
- * object data of a custom reference. Numbers that the form does not have are not written. buffer is written. 14 for the flags;
- * the list's refusals; 22; 15. */
+ * public references, OXID, OID and IPID; CLSID; extension size and size; the identifier of the element; then tail, which is
+ * read: the binding list, or the object data of a custom reference; then content, which is read: the data of the element of an
+ * extended reference. What the form does not have is not written. buffer is written. 14 for the flags; the refusals of the list
+ * or the context; of the element, with 14 for data of more than 0xFFFFFFF8 bytes; 22; 15. */
 rimonakh_written rimonakh_reference_write(uint32_t flags, uint64_t iid_low, uint64_t iid_high, uint32_t block_flags,
                                           uint32_t public_refs, uint64_t oxid, uint64_t oid, uint64_t ipid_low,
                                           uint64_t ipid_high, uint64_t clsid_low, uint64_t clsid_high,
-                                          uint32_t extension, uint32_t size, const uint8_t *tail, size_t tail_len,
-                                          uint8_t *buffer, size_t buffer_len);
+                                          uint32_t extension, uint32_t size, uint64_t element_low,
+                                          uint64_t element_high, const uint8_t *tail, size_t tail_len,
+                                          const uint8_t *content, size_t content_len, uint8_t *buffer,
+                                          size_t buffer_len);
+
+/* ---- contexts: the object data of a custom reference with the context marshaler's CLSID */
+
+/* Reads the fields of a context that are not fixed. 13, 14 in the order of the bytes. */
+rimonakh_read_context rimonakh_context_read(const uint8_t *bytes, size_t bytes_len);
+
+/* Reads the fields of property k, from 0, of a context. The context's refusals; 24. */
+rimonakh_read_property rimonakh_context_property(const uint8_t *bytes, size_t bytes_len, size_t k);
+
+/* Writes a context at the front of buffer, keeps the rest, and answers its length. Context id; reserved; marshal flags; the
+ * number of properties; frozen; then properties, which is read: the bytes of the properties, one after the other. buffer is
+ * written. 13, 14 of the properties; 15. */
+rimonakh_written rimonakh_context_write(uint64_t id_low, uint64_t id_high, uint32_t reserved, uint32_t marshal,
+                                        uint32_t count, uint32_t frozen, const uint8_t *properties,
+                                        size_t properties_len, uint8_t *buffer, size_t buffer_len);
+
+/* Writes a property at the front of buffer, keeps the rest, and answers its length. CLSID; policy; flags; then content, which is
+ * read: its data. buffer is written. 14 for the flags; 14 for data of more than 0xFFFFFFFF bytes; 15. */
+rimonakh_written rimonakh_property_write(uint64_t clsid_low, uint64_t clsid_high, uint64_t policy_low,
+                                         uint64_t policy_high, uint32_t flags, const uint8_t *content,
+                                         size_t content_len, uint8_t *buffer, size_t buffer_len);
 
 /* ---- calls on a table: each is lent the array and the store, and answers 1 first */
 

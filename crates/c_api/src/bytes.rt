@@ -1,6 +1,11 @@
 // Call headers, binding lists and references.
 use bindings::Part;
 use bindings::Place;
+use contexts::Context;
+use contexts::Property;
+use contexts::ReadContext;
+use contexts::ReadProperty;
+use fields::Written;
 use headers::OrpcThat;
 use headers::OrpcThis;
 use headers::ReadThat;
@@ -11,17 +16,20 @@ use kinds::Oxid;
 use references::Block;
 use references::ReadReference;
 use references::Reference;
-use references::Written;
 ghost use mathlib.Core.Path.{_≡_};
 ghost use mathlib.Core.Bool.{cond};
 ghost use lib.Dec.{eqb};
 ghost use lib.ListN.{length};
 ghost use Rattle.fields.specs.Fields.{stored};
 ghost use Rattle.headers.specs.declared.OrpcThis.{OrpcThis};
+ghost use Rattle.contexts.specs.declared.Context.{Context};
+ghost use Rattle.contexts.specs.declared.Property.{Property};
 ghost use Rattle.references.specs.declared.Reference.{Reference};
 ghost use Rattle.headers.specs.Headers.{readThis, thisBytes, thisWritten, readThat, thatBytes, thatWritten};
 ghost use Rattle.bindings.specs.Bindings.{frontAnswer, listAnswer, listLength, bindingAt};
-ghost use Rattle.references.specs.References.{referenceAnswer, readReference, tailPlace, referenceBinding, referenceBytes, writeReference};
+ghost use Rattle.contexts.specs.Contexts.{readContext, readProperty, propertyBytes, writeProperty, contextBytes, writeContext};
+ghost use Rattle.references.specs.Parts.{ElementFound};
+ghost use Rattle.references.specs.References.{referenceAnswer, readReference, tailPlace, referenceBinding, contextPlace, referenceBytes, writeReference};
 
 // Reads the ORPCTHIS at the front of bytes.
 #[no_mangle]
@@ -156,7 +164,102 @@ pub extern "C" fn rimonakh_reference_security_binding(bytes: &[u8], k: usize) ->
     references::locate(bytes, Part::Security, k)
 }
 
-// Writes a reference with its list or object data at the front of buffer. Fields that the form does not have are not written.
+// Where the data of element k of a reference stands.
+#[no_mangle]
+pub extern "C" fn rimonakh_reference_element(bytes: &[u8], k: usize) -> Place
+    ensures { λ r. ⌜ ElementFound (now (bytes .entry)) k r ⌝ }
+{
+    references::locate_element(bytes, k)
+}
+
+// Where the data of context property k of a reference stands.
+#[no_mangle]
+pub extern "C" fn rimonakh_reference_property(bytes: &[u8], k: usize) -> Place
+    ensures { λ r. ⌜ r ≡ contextPlace (now (bytes .entry)) k ⌝ }
+{
+    references::locate_property(bytes, k)
+}
+
+// Reads a context, the object data of a custom reference with the context marshaler's CLSID.
+#[no_mangle]
+pub extern "C" fn rimonakh_context_read(bytes: &[u8]) -> ReadContext
+    ensures { λ r. ⌜ r ≡ readContext (now (bytes .entry)) ⌝ }
+{
+    Context::read(bytes)
+}
+
+// Reads the fields of property k of a context.
+#[no_mangle]
+pub extern "C" fn rimonakh_context_property(bytes: &[u8], k: usize) -> ReadProperty
+    ensures { λ r. ⌜ r ≡ readProperty (now (bytes .entry)) k ⌝ }
+{
+    Property::read(bytes, k)
+}
+
+// Writes a property with its data at the front of buffer.
+#[no_mangle]
+pub extern "C" fn rimonakh_property_write<'a>(
+    clsid_low: u64,
+    clsid_high: u64,
+    policy_low: u64,
+    policy_high: u64,
+    flags: u32,
+    content: &'a [u8],
+    buffer: &'a mut [u8],
+) -> Written
+    ensures { λ r. ⌜
+        (let property : Property = record { clsid = record { low = «clsid_low»; high = «clsid_high» }; policy = record { low = «policy_low»; high = «policy_high» }; flags = flags } in
+        (r ≡ writeProperty property (now (content .entry)) (length (now (buffer .entry))))
+        × (now (buffer .exit) ≡ stored (r .answer) (propertyBytes property (now (content .entry))) (now (buffer .entry)))) ⌝ }
+{
+    let clsid = Guid {
+        low: clsid_low,
+        high: clsid_high,
+    };
+    let policy = Guid {
+        low: policy_low,
+        high: policy_high,
+    };
+    let property = Property {
+        clsid: clsid,
+        policy: policy,
+        flags: flags,
+    };
+    property.write(content, buffer)
+}
+
+// Writes a context with the bytes of its properties at the front of buffer.
+#[no_mangle]
+pub extern "C" fn rimonakh_context_write<'a>(
+    id_low: u64,
+    id_high: u64,
+    reserved: u32,
+    marshal: u32,
+    count: u32,
+    frozen: u32,
+    properties: &'a [u8],
+    buffer: &'a mut [u8],
+) -> Written
+    ensures { λ r. ⌜
+        (let context : Context = record { id = record { low = «id_low»; high = «id_high» }; reserved = reserved; marshal = marshal; count = count; frozen = frozen } in
+        (r ≡ writeContext context (now (properties .entry)) (length (now (buffer .entry))))
+        × (now (buffer .exit) ≡ stored (r .answer) (contextBytes context (now (properties .entry))) (now (buffer .entry)))) ⌝ }
+{
+    let id = Guid {
+        low: id_low,
+        high: id_high,
+    };
+    let context = Context {
+        id: id,
+        reserved: reserved,
+        marshal: marshal,
+        count: count,
+        frozen: frozen,
+    };
+    context.write(properties, buffer)
+}
+
+// Writes a reference with its list or object data, and the data of its element, at the front of buffer. Fields that the form does not have are not written.
 #[no_mangle]
 pub extern "C" fn rimonakh_reference_write<'a>(
     flags: u32,
@@ -172,7 +275,10 @@ pub extern "C" fn rimonakh_reference_write<'a>(
     clsid_high: u64,
     extension: u32,
     size: u32,
+    element_low: u64,
+    element_high: u64,
     tail: &'a [u8],
+    content: &'a [u8],
     buffer: &'a mut [u8],
 ) -> Written
     ensures { λ r. ⌜
@@ -184,9 +290,10 @@ pub extern "C" fn rimonakh_reference_write<'a>(
           clsid = record { low = «clsid_low»; high = «clsid_high» };
           extension = extension;
           size = size;
+          element = record { low = «element_low»; high = «element_high» };
         } in
-        (r ≡ writeReference reference (now (tail .entry)) (length (now (buffer .entry))))
-        × (now (buffer .exit) ≡ stored (r .answer) (referenceBytes reference (now (tail .entry))) (now (buffer .entry)))) ⌝ }
+        (r ≡ writeReference reference (now (tail .entry)) (now (content .entry)) (length (now (buffer .entry))))
+        × (now (buffer .exit) ≡ stored (r .answer) (referenceBytes reference (now (tail .entry)) (now (content .entry))) (now (buffer .entry)))) ⌝ }
 {
     let iid = Guid {
         low: iid_low,
@@ -199,6 +306,10 @@ pub extern "C" fn rimonakh_reference_write<'a>(
     let clsid = Guid {
         low: clsid_low,
         high: clsid_high,
+    };
+    let element = Guid {
+        low: element_low,
+        high: element_high,
     };
     let block = Block {
         flags: block_flags,
@@ -214,6 +325,7 @@ pub extern "C" fn rimonakh_reference_write<'a>(
         clsid: clsid,
         extension: extension,
         size: size,
+        element: element,
     };
-    reference.write(tail, buffer)
+    reference.write(tail, content, buffer)
 }

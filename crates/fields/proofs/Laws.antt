@@ -1,17 +1,18 @@
 -- Laws of numbers as bytes, of fields, and of writing into a list; each holds for every width.
 use Prim.Native.Nat.{ℕ, suc, zero, _+_, _-_, _*_, _/_, _%_, _^_, _<_, _≤_}
 use mathlib.Core.Path.{_≡_, refl, sym, ap, _∙_}
+use mathlib.Core.Bool.{Bool, true, false}
 use mathlib.Core.List.{List, [], _∷_, _++_, append-assoc}
 use native.Mathlib.Omega.{arith}
 use native.Mathlib.Numerals.{add-one}
 use native.Mathlib.Nat.{pow-suc, pow-zero, add-zero, zero-add, div-lt-iff-lt-mul, pow-le-pow-right}
-use borrow.Author.Tests.{le-leb, lt-leb, leb-true}
+use borrow.Author.Tests.{le-leb, lt-leb, leb-true, leb-false}
 use lib.Dec.{leb}
 use lib.ListN.{length, getD, take, drop, set, length-append, length-take, length-drop, length-set, take-append-drop}
 use lib.Seq.{drop-cons, drop-set-lt, take-suc-set, take-at, drop-drop, length-take-le, getD-drop, append-snoc, drop-append-add, drop-append-le, take-append-le, take-take, take-all}
 use Rattle.kinds.proofs.Refusing.{by-test, same-test}
 use Rattle.kinds.specs.declared.Guid.{Guid}
-use Rattle.fields.specs.Fields.{number, encode, field, written, guidAt, guidBytes, Bytes}
+use Rattle.fields.specs.Fields.{number, encode, field, written, guidAt, guidBytes, Bytes, GuidFits}
 
 -- ---- numbers
 
@@ -93,14 +94,53 @@ module _ (s : List ℕ) (at w i n : ℕ) (h : 0 < i) (l : i ≤ w) (room : at + 
       let k : w - (i - 1) ≡ suc (w - i) = omega arith in
       rw (k, pow-suc 256 (w - i)) (omega arith)
 
-drop-bytes : (s : List ℕ) (at : ℕ) → Bytes s → Bytes (drop at s)
+pub drop-bytes : (s : List ℕ) (at : ℕ) → Bytes s → Bytes (drop at s)
 drop-bytes s at h i = rw (getD-drop at s i 0) (h (at + i))
 
-take-bytes : (w : ℕ) (s : List ℕ) → Bytes s → Bytes (take w s)
+pub take-bytes : (w : ℕ) (s : List ℕ) → Bytes s → Bytes (take w s)
 take-bytes zero s h i = omega arith
 take-bytes (suc w) [] h i = omega arith
 take-bytes (suc w) (b ∷ s) h zero = h 0
 take-bytes (suc w) (b ∷ s) h (suc i) = take-bytes w s (tail-bytes b s h) i
+
+-- a number that bytes make
+pub number-bound : (l : List ℕ) → Bytes l → number l < 256 ^ length l
+unfolding number
+number-bound [] h = omega arith
+number-bound (b ∷ l) h =
+    let n = number-bound l (λ i. h (suc i)) in
+    let a = h 0 in
+    rw (pow-suc 256 (length l)) (omega arith)
+
+-- a field of bytes fits its width
+pub field-bound : (s : List ℕ) (at w : ℕ) → Bytes s → field s at w < 256 ^ w
+unfolding field
+field-bound s at w h =
+    by-test (λ (n : ℕ). n < 256 ^ w) (leb (at + w) (length s)) _ _
+    (λ e.
+    let l = leb-true (at + w) (length s) e in
+    let n : length (take w (drop at s)) ≡ w = length-take-le w (drop at s) (rw length-drop (omega arith)) in
+    rw n at (number-bound (take w (drop at s)) (take-bytes w (drop at s) (drop-bytes s at h))))
+    (λ e. power-positive w)
+
+-- a field of the bytes from k is a field further on
+pub field-drop : (s : List ℕ) (k at w : ℕ) → 0 < w → field (drop k s) at w ≡ field s (k + at) w
+field-drop s k at w p =
+    let n = length-drop k s in
+    by-test (λ (_ : Bool). field (drop k s) at w ≡ field s (k + at) w) (leb (k + at + w) (length s)) true false
+    (λ e.
+    let h = leb-true (k + at + w) (length s) e in
+    let i : at + w ≤ length (drop k s) = omega arith in
+    rw (field-in (drop k s) at w i, field-in s (k + at) w h, drop-drop at k s))
+    (λ e.
+    let h = leb-false (k + at + w) (length s) e in
+    let i : length (drop k s) < at + w = omega arith in
+    rw (field-out (drop k s) at w i, field-out s (k + at) w h))
+
+pub guid-drop : (s : List ℕ) (k at : ℕ) → guidAt (drop k s) at ≡ guidAt s (k + at)
+guid-drop s k at =
+    let e : k + (at + 8) ≡ k + at + 8 = omega arith in
+    rw (field-drop s k at 8 (omega arith), field-drop s k (at + 8) 8 (omega arith), e)
 
 -- a field, and the bytes after it
 pub field-then : (s : List ℕ) (at w : ℕ) (rest : List ℕ) → Bytes s → at + w ≤ length s → drop (at + w) s ≡ rest → drop at s ≡ encode w (field s at w) ++ rest
@@ -130,17 +170,15 @@ part-of s x at n k w e h = rw (← e, drop-of-take k w n (drop at s) h, drop-dro
 pub field-as : (s : List ℕ) (at w v : ℕ) → take w (drop at s) ≡ encode w v → at + w ≤ length s → v < 256 ^ w → field s at w ≡ v
 field-as s at w v e h b = field-in s at w h ∙ (rw e (number-encode w v b))
 
--- both halves fit their width, as the machine's numbers do
-pub record GuidFits (g : Guid) : Type 0 where
-  pub low : g .low < 2 ^ 64
-  pub high : g .high < 2 ^ 64
-
 pub guid-as : (s : List ℕ) (at : ℕ) (g : Guid) → take 16 (drop at s) ≡ guidBytes g → at + 16 ≤ length s → GuidFits g → guidAt s at ≡ g
 unfolding encode
 guid-as s at g e h b =
     let low : take 8 (drop (at + 0) s) ≡ encode 8 (g .low) = part-of s (guidBytes g) at 16 0 8 e (omega arith) in
     let high : take 8 (drop (at + 8) s) ≡ encode 8 (g .high) = part-of s (guidBytes g) at 16 8 8 e (omega arith) in
     rw (field-as s at 8 (g .low) (rw (add-zero at) at low) (omega arith) (b .low), field-as s (at + 8) 8 (g .high) high (omega arith) (b .high))
+
+pub guid-fits : (s : List ℕ) (at : ℕ) → Bytes s → GuidFits (guidAt s at)
+guid-fits s at h = record { low = field-bound s at 8 h; high = field-bound s (at + 8) 8 h }
 
 -- what bytes that are a layout hold at one of its places
 module _ (s x : List ℕ) (at n : ℕ) (e : take n (drop at s) ≡ x) (l : at + n ≤ length s) where

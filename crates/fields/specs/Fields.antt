@@ -1,5 +1,5 @@
 -- Little-endian fields in lists of bytes (000, section 2.2; GUIDs: section 2.2.5).
-use Prim.Native.Nat.{ℕ, suc, zero, _+_, _*_, _/_, _%_, _<_}
+use Prim.Native.Nat.{ℕ, suc, zero, _+_, _*_, _/_, _%_, _^_, _<_}
 use mathlib.Core.Bool.{cond}
 use mathlib.Core.List.{List, [], _∷_, _++_}
 use lib.ListN.{length, getD, take, drop}
@@ -39,3 +39,8 @@ guidBytes g = encode 8 (g .low) ++ encode 8 (g .high)
 -- each element is a byte
 abbrev pub Bytes : List ℕ → Type 0
 Bytes s = (i : ℕ) → getD s i 0 < 256
+
+-- both halves of an identifier fit their width, as the machine's numbers do
+pub record GuidFits (g : Guid) : Type 0 where
+  pub low : g .low < 2 ^ 64
+  pub high : g .high < 2 ^ 64

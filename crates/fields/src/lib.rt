@@ -7,6 +7,13 @@ ghost use lib.ListN.{length};
 ghost use lib.Dec.{leb};
 ghost use Rattle.fields.specs.Fields.{field, encode, written, guidAt, guidBytes};
 
+// A writer's answer, and the number of bytes that it wrote.
+#[repr(C)]
+pub struct Written {
+    pub answer: u32,
+    pub length: usize,
+}
+
 // Whether the w bytes from at lie within n bytes.
 pub fn inside(n: usize, at: usize, w: usize) -> bool
     ensures { λ r. ⌜ r ≡ leb (at + w) n ⌝ }

@@ -1,18 +1,21 @@
 -- Room is refused exactly when a kind that the call needs has as many live entries as places.
-use Prim.Native.Nat.{ℕ, _≤_}
+use Prim.Native.Nat.{ℕ, suc, zero, _≤_}
 use mathlib.Core.Path.{_≡_, refl, sym, ap, _∙_}
 use mathlib.Core.Bool.{Bool, true, false, cond, not, _&&_, and-false}
 use mathlib.Core.List.{List, [], _∷_}
 use mathlib.Core.Logic.{⊎-elim}
 use native.Mathlib.Omega.{arith}
 use borrow.Author.Tests.{eq-eqb, ne-eqb, eqb-false, le-leb, lt-leb, not-true}
-use lib.ListN.{length}
+use lib.ListN.{length, drop}
 use lib.Dec.{eqb, leb}
 use Rattle.kinds.specs.Refusals.{Row, _gives_, passes, differ, order}
 use Rattle.kinds.proofs.Refusing.{by-test}
 use Rattle.bindings.specs.Bindings.{frontAnswer, listAnswer}
 use Rattle.fields.specs.Fields.{field}
-use Rattle.references.specs.References.{isCustom, tailAnswer, layoutAnswer, referenceAnswer}
+use Rattle.kinds.specs.declared.Guid.{Guid}
+use Rattle.contexts.specs.Contexts.{propertyLength, propertyAnswer, propertiesAnswer, extentsAnswer, headAnswer as contextHead, contextAnswer, isMarshaler}
+use Rattle.elements.specs.Elements.{isReference, elementContent, elementFront, elementEnd, contentAnswer, elementAnswer}
+use Rattle.references.specs.References.{isCustom, isExtended, objectAnswer, elementStart, headAnswer, plainAnswer, extendedFront, extendedAnswer, formAnswer, layoutBy, layoutAnswer, referenceAnswer}
 use Rattle.lists.proofs.Tests.{below-or-not}
 use Rattle.rules.specs.Entries.{Entries}
 use Rattle.rules.specs.Calls.{Call, reset, enterExporter, removeExporter, enterObject, enterInterface, add, release, dropClient, countList, simplePing, complexPing, clock, resolve, resolveFiltered, census, members, nextStop}
@@ -74,20 +77,83 @@ list-answer : (s : List ℕ) → listAnswer s ≡ 9 → ⊥
 unfolding listAnswer
 list-answer s = not-nine (passing (frontAnswer s) (front-answer s) (other refl refl none))
 
--- of what follows the fixed fields
-tail-answer : (f : ℕ) (s : List ℕ) → tailAnswer f s ≡ 9 → ⊥
-unfolding tailAnswer
-tail-answer f s = by-test (λ (n : ℕ). n ≡ 9 → ⊥) (isCustom f) 0 (listAnswer s) (λ t. omega arith) (λ t. list-answer s)
+-- of a context
+property-answer : (t : List ℕ) → propertyAnswer t ≡ 9 → ⊥
+unfolding propertyAnswer
+property-answer t = not-nine (other refl refl (other refl refl (other refl refl (other refl refl none))))
+
+properties-answer : (n : ℕ) (t : List ℕ) → propertiesAnswer n t ≡ 9 → ⊥
+unfolding propertiesAnswer
+properties-answer zero t = not-nine (other refl refl none)
+properties-answer (suc n) t =
+    not-nine (passing (propertyAnswer t) (property-answer t) (passing (propertiesAnswer n (drop (propertyLength t) t)) (properties-answer n (drop (propertyLength t) t)) none))
+
+extents-answer : (s : List ℕ) → extentsAnswer s ≡ 9 → ⊥
+unfolding extentsAnswer
+extents-answer s = not-nine (other refl refl (other refl refl (other refl refl (other refl refl (other refl refl none)))))
+
+context-head : (s : List ℕ) → contextHead s ≡ 9 → ⊥
+unfolding contextHead
+context-head s = not-nine (other refl refl (other refl refl (other refl refl (other refl refl (other refl refl (other refl refl (passing (extentsAnswer s) (extents-answer s) none)))))))
+
+context-answer : (s : List ℕ) → contextAnswer s ≡ 9 → ⊥
+unfolding contextAnswer
+context-answer s =
+    not-nine (passing (contextHead s) (context-head s) (passing (propertiesAnswer (field s 40 4) (drop 48 s)) (properties-answer (field s 40 4) (drop 48 s)) none))
+
+object-answer : (g : Guid) (t : List ℕ) → objectAnswer g t ≡ 9 → ⊥
+unfolding objectAnswer
+object-answer g t = by-test (λ (n : ℕ). n ≡ 9 → ⊥) (isMarshaler g) (contextAnswer t) 0 (λ e. context-answer t) (λ e. omega arith)
+
+-- of an element, where j judges a reference in it
+element-front : (t : List ℕ) → elementFront t ≡ 9 → ⊥
+unfolding elementFront
+element-front t = not-nine (other refl refl (other refl refl (other refl refl (other refl refl (other refl refl (other refl refl (other refl refl none)))))))
+
+element-end : (t : List ℕ) → elementEnd t ≡ 9 → ⊥
+unfolding elementEnd
+element-end t = not-nine (other refl refl (other refl refl none))
+
+element-answer : (j : List ℕ → ℕ) (t : List ℕ) → ((x : List ℕ) → j x ≡ 9 → ⊥) → elementAnswer j t ≡ 9 → ⊥
+unfolding elementAnswer
+element-answer j t h =
+    let x = elementContent t in
+    let inner : contentAnswer j x ≡ 9 → ⊥ = by-test (λ (n : ℕ). n ≡ 9 → ⊥) (isReference x) (j x) 0 (λ e. h x) (λ e. omega arith) in
+    not-nine (passing (elementFront t) (element-front t) (passing (contentAnswer j x) inner (passing (elementEnd t) (element-end t) none)))
 
 -- of the layout of a reference
-layout-answer : (s : List ℕ) → layoutAnswer s ≡ 9 → ⊥
-unfolding layoutAnswer
-layout-answer s = not-nine (other refl refl (other refl refl (other refl refl (other refl refl (passing _ (tail-answer (field s 4 4) _) none)))))
+head-answer : (s : List ℕ) → headAnswer s ≡ 9 → ⊥
+unfolding headAnswer
+head-answer s = not-nine (other refl refl (other refl refl (other refl refl (other refl refl none))))
+
+plain-answer : (s : List ℕ) → plainAnswer s ≡ 9 → ⊥
+unfolding plainAnswer
+plain-answer s = by-test (λ (n : ℕ). n ≡ 9 → ⊥) (isCustom (field s 4 4)) _ _ (λ e. object-answer _ _) (λ e. list-answer _)
+
+extended-front : (s : List ℕ) → extendedFront s ≡ 9 → ⊥
+unfolding extendedFront
+extended-front s = not-nine (other refl refl (passing (frontAnswer (drop 68 s)) (front-answer (drop 68 s)) (other refl refl (other refl refl (other refl refl (other refl refl none))))))
+
+extended-answer : (j : List ℕ → ℕ) (s : List ℕ) → ((x : List ℕ) → j x ≡ 9 → ⊥) → extendedAnswer j s ≡ 9 → ⊥
+unfolding extendedAnswer
+extended-answer j s h =
+    let t = drop (elementStart s) s in
+    not-nine (passing (extendedFront s) (extended-front s) (passing (elementAnswer j t) (element-answer j t h) none))
+
+form-answer : (j : List ℕ → ℕ) (s : List ℕ) → ((x : List ℕ) → j x ≡ 9 → ⊥) → formAnswer j s ≡ 9 → ⊥
+unfolding formAnswer
+form-answer j s h = by-test (λ (n : ℕ). n ≡ 9 → ⊥) (isExtended (field s 4 4)) (extendedAnswer j s) (plainAnswer s) (λ e. extended-answer j s h) (λ e. plain-answer s)
+
+layout-answer : (d : ℕ) (s : List ℕ) → layoutAnswer d s ≡ 9 → ⊥
+unfolding layoutAnswer layoutBy
+layout-answer zero s = omega arith
+layout-answer (suc d) s =
+    not-nine (passing (headAnswer s) (head-answer s) (passing (formAnswer (layoutAnswer d) s) (form-answer (layoutAnswer d) s (layout-answer d)) none))
 
 -- of a reference
 reference-answer : (s : List ℕ) → referenceAnswer s ≡ 9 → ⊥
 unfolding referenceAnswer
-reference-answer s = not-nine (passing (layoutAnswer s) (layout-answer s) (other refl refl none))
+reference-answer s = not-nine (passing (layoutAnswer 8 s) (layout-answer 8 s) (other refl refl none))
 
 -- ---- the calls
 

@@ -2,7 +2,7 @@
 use Prim.Native.Nat.{ℕ, _<_}
 use mathlib.Core.Path.{_≡_, refl, sym, ap, _∙_}
 use mathlib.Core.Bool.{Bool, true, false, cond, _||_}
-use mathlib.Core.List.{List, _∷_}
+use mathlib.Core.List.{List, [], _∷_}
 use native.Mathlib.Omega.{arith}
 use borrow.Author.Tests.{eq-eqb, ne-eqb, eqb-true, eqb-false, not-false}
 use lib.Dec.{eqb}
@@ -55,3 +55,8 @@ passed-on n rs e =
     by-test (λ (x : ℕ). x ≡ 0 → (n ≡ 0) × (order rs ≡ 0)) (differ n 0) n (order rs)
     (λ d z. absurd (true-false (sym d ∙ eq-differ n 0 z)))
     (λ d z. (differ-false n 0 d, z)) e
+
+-- an answer that the last row passes on
+pub last-row : (n : ℕ) → order (passes n ∷ []) ≡ n
+unfolding order
+last-row n = by-test (λ (x : ℕ). x ≡ n) (differ n 0) n 0 (λ e. refl) (λ e. sym (differ-false n 0 e))

@@ -58,6 +58,9 @@ pub const LONG_LIST: u32 = 19;
 // The client is none of 0 to 7.
 pub const NO_CLIENT: u32 = 20;
 
+// References nested deeper than 8.
+pub const TOO_DEEP: u32 = 21;
+
 // An OXID, OID or IPID of a reference is zero.
 pub const NIL_IDENTIFIER: u32 = 22;
 

@@ -1,22 +1,47 @@
-// The object data of a custom reference.
+// The object data of a custom reference, and the data of an element.
+use crate::context;
+use crate::line;
+use kinds::Guid;
 ghost use Prim.Native.Nat.{_≤_};
 
-// The length, and the first 64 bytes in hex, 16 to a line.
-pub fn object_data(s: &[u8]) {
-    print::text(b"object data: ");
-    print::decimal(s.len() as u64);
-    print::text(b" bytes\n");
-    dump(s);
+// A context where the CLSID says so.
+pub fn object(clsid: Guid, s: &[u8], n: usize) {
+    if contexts::is_marshaler(clsid) {
+        context::report(s, n);
+    } else {
+        line::named(n, b"object data: ");
+        content(s, n);
+    }
 }
 
-fn dump(s: &[u8]) {
+// Data that is a reference is printed by itself.
+pub fn element(id: Guid, s: &[u8], n: usize) {
+    line::named(n, b"element 0: ");
+    print::guid(id);
+    print::text(b", ");
+    if elements::is_reference(s) {
+        print::decimal(s.len() as u64);
+        print::text(b" bytes, a reference:\n");
+    } else {
+        content(s, n);
+    }
+}
+
+// The length, and the first 64 bytes in hex, 16 to a line.
+pub fn content(s: &[u8], n: usize) {
+    print::decimal(s.len() as u64);
+    print::text(b" bytes\n");
+    dump(s, n);
+}
+
+fn dump(s: &[u8], n: usize) {
     let mut at = 0;
     while at < 64 {
         if s.len() <= at {
             return;
         }
         let end = row_end(at, s.len());
-        row(at, &s[at..end]);
+        row(at, &s[at..end], n);
         at += 16;
     }
 }
@@ -30,8 +55,8 @@ fn row_end(at: usize, n: usize) -> usize
 }
 
 // The bytes from number at.
-fn row(at: usize, s: &[u8]) {
-    print::text(b"  ");
+fn row(at: usize, s: &[u8], n: usize) {
+    line::named(n, b"  ");
     print::hex(at as u64, 2);
     print::text(b":");
     spaced(s);

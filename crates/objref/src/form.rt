@@ -1,68 +1,54 @@
 // The fixed fields of a reference.
-use kinds::Guid;
+use crate::line;
 use references::Block;
 use references::Reference;
 
 // The fields that the form has, in the order of the bytes.
-pub fn fields(r: Reference) {
-    let f = r.flags;
+pub fn fields(r: Reference, n: usize) {
+    form(r.flags, n);
     let iid = r.iid;
-    let block = r.block;
+    line::identifier(n, b"IID: ", iid);
     let clsid = r.clsid;
-    if f == Reference::STANDARD {
-        print::text(b"form: standard\n");
-        identifier(b"IID: ", iid);
-        block_fields(block);
-    } else if f == Reference::HANDLER {
-        print::text(b"form: handler\n");
-        identifier(b"IID: ", iid);
-        block_fields(block);
-        identifier(b"CLSID: ", clsid);
-    } else {
-        print::text(b"form: custom\n");
-        identifier(b"IID: ", iid);
-        identifier(b"CLSID: ", clsid);
-        number(b"extension size: ", r.extension);
-        number(b"size: ", r.size);
+    if r.flags == Reference::CUSTOM {
+        line::identifier(n, b"CLSID: ", clsid);
+        line::number(n, b"extension size: ", r.extension);
+        line::number(n, b"size: ", r.size);
+        return;
+    }
+    let block = r.block;
+    block_fields(block, n);
+    if r.flags == Reference::HANDLER {
+        line::identifier(n, b"CLSID: ", clsid);
     }
 }
 
-fn block_fields(b: Block) {
-    flags(b);
-    number(b"public references: ", b.public);
+fn form(f: u32, n: usize) {
+    line::margin(n);
+    match f {
+        1 => print::text(b"form: standard\n"),
+        2 => print::text(b"form: handler\n"),
+        4 => print::text(b"form: custom\n"),
+        _ => print::text(b"form: extended\n"),
+    }
+}
+
+fn block_fields(b: Block, n: usize) {
+    flags(b, n);
+    line::number(n, b"public references: ", b.public);
     let oxid = b.oxid;
-    wide_number(b"OXID: ", oxid.0);
+    line::wide(n, b"OXID: 0x", oxid.0);
     let oid = b.oid;
-    wide_number(b"OID: ", oid.0);
+    line::wide(n, b"OID: 0x", oid.0);
     let ipid = b.ipid;
-    identifier(b"IPID: ", ipid);
+    line::identifier(n, b"IPID: ", ipid);
 }
 
 // The block's flags, with the no-ping bit in words.
-fn flags(b: Block) {
-    print::text(b"block flags: 0x");
+fn flags(b: Block, n: usize) {
+    line::named(n, b"block flags: 0x");
     print::hex(b.flags as u64, 8);
     if b.no_ping() {
         print::text(b" (no ping)");
     }
-    print::end_line();
-}
-
-fn identifier(name: &[u8], g: Guid) {
-    print::text(name);
-    print::guid(g);
-    print::end_line();
-}
-
-fn number(name: &[u8], n: u32) {
-    print::text(name);
-    print::decimal(n as u64);
-    print::end_line();
-}
-
-fn wide_number(name: &[u8], n: u64) {
-    print::text(name);
-    print::text(b"0x");
-    print::hex(n, 16);
     print::end_line();
 }

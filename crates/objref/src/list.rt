@@ -1,23 +1,25 @@
 // The bindings of a reference's list.
+use crate::line;
 use crate::words;
 use bindings::Part;
 use kinds::answer;
 
-pub fn parts(s: &[u8]) {
-    part(s, Part::Strings);
-    part(s, Part::Security);
+pub fn parts(s: &[u8], n: usize) {
+    part(s, Part::Strings, n);
+    part(s, Part::Security, n);
 }
 
 // A line for each binding of a part, or one that says that there is none.
-fn part(s: &[u8], p: Part) {
+fn part(s: &[u8], p: Part, n: usize) {
     if references::binding_answer(s, p, 0) == answer::DONE {
-        all(s, p);
+        all(s, p, n);
     } else {
-        none(p);
+        none(p, n);
     }
 }
 
-fn none(p: Part) {
+fn none(p: Part, n: usize) {
+    line::margin(n);
     match p {
         Part::Strings => print::text(b"string bindings: none\n"),
         Part::Security => print::text(b"security bindings: none\n"),
@@ -25,18 +27,19 @@ fn none(p: Part) {
 }
 
 // The bindings of a part. A list has at most 65,535 words, so it has fewer bindings than the bound.
-fn all(s: &[u8], p: Part) {
+fn all(s: &[u8], p: Part, n: usize) {
     let mut k = 0;
     while k < 65536 {
         if references::binding_answer(s, p, k) != answer::DONE {
             return;
         }
-        binding(p, k, references::binding(s, p, k));
+        binding(p, k, references::binding(s, p, k), n);
         k += 1;
     }
 }
 
-fn binding(p: Part, k: usize, b: &[u8]) {
+fn binding(p: Part, k: usize, b: &[u8], n: usize) {
+    line::margin(n);
     match p {
         Part::Strings => string_binding(k, b),
         Part::Security => security_binding(k, b),

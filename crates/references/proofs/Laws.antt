@@ -1,23 +1,36 @@
--- Laws of the forms of a reference, of what an answer 0 says, and of where the tail and a binding stand.
-use Prim.Native.Nat.{ℕ, _+_, _≤_}
-use mathlib.Core.Path.{_≡_, refl, sym, _∙_}
-use mathlib.Core.Bool.{Bool, true, false, cond, not, _||_}
-use mathlib.Core.List.{List, [], _∷_}
+-- Laws of the forms of a reference, of its element, and of what an answer 0 says.
+use Prim.Native.Nat.{ℕ, suc, _+_, _-_, _*_, _<_, _≤_}
+use mathlib.Core.Path.{_≡_, refl, sym, ap, _∙_}
+use mathlib.Core.Bool.{Bool, true, false, not, _&&_, _||_}
+use mathlib.Core.List.{List, [], _++_, append-nil}
 use native.Mathlib.Omega.{arith}
-use borrow.Author.Tests.{eqb-true, eq-eqb, ne-eqb, ltb-false, not-false}
+use borrow.Author.Tests.{eqb-true, eq-eqb, ne-eqb, lt-ltb, le-ltb, ltb-false, not-false}
 use lib.Dec.{eqb, ltb}
-use lib.ListN.{length, drop, length-append, length-drop}
-use Rattle.kinds.specs.Refusals.{differ, passes, order}
-use Rattle.kinds.proofs.Refusing.{by-test, differ-false, passed, passed-on}
-use Rattle.fields.specs.Fields.{field, encode}
-use Rattle.fields.proofs.Laws.{take-rest}
-use Rattle.bindings.specs.Bindings.{listAnswer, bindingAt, refusal, bytesAt}
+use lib.ListN.{length, take, drop, length-drop, drop-of-length-le}
+use lib.Seq.{length-take-le}
+use Rattle.kinds.specs.Refusals.{differ, order}
+use Rattle.kinds.proofs.Refusing.{or-false, by-test, eq-differ, ne-differ, differ-false, passed, passed-on}
+use Rattle.fields.specs.Fields.{field, guidAt, encode, written}
+use Rattle.fields.proofs.Laws.{field-drop, written-in, written-front}
+use Rattle.kinds.specs.declared.Guid.{Guid}
+use borrow.Rule.Slice.PartMut.{midOf, postOf, putMid, mid-len, post-is}
+use Rattle.bindings.specs.Bindings.{listLength, frontAnswer, bindingAt, refusal, bytesAt}
 use Rattle.bindings.specs.declared.Part.{Part}
 use Rattle.bindings.specs.declared.Place.{Place}
 use Rattle.bindings.proofs.Laws.{Within, within-binding}
-use Rattle.references.specs.References.{signature, byForm, isForm, isCustom, fixedSize, blockBytes, headerBytes, bodyBytes, referenceBytes, blockAt, namesNil, tailAnswer, layoutAnswer, referenceAnswer, referenceAt, tailPlace, tailOf, moved, referenceBinding, writeAnswer}
+use Rattle.contexts.specs.Contexts.{propertyPlace}
+use Rattle.contexts.proofs.Laws.{property-within}
 use Rattle.references.specs.declared.Block.{Block}
 use Rattle.references.specs.declared.Reference.{Reference}
+use Rattle.kinds.proofs.Refusing.{last-row}
+use Rattle.elements.specs.Elements.{signature, isNil, contentAnswer, elementAnswer, mostContent, givenAnswer}
+use Rattle.references.specs.References.{byForm, isForm, isCustom, fixedSize, headAnswer, plainAnswer, formAnswer, layoutBy, layoutAnswer, listEnd, elementStart, extendedSignature, extendedFront, extendedAnswer, blockBytes, headerBytes, bodyBytes, referenceAnswer, referenceAt, tailEnd, tailPlace, tailOf, moved, referenceBinding, contextPlace, elementGiven, tailAnswer, valueAnswer, writtenLength, writeAnswer, writeReference}
+use Rattle.contexts.specs.Contexts.{isMarshaler}
+
+-- where the list of an extended reference ends, by its N
+pub list-end : (s : List ℕ) → 72 + 2 * field s 68 2 ≡ listEnd s
+unfolding listLength
+list-end s = rw (field-drop s 68 0 2 (omega arith)) (omega arith)
 
 -- ---- forms
 
@@ -25,27 +38,31 @@ or-cases : {P : Type 0} (a b : Bool) → (a || b) ≡ true → (a ≡ true → P
 or-cases true b e f g = f refl
 or-cases false b e f g = g e
 
+and-left : (a b : Bool) → (a && b) ≡ true → a ≡ true
+and-left true b e = refl
+and-left false b e = e
+
+and-none : (a : Bool) → (a && false) ≡ false
+and-none true = refl
+and-none false = refl
+
 -- flags that name a form are those of one of the forms
-pub by-form : {P : Type 0} (f : ℕ) → isForm f ≡ true → (f ≡ 1 → P) → (f ≡ 2 → P) → (f ≡ 4 → P) → P
-by-form f h a b c =
-    or-cases (eqb f 1) (eqb f 2 || eqb f 4) h (λ e. a (eqb-true f 1 e))
-    (λ k. or-cases (eqb f 2) (eqb f 4) k (λ e. b (eqb-true f 2 e)) (λ e. c (eqb-true f 4 e)))
+pub by-form : {P : Type 0} (f : ℕ) → isForm f ≡ true → (f ≡ 1 → P) → (f ≡ 2 → P) → (f ≡ 4 → P) → (f ≡ 8 → P) → P
+by-form f h a b c d =
+    or-cases (eqb f 1) (eqb f 2 || (eqb f 4 || eqb f 8)) h (λ e. a (eqb-true f 1 e))
+    (λ k. or-cases (eqb f 2) (eqb f 4 || eqb f 8) k (λ e. b (eqb-true f 2 e))
+    (λ l. or-cases (eqb f 4) (eqb f 8) l (λ e. c (eqb-true f 4 e)) (λ e. d (eqb-true f 8 e))))
 
-pub by-other : {A : Type 0} (f : ℕ) (a b c d : A) → (f ≡ 1 → ⊥) → (f ≡ 2 → ⊥) → (f ≡ 4 → ⊥) → byForm f a b c d ≡ d
-by-other f a b c d h i j = rw (ne-eqb f 1 h, ne-eqb f 2 i, ne-eqb f 4 j)
-
--- ---- sizes
-
-size-least : (f : ℕ) → isForm f ≡ true → 48 ≤ fixedSize f
-unfolding fixedSize
-size-least f h = by-form f h (λ e. rw e (omega arith)) (λ e. rw e (omega arith)) (λ e. rw e (omega arith))
+pub by-other : {A : Type 0} (f : ℕ) (a b c d e : A) → (f ≡ 1 → ⊥) → (f ≡ 2 → ⊥) → (f ≡ 4 → ⊥) → (f ≡ 8 → ⊥) → byForm f a b c d e ≡ e
+by-other f a b c d e h i j k = rw (ne-eqb f 1 h, ne-eqb f 2 i, ne-eqb f 4 j, ne-eqb f 8 k)
 
 pub size-most : (f : ℕ) → fixedSize f ≤ 80
 unfolding fixedSize
 size-most f =
     let P : ℕ → Type 0 = λ n. n ≤ 80 in
     by-test P (eqb f 1) 64 _ (λ e. omega arith)
-    (λ e. by-test P (eqb f 2) 80 _ (λ e. omega arith) (λ e. by-test P (eqb f 4) 48 0 (λ e. omega arith) (λ e. omega arith)))
+    (λ e. by-test P (eqb f 2) 80 _ (λ e. omega arith)
+    (λ e. by-test P (eqb f 4) 48 _ (λ e. omega arith) (λ e. by-test P (eqb f 8) 68 0 (λ e. omega arith) (λ e. omega arith))))
 
 pub length-block : (b : Block) → length (blockBytes b) ≡ 40
 unfolding blockBytes encode
@@ -57,87 +74,124 @@ length-header r = refl
 
 pub length-body : (r : Reference) → isForm (r .flags) ≡ true → 24 + length (bodyBytes r) ≡ fixedSize (r .flags)
 unfolding bodyBytes blockBytes fixedSize encode
-length-body r h = by-form (r .flags) h (λ e. rw e) (λ e. rw e) (λ e. rw e)
+length-body r h = by-form (r .flags) h (λ e. rw e) (λ e. rw e) (λ e. rw e) (λ e. rw e)
 
-pub length-reference : (r : Reference) (t : List ℕ) → isForm (r .flags) ≡ true → length (referenceBytes r t) ≡ fixedSize (r .flags) + length t
-unfolding referenceBytes
-length-reference r t h =
-    let header = length-header r in
-    let body = length-body r h in
-    simp length-append (omega arith)
+-- ---- what an answer 0 says
 
--- ---- what an answer says
+pub custom-room : {n : ℕ} (f : ℕ) → f ≡ 4 → fixedSize f ≤ n → 48 ≤ n
+unfolding fixedSize
+custom-room f e h = rw e at h
 
--- an answer that the last row passes on
-pub last-row : (n : ℕ) → order (passes n ∷ []) ≡ n
-unfolding order
-last-row n = by-test (λ (x : ℕ). x ≡ n) (differ n 0) n 0 (λ e. refl) (λ e. sym (differ-false n 0 e))
-
--- s is accepted as a reference
-pub record Accepted (s : List ℕ) : Type 0 where
+pub record Headed (s : List ℕ) : Type 0 where
   pub long : 24 ≤ length s
   pub signed : field s 0 4 ≡ signature
   pub form : isForm (field s 4 4) ≡ true
   pub fixed : fixedSize (field s 4 4) ≤ length s
-  pub tail : tailAnswer (field s 4 4) (drop (fixedSize (field s 4 4)) s) ≡ 0
-  pub named : namesNil (field s 4 4) (blockAt s 24) ≡ false
 
-pub accepted : (s : List ℕ) → referenceAnswer s ≡ 0 → Accepted s
-unfolding referenceAnswer layoutAnswer
-accepted s done =
+pub headed : (s : List ℕ) → headAnswer s ≡ 0 → Headed s
+unfolding headAnswer
+headed s done =
     let f = field s 4 4 in
-    let layout = passed-on (layoutAnswer s) _ done in
-    let long = passed (ltb (length s) 24) 13 _ (omega arith) (layout .0) in
+    let long = passed (ltb (length s) 24) 13 _ (omega arith) done in
     let signed = passed (differ (field s 0 4) signature) 14 _ (omega arith) (long .1) in
     let form = passed (not (isForm f)) 14 _ (omega arith) (signed .1) in
     let fixed = passed (ltb (length s) (fixedSize f)) 13 _ (omega arith) (form .1) in
-    let tail = passed-on (tailAnswer f (drop (fixedSize f) s)) _ (fixed .1) in
     record {
       long = ltb-false _ _ (long .0);
       signed = differ-false _ _ (signed .0);
       form = not-false _ (form .0);
       fixed = ltb-false _ _ (fixed .0);
-      tail = tail .0;
-      named = passed (namesNil f (blockAt s 24)) 22 _ (omega arith) (layout .1) .0;
     }
 
--- r can be written with the tail t into n bytes
-pub record Writable (r : Reference) (t : List ℕ) (n : ℕ) : Type 0 where
-  pub form : isForm (r .flags) ≡ true
-  pub least : 48 ≤ fixedSize (r .flags)
-  pub tail : tailAnswer (r .flags) t ≡ 0
-  pub named : namesNil (r .flags) (r .block) ≡ false
-  pub room : fixedSize (r .flags) + length t ≤ n
+-- up to the element of an extended reference
+pub record Opened (s : List ℕ) : Type 0 where
+  pub signed : field s 64 4 ≡ extendedSignature
+  pub list : frontAnswer (drop 68 s) ≡ 0
+  pub number : field s (listEnd s) 4 ≡ 1
+  pub again : field s (listEnd s + 4) 4 ≡ extendedSignature
+  pub room : elementStart s ≤ length s
 
-pub writable : (r : Reference) (t : List ℕ) (n : ℕ) → writeAnswer r t n ≡ 0 → Writable r t n
-unfolding writeAnswer
-writable r t n done =
-    let form = passed (not (isForm (r .flags))) 14 _ (omega arith) done in
-    let tail = passed-on (tailAnswer (r .flags) t) _ (form .1) in
-    let named = passed (namesNil (r .flags) (r .block)) 22 _ (omega arith) (tail .1) in
-    let room = passed (ltb n (fixedSize (r .flags) + length t)) 15 _ (omega arith) (named .1) in
+pub opened : (s : List ℕ) → extendedFront s ≡ 0 → Opened s
+unfolding extendedFront
+opened s done =
+    let a = passed (differ (field s 64 4) extendedSignature) 14 _ (omega arith) done in
+    let b = passed-on (frontAnswer (drop 68 s)) _ (a .1) in
+    let d = passed (ltb (length s) (listEnd s + 4)) 13 _ (omega arith) (b .1) in
+    let e = passed (not (eqb (field s (listEnd s) 4) 1)) 14 _ (omega arith) (d .1) in
+    let f = passed (ltb (length s) (listEnd s + 8)) 13 _ (omega arith) (e .1) in
+    let g = passed (differ (field s (listEnd s + 4) 4) extendedSignature) 14 _ (omega arith) (f .1) in
     record {
-      form = not-false _ (form .0);
-      least = size-least _ (not-false _ (form .0));
-      tail = tail .0;
-      named = named .0;
-      room = ltb-false _ _ (room .0);
+      signed = differ-false _ _ (a .0);
+      list = b .0;
+      number = differ-false _ _ (e .0);
+      again = differ-false _ _ (g .0);
+      room = ltb-false _ _ (f .0);
     }
+
+-- ---- the reference
+
+pub layout-none : (d : ℕ) (s : List ℕ) → d ≡ 0 → layoutAnswer d s ≡ 21
+unfolding layoutAnswer
+layout-none d s e = rw e
+
+layout-some : (d : ℕ) (s : List ℕ) → 0 < d → layoutAnswer d s ≡ layoutBy (layoutAnswer (d - 1)) s
+unfolding layoutAnswer
+layout-some d s h = let k : d ≡ suc (d - 1) = omega arith in ap (λ (n : ℕ). layoutAnswer n s) k
+
+module _ (d : ℕ) (s : List ℕ) (some : 0 < d) where
+  pub layout-head : (headAnswer s ≡ 0 → ⊥) → layoutAnswer d s ≡ headAnswer s
+  unfolding layoutBy order
+  layout-head h = layout-some d s some ∙ (rw (ne-differ _ _ h))
+
+  module _ (head : headAnswer s ≡ 0) where
+    layout-form : layoutAnswer d s ≡ formAnswer (layoutAnswer (d - 1)) s
+    unfolding layoutBy order
+    layout-form = layout-some d s some ∙ (rw (eq-differ _ _ head) (last-row (formAnswer (layoutAnswer (d - 1)) s)))
+
+    pub layout-plain : (field s 4 4 ≡ 8 → ⊥) → layoutAnswer d s ≡ plainAnswer s
+    unfolding formAnswer
+    layout-plain f = layout-form ∙ (rw (ne-eqb _ _ f))
+
+    module _ (f : field s 4 4 ≡ 8) where
+      layout-extended : layoutAnswer d s ≡ extendedAnswer (layoutAnswer (d - 1)) s
+      unfolding formAnswer
+      layout-extended = layout-form ∙ (rw (eq-eqb _ _ f))
+
+      pub layout-front : (extendedFront s ≡ 0 → ⊥) → layoutAnswer d s ≡ extendedFront s
+      unfolding extendedAnswer order
+      layout-front h = layout-extended ∙ (rw (ne-differ _ _ h))
+
+      pub layout-element : extendedFront s ≡ 0 → layoutAnswer d s ≡ elementAnswer (layoutAnswer (d - 1)) (drop (elementStart s) s)
+      unfolding extendedAnswer order
+      layout-element h =
+          layout-extended ∙ (rw (eq-differ _ _ h) (last-row (elementAnswer (layoutAnswer (d - 1)) (drop (elementStart s) s))))
+
+pub extended-room : {n : ℕ} (f : ℕ) → f ≡ 8 → fixedSize f ≤ n → 68 ≤ n
+unfolding fixedSize
+extended-room f e h = rw e at h
+
+-- ---- an accepted reference
+
+pub layout-parts : (d : ℕ) (s : List ℕ) → layoutAnswer (suc d) s ≡ 0 → (headAnswer s ≡ 0) × (formAnswer (layoutAnswer d) s ≡ 0)
+unfolding layoutAnswer layoutBy
+layout-parts d s done = let a = passed-on (headAnswer s) _ done in (a .0, passed-on (formAnswer (layoutAnswer d) s) _ (a .1) .0)
+
+answer-parts : (s : List ℕ) → referenceAnswer s ≡ 0 → (headAnswer s ≡ 0) × (formAnswer (layoutAnswer 7) s ≡ 0)
+unfolding referenceAnswer
+answer-parts s done = layout-parts 7 s (passed-on (layoutAnswer 8 s) _ done .0)
+
+pub accepted : (s : List ℕ) → referenceAnswer s ≡ 0 → Headed s
+accepted s done = headed s (answer-parts s done .0)
 
 -- the fields that are read name the form that the bytes name
 pub flags-at : (s : List ℕ) → isForm (field s 4 4) ≡ true → referenceAt s .flags ≡ field s 4 4
 unfolding referenceAt
-flags-at s h = by-form (field s 4 4) h (λ e. rw e) (λ e. rw e) (λ e. rw e)
-
--- and nil identifiers where the bytes do
-pub named-at : (s : List ℕ) → isForm (field s 4 4) ≡ true → namesNil (referenceAt s .flags) (referenceAt s .block) ≡ namesNil (field s 4 4) (blockAt s 24)
-unfolding referenceAt namesNil
-named-at s h = by-form (field s 4 4) h (λ e. rw e) (λ e. rw e) (λ e. rw e)
+flags-at s h = by-form (field s 4 4) h (λ e. rw e) (λ e. rw e) (λ e. rw e) (λ e. rw e)
 
 -- the OXID of a reference that is not custom
 pub oxid-at : (s : List ℕ) → isForm (field s 4 4) ≡ true → (field s 4 4 ≡ 4 → ⊥) → referenceAt s .block .oxid .0 ≡ field s 32 8
 unfolding referenceAt
-oxid-at s h other = by-form (field s 4 4) h (λ e. rw e) (λ e. rw e) (λ e. absurd (other e))
+oxid-at s h other = by-form (field s 4 4) h (λ e. rw e) (λ e. rw e) (λ e. absurd (other e)) (λ e. rw e)
 
 -- ---- the tail
 
@@ -150,34 +204,44 @@ pub tail-start : (s : List ℕ) → referenceAnswer s ≡ 0 → tailPlace s .fro
 unfolding tailPlace
 tail-start s done = rw (eq-eqb _ _ done)
 
+pub tail-end : (s : List ℕ) → referenceAnswer s ≡ 0 → tailPlace s .to ≡ tailEnd s
+unfolding tailPlace
+tail-end s done = rw (eq-eqb _ _ done)
+
+list-room : (s : List ℕ) → referenceAnswer s ≡ 0 → field s 4 4 ≡ 8 → listEnd s ≤ length s
+unfolding formAnswer extendedAnswer
+list-room s done f =
+    let e : extendedAnswer (layoutAnswer 7) s ≡ 0 = rw f at (answer-parts s done .1) in
+    let room = opened s (passed-on (extendedFront s) _ e .0) .room in
+    omega arith
+
+tail-inside : (s : List ℕ) → referenceAnswer s ≡ 0 → (fixedSize (field s 4 4) ≤ tailEnd s) × (tailEnd s ≤ length s)
+unfolding fixedSize
+tail-inside s done =
+    let a = accepted s done in
+    let fixed = a .fixed in
+    by-form (field s 4 4) (a .form)
+    (λ e. rw e (rw e at fixed, omega arith))
+    (λ e. rw e (rw e at fixed, omega arith))
+    (λ e. rw e (rw e at fixed, omega arith))
+    (λ e. rw e (omega arith, list-room s done e))
+
 -- the tail lies in s
 pub tail-within : (s : List ℕ) → Within (length s) (tailPlace s)
 unfolding tailPlace
 tail-within s =
-    by-test (Within (length s)) (eqb (referenceAnswer s) 0) _ _
-    (λ e. let a = accepted s (eqb-true _ _ e) .fixed in omega arith)
-    (λ e. omega arith)
-
-place-bytes : (s : List ℕ) (b : Bool) (k n : ℕ) → bytesAt s (cond b (record { answer = 0; from = k; to = length s }) (refusal n)) ≡ cond b (drop k s) []
-place-bytes s true k n = take-rest s k
-place-bytes s false k n = refl
+    by-test (Within (length s)) (eqb (referenceAnswer s) 0) _ _ (λ e. tail-inside s (eqb-true _ _ e)) (λ e. omega arith)
 
 -- the bytes of its place are the tail
 pub tail-bytes : (s : List ℕ) → bytesAt s (tailPlace s) ≡ tailOf s
-unfolding tailPlace tailOf
-tail-bytes s = place-bytes s (eqb (referenceAnswer s) 0) (fixedSize (field s 4 4)) (referenceAnswer s)
+tail-bytes s = refl
 
-pub tail-accepted : (s : List ℕ) → referenceAnswer s ≡ 0 → tailOf s ≡ drop (fixedSize (field s 4 4)) s
-unfolding tailOf
-tail-accepted s done = rw (eq-eqb _ _ done)
-
-pub tail-length : (s : List ℕ) → referenceAnswer s ≡ 0 → fixedSize (field s 4 4) + length (tailOf s) ≡ length s
-tail-length s done = let a = accepted s done .fixed in rw (tail-accepted s done, length-drop) (omega arith)
-
--- the tail of an accepted reference that is not custom is an accepted list
-pub tail-list : (s : List ℕ) → referenceAnswer s ≡ 0 → (field s 4 4 ≡ 4 → ⊥) → listAnswer (tailOf s) ≡ 0
-unfolding tailAnswer
-tail-list s done other = rw (tail-accepted s done) (rw (ne-eqb _ _ other) at (accepted s done .tail))
+pub tail-length : (s : List ℕ) → referenceAnswer s ≡ 0 → fixedSize (field s 4 4) + length (tailOf s) ≤ length s
+tail-length s done =
+    let w = tail-within s in
+    let from = tail-start s done in
+    let n = length-take-le (tailPlace s .to - tailPlace s .from) (drop (tailPlace s .from) s) (rw length-drop (omega arith)) in
+    omega arith
 
 -- ---- a binding
 
@@ -197,8 +261,11 @@ pub binding-listed : (s : List ℕ) (p : Part) (k : ℕ) → referenceAnswer s �
 unfolding referenceBinding
 binding-listed s p k done other = rw (eq-eqb _ _ done, ne-eqb _ _ other)
 
-within-moved : (m n : ℕ) (x : Place) → Within m x → Within (n + m) (moved n x)
+pub within-moved : (m n : ℕ) (x : Place) → Within m x → Within (n + m) (moved n x)
 within-moved m n x h = by-test (Within (n + m)) (eqb (x .answer) 0) _ x (λ e. omega arith) (λ e. omega arith)
+
+within-more : (m n : ℕ) (x : Place) → m ≤ n → Within m x → Within n x
+within-more m n x l h = omega arith
 
 -- the place of a binding lies in s
 pub within-reference : (s : List ℕ) (p : Part) (k : ℕ) → Within (length s) (referenceBinding s p k)
@@ -207,5 +274,103 @@ within-reference s p k =
     by-test (Within (length s)) (eqb (referenceAnswer s) 0) _ _
     (λ e. by-test (Within (length s)) (isCustom (field s 4 4)) _ _
     (λ z. omega arith)
-    (λ z. rw (tail-length s (eqb-true _ _ e)) at (within-moved (length (tailOf s)) (fixedSize (field s 4 4)) (bindingAt (tailOf s) p k) (within-binding (tailOf s) p k))))
+    (λ z. within-more _ _ (moved (fixedSize (field s 4 4)) (bindingAt (tailOf s) p k)) (tail-length s (eqb-true _ _ e)) (within-moved (length (tailOf s)) (fixedSize (field s 4 4)) (bindingAt (tailOf s) p k) (within-binding (tailOf s) p k))))
     (λ e. omega arith)
+
+-- the place of a property's data lies in s
+pub context-within : (s : List ℕ) (k : ℕ) → Within (length s) (contextPlace s k)
+unfolding contextPlace fixedSize
+context-within s k =
+    by-test (Within (length s)) (eqb (referenceAnswer s) 0) _ _
+    (λ e. by-test (Within (length s)) (isCustom (field s 4 4) && isMarshaler (guidAt s 24)) _ _
+    (λ z.
+    let f = and-left (isCustom (field s 4 4)) (isMarshaler (guidAt s 24)) z in
+    let room : 48 ≤ length s = custom-room (field s 4 4) (eqb-true _ _ f) (accepted s (eqb-true _ _ e) .fixed) in
+    let size = length-drop 48 s in
+    let l : 48 + length (drop 48 s) ≤ length s = omega arith in
+    within-more _ _ (moved 48 (propertyPlace (drop 48 s) k)) l (within-moved (length (drop 48 s)) 48 (propertyPlace (drop 48 s) k) (property-within (drop 48 s) k)))
+    (λ z. omega arith))
+    (λ e. omega arith)
+
+-- the rows of a property's place
+module _ (s : List ℕ) (k : ℕ) where
+  pub property-refused : (referenceAnswer s ≡ 0 → ⊥) → contextPlace s k ≡ refusal (referenceAnswer s)
+  unfolding contextPlace
+  property-refused h = rw (ne-eqb _ _ h)
+
+  module _ (done : referenceAnswer s ≡ 0) where
+    pub property-none : (field s 4 4 ≡ 4 → ⊥) → contextPlace s k ≡ refusal 24
+    unfolding contextPlace
+    property-none f = rw (eq-eqb _ _ done, ne-eqb _ _ f)
+
+    pub property-other : isMarshaler (guidAt s 24) ≡ false → contextPlace s k ≡ refusal 24
+    unfolding contextPlace
+    property-other m = rw (eq-eqb _ _ done, m, and-none (isCustom (field s 4 4)))
+
+    pub property-moved : field s 4 4 ≡ 4 → isMarshaler (guidAt s 24) ≡ true → contextPlace s k ≡ moved 48 (propertyPlace (drop 48 s) k)
+    unfolding contextPlace
+    property-moved f m = rw (eq-eqb _ _ done, f, m)
+
+-- ---- what can be written
+
+pub form-none : {A : Type 0} (f : ℕ) (a b c d e : A) → isForm f ≡ false → byForm f a b c d e ≡ e
+form-none f a b c d e h =
+    let p = or-false (eqb f 1) (eqb f 2 || (eqb f 4 || eqb f 8)) h in
+    let q = or-false (eqb f 2) (eqb f 4 || eqb f 8) (p .1) in
+    let r = or-false (eqb f 4) (eqb f 8) (q .1) in
+    rw (p .0, q .0, r .0, r .1)
+
+pub tail-none : (r : Reference) (t : List ℕ) → isForm (r .flags) ≡ false → tailAnswer r t ≡ 0
+unfolding tailAnswer
+tail-none r t h = form-none (r .flags) _ _ _ _ _ h
+
+pub given-parts : (j : List ℕ → ℕ) (id : Guid) (x : List ℕ) → givenAnswer j id x ≡ 0 → (length x ≤ mostContent) × (contentAnswer j x ≡ 0)
+unfolding givenAnswer
+given-parts j id x done =
+    let a = passed (isNil id) 14 _ (omega arith) done in
+    let b = passed (eqb (length x) 0) 14 _ (omega arith) (a .1) in
+    let d = passed (ltb mostContent (length x)) 14 _ (omega arith) (b .1) in
+    (ltb-false _ _ (d .0), passed-on (contentAnswer j x) _ (d .1) .0)
+
+size-least : (f : ℕ) → isForm f ≡ true → 48 ≤ fixedSize f
+unfolding fixedSize
+size-least f h = by-form f h (λ e. rw e (omega arith)) (λ e. rw e (omega arith)) (λ e. rw e (omega arith)) (λ e. rw e (omega arith))
+
+-- r can be written with the tail t and the element's data x, where there is room
+pub record Valued (r : Reference) (t x : List ℕ) : Type 0 where
+  pub form : isForm (r .flags) ≡ true
+  pub least : 48 ≤ fixedSize (r .flags)
+  pub given : elementGiven r x ≡ 0
+
+pub valued : (r : Reference) (t x : List ℕ) → valueAnswer r t x ≡ 0 → Valued r t x
+unfolding valueAnswer
+valued r t x done =
+    let a = passed (not (isForm (r .flags))) 14 _ (omega arith) done in
+    let b = passed-on (tailAnswer r t) _ (a .1) in
+    let d = passed-on (elementGiven r x) _ (b .1) in
+    record { form = not-false _ (a .0); least = size-least _ (not-false _ (a .0)); given = d .0 }
+
+module _ (r : Reference) (t x : List ℕ) (n : ℕ) where
+  pub write-refused : (valueAnswer r t x ≡ 0 → ⊥) → writeReference r t x n ≡ record { answer = valueAnswer r t x; length = 0 }
+  unfolding writeReference writeAnswer order
+  write-refused h = rw (ne-differ _ _ h, ne-eqb _ _ h)
+
+  pub write-short : valueAnswer r t x ≡ 0 → n < writtenLength r t x → writeReference r t x n ≡ record { answer = 15; length = 0 }
+  unfolding writeReference writeAnswer order
+  write-short done l = rw (eq-differ _ _ done, lt-ltb _ _ l)
+
+  pub write-fits : valueAnswer r t x ≡ 0 → writtenLength r t x ≤ n → writeReference r t x n ≡ record { answer = 0; length = writtenLength r t x }
+  unfolding writeReference writeAnswer order
+  write-fits done l = rw (eq-differ _ _ done, le-ltb _ _ l)
+
+-- a write that fills a part of a buffer
+pub written-part : (s y : List ℕ) (a e : ℕ) → a ≤ e → e ≤ length s → length y ≡ e - a → putMid a (e - a) s (written (midOf a (e - a) s) 0 y) ≡ written s a y
+written-part s y a e h l n =
+    let m = mid-len a e s l in
+    let part = midOf a (e - a) s in
+    let full : length part ≤ length y = omega arith in
+    let none : drop (length y) part ≡ [] = drop-of-length-le part full in
+    let here : written part 0 y ≡ y = written-front part y (omega arith) ∙ (rw none (append-nil y)) in
+    let past : a + length y ≡ e = omega arith in
+    let rest : postOf a (e - a) s ≡ drop (a + length y) s = post-is a e s h ∙ ap (λ (k : ℕ). drop k s) (sym past) in
+    ap (putMid a (e - a) s) here ∙ ap (λ (z : List ℕ). take a s ++ (y ++ z)) rest ∙ sym (written-in s a y (omega arith))

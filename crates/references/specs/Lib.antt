@@ -1,1 +1,3 @@
 pub mod References
+pub mod Parts
+pub mod RoundTrips

@@ -1,16 +1,21 @@
-// Object references (OBJREF) in the standard, handler and custom forms.
+// Object references (OBJREF) in the standard, handler, custom and extended forms.
 use bindings::Part;
 use bindings::Place;
+use fields::Written;
 use kinds::Guid;
 use kinds::Oid;
 use kinds::Oxid;
 use kinds::answer;
 ghost use mathlib.Core.Path.{_≡_};
-ghost use Prim.Native.Nat.{_≤_};
+ghost use Prim.Native.Nat.{_+_, _≤_};
+ghost use mathlib.Core.List.{_++_};
+ghost use mathlib.Core.Bool.{true, cond};
 ghost use lib.ListN.{length};
-ghost use Rattle.bindings.specs.Bindings.{PartOf};
-ghost use Rattle.fields.specs.Fields.{written, stored};
-ghost use Rattle.references.specs.References.{fixedSize, isNoPing, isForm, hasNil, namesNil, blockAt, blockBytes, headerBytes, bodyBytes, referenceBytes, noBlock, noReference, standard, handler, custom, referenceAt, tailAnswer, layoutAnswer, referenceAnswer, readReference, tailPlace, referenceBinding, writeAnswer, writeReference};
+ghost use Rattle.bindings.specs.Bindings.{refusal, PartOf};
+ghost use Rattle.fields.specs.Fields.{encode, written, stored};
+ghost use Rattle.elements.specs.Elements.{zeros, rounded, mostContent, elementBytes, contentAnswer, elementAnswer, givenAnswer};
+ghost use Rattle.references.specs.References.{fixedSize, isNoPing, isForm, isExtended, extendedSignature, hasNil, nilGiven, namesNil, blockAt, blockBytes, headerBytes, bodyBytes, elementsBytes, referenceBytes, noBlock, noReference, standard, handler, custom, extended, referenceAt, objectAnswer, headAnswer, plainAnswer, listEnd, extendedFront, layoutAnswer, referenceAnswer, readReference, tailPlace, referenceBinding, contentStart, contentLength, elementPlace, contextPlace, contentNil, elementGiven, tailAnswer, valueAnswer, writeReference};
+ghost use Rattle.references.specs.Parts.{ElementFound};
 
 // The standard object block (STDOBJREF).
 #[repr(C)]
@@ -31,6 +36,7 @@ pub struct Reference {
     pub clsid: Guid,
     pub extension: u32,
     pub size: u32,
+    pub element: Guid,
 }
 
 // A reference that was read, or the number of a refusal with zeros.
@@ -38,13 +44,6 @@ pub struct Reference {
 pub struct ReadReference {
     pub answer: u32,
     pub reference: Reference,
-}
-
-// A writer's answer, and the number of bytes that it wrote.
-#[repr(C)]
-pub struct Written {
-    pub answer: u32,
-    pub length: usize,
 }
 
 impl Block {
@@ -113,13 +112,21 @@ impl Block {
 
 impl Reference {
     // "MEOW".
-    pub const SIGNATURE: u32 = 0x574F454D;
+    pub const SIGNATURE: u32 = elements::SIGNATURE;
 
     pub const STANDARD: u32 = 1;
 
     pub const HANDLER: u32 = 2;
 
     pub const CUSTOM: u32 = 4;
+
+    pub const EXTENDED: u32 = 8;
+
+    // Before the list and before the elements of an extended reference.
+    pub const EXTENDED_SIGNATURE: u32 = 0x4E535956;
+
+    // References in references, the outermost counted.
+    pub const DEPTH: usize = 8;
 
     pub fn standard(iid: Guid, block: Block) -> Reference
         ensures { λ r. ⌜ r ≡ standard iid block ⌝ }
@@ -132,12 +139,14 @@ impl Reference {
             clsid: nil,
             extension: 0,
             size: 0,
+            element: nil,
         }
     }
 
     pub fn handler(iid: Guid, block: Block, clsid: Guid) -> Reference
         ensures { λ r. ⌜ r ≡ handler iid block clsid ⌝ }
     {
+        let nil = Guid { low: 0, high: 0 };
         Reference {
             flags: Reference::HANDLER,
             iid: iid,
@@ -145,12 +154,14 @@ impl Reference {
             clsid: clsid,
             extension: 0,
             size: 0,
+            element: nil,
         }
     }
 
     pub fn custom(iid: Guid, clsid: Guid, extension: u32, size: u32) -> Reference
         ensures { λ r. ⌜ r ≡ custom iid clsid extension size ⌝ }
     {
+        let nil = Guid { low: 0, high: 0 };
         let block = Block::zero();
         Reference {
             flags: Reference::CUSTOM,
@@ -159,6 +170,22 @@ impl Reference {
             clsid: clsid,
             extension: extension,
             size: size,
+            element: nil,
+        }
+    }
+
+    pub fn extended(iid: Guid, block: Block, element: Guid) -> Reference
+        ensures { λ r. ⌜ r ≡ extended iid block element ⌝ }
+    {
+        let nil = Guid { low: 0, high: 0 };
+        Reference {
+            flags: Reference::EXTENDED,
+            iid: iid,
+            block: block,
+            clsid: nil,
+            extension: 0,
+            size: 0,
+            element: element,
         }
     }
 
@@ -174,6 +201,7 @@ impl Reference {
             clsid: nil,
             extension: 0,
             size: 0,
+            element: nil,
         }
     }
 
@@ -194,10 +222,13 @@ impl Reference {
             let clsid = fields::read_guid(s, 24);
             return Reference::custom(iid, clsid, fields::read_u32(s, 40), fields::read_u32(s, 44));
         }
+        if f == Reference::EXTENDED {
+            return Reference::extended(iid, block, fields::read_guid(s, list_end(s) + 8));
+        }
         Reference::zero()
     }
 
-    // Reads a reference: its fields, or 13, 14 or 22 with zeros.
+    // Reads a reference: its fields, or 13, 14, 21 or 22 with zeros.
     pub fn read(s: &[u8]) -> ReadReference
         ensures { λ r. ⌜ r ≡ readReference (now (s .entry)) ⌝ }
     {
@@ -225,10 +256,13 @@ fn is_form(f: u32) -> bool
     if f == Reference::HANDLER {
         return true;
     }
-    f == Reference::CUSTOM
+    if f == Reference::CUSTOM {
+        return true;
+    }
+    f == Reference::EXTENDED
 }
 
-// The size of the fixed fields of a form.
+// The size of the fields before the list or the object data.
 fn fixed_size(f: u32) -> usize
     ensures { λ r. ⌜ r ≡ fixedSize f ⌝ }
 {
@@ -241,32 +275,17 @@ fn fixed_size(f: u32) -> usize
     if f == Reference::CUSTOM {
         return 48;
     }
+    if f == Reference::EXTENDED {
+        return 68;
+    }
     0
 }
 
-// The refusals of a reference's list; object data has none.
-fn tail_answer(f: u32, tail: &[u8]) -> u32
-    ensures { λ r. ⌜ r ≡ tailAnswer f (now (tail .entry)) ⌝ }
-{
-    if f == Reference::CUSTOM {
-        return answer::DONE;
-    }
-    bindings::list_answer(tail)
-}
+// ---- judging a reference
 
-// Whether a reference of these flags names a nil identifier; the custom form has no block.
-fn names_nil(f: u32, block: Block) -> bool
-    ensures { λ r. ⌜ r ≡ namesNil f block ⌝ }
-{
-    if f == Reference::CUSTOM {
-        return false;
-    }
-    block.has_nil()
-}
-
-// Whether the bytes are laid out as a reference: 0, 13 or 14.
-fn layout_answer(s: &[u8]) -> u32
-    ensures { λ r. ⌜ r ≡ layoutAnswer (now (s .entry)) ⌝ }
+// Of the header and the length of the fixed fields.
+fn head_answer(s: &[u8]) -> u32
+    ensures { λ r. ⌜ r ≡ headAnswer (now (s .entry)) ⌝ }
 {
     if s.len() < 24 {
         return answer::SHORT;
@@ -278,25 +297,170 @@ fn layout_answer(s: &[u8]) -> u32
     if !is_form(f) {
         return answer::LAYOUT;
     }
-    let start = fixed_size(f);
-    if s.len() < start {
+    if s.len() < fixed_size(f) {
         return answer::SHORT;
     }
-    tail_answer(f, &s[start..])
+    answer::DONE
 }
 
-// Whether the bytes are a reference: 0, 13, 14, or 22 for a nil identifier.
+// Of object data: a context where the CLSID says so.
+fn object_answer(clsid: Guid, t: &[u8]) -> u32
+    ensures { λ r. ⌜ r ≡ objectAnswer clsid (now (t .entry)) ⌝ }
+{
+    if contexts::is_marshaler(clsid) {
+        return contexts::context_answer(t);
+    }
+    answer::DONE
+}
+
+// Of what follows the fixed fields of a standard, handler or custom reference.
+fn plain_answer(s: &[u8]) -> u32
+    requires { ⌜ headAnswer (now s) ≡ 0 ⌝ }
+    ensures { λ r. ⌜ r ≡ plainAnswer (now (s .entry)) ⌝ }
+{
+    let f = fields::read_u32(s, 4);
+    if f == Reference::CUSTOM {
+        return object_answer(fields::read_guid(s, 24), &s[48..]);
+    }
+    let start = fixed_size(f);
+    bindings::list_answer(&s[start..])
+}
+
+// Where the list of an extended reference ends.
+fn list_end(s: &[u8]) -> usize
+    ensures { λ r. ⌜ (r ≡ listEnd (now (s .entry))) × (r ≤ 131142) ⌝ }
+{
+    72 + 2 * (fields::read_u16(s, 68) as usize)
+}
+
+// Of an extended reference up to its element.
+fn extended_front(s: &[u8]) -> u32
+    requires { ⌜ 68 ≤ length (now s) ⌝ }
+    ensures { λ r. ⌜ r ≡ extendedFront (now (s .entry)) ⌝ }
+{
+    if fields::read_u32(s, 64) != Reference::EXTENDED_SIGNATURE {
+        return answer::LAYOUT;
+    }
+    let list = bindings::front_answer(&s[68..]);
+    if list != answer::DONE {
+        return list;
+    }
+    let end = list_end(s);
+    if s.len() < end + 4 {
+        return answer::SHORT;
+    }
+    if fields::read_u32(s, end) != 1 {
+        return answer::LAYOUT;
+    }
+    if s.len() < end + 8 {
+        return answer::SHORT;
+    }
+    if fields::read_u32(s, end + 4) != Reference::EXTENDED_SIGNATURE {
+        return answer::LAYOUT;
+    }
+    answer::DONE
+}
+
+// Judges the element at the front of t, the last of its reference, with d levels of references left in it.
+fn element(t: &[u8], d: usize) -> u32
+    ensures { λ r. ⌜ r ≡ elementAnswer (layoutAnswer d) (now (t .entry)) ⌝ }
+{
+    let front = elements::element_front(t);
+    if front != answer::DONE {
+        return front;
+    }
+    let to = 24 + (fields::read_u32(t, 16) as usize);
+    if !elements::is_reference(&t[24..to]) {
+        return elements::element_end(t);
+    }
+    let inner = layout(&t[24..to], d);
+    if inner != answer::DONE {
+        return inner;
+    }
+    elements::element_end(t)
+}
+
+// Judges a reference with d levels left, itself counted.
+fn layout(s: &[u8], d: usize) -> u32
+    ensures { λ r. ⌜ r ≡ layoutAnswer d (now (s .entry)) ⌝ }
+{
+    if d == 0 {
+        return answer::TOO_DEEP;
+    }
+    let head = head_answer(s);
+    if head != answer::DONE {
+        return head;
+    }
+    if fields::read_u32(s, 4) != Reference::EXTENDED {
+        return plain_answer(s);
+    }
+    let front = extended_front(s);
+    if front != answer::DONE {
+        return front;
+    }
+    let start = list_end(s) + 8;
+    element(&s[start..], d - 1)
+}
+
+// ---- zero identifiers
+
+// Whether the OXID, OID or IPID of a reference with a block is zero.
+fn nil_block(s: &[u8]) -> bool
+    ensures { λ r. ⌜ r ≡ hasNil (blockAt (now (s .entry)) 24) ⌝ }
+{
+    let block = Block::read(s);
+    block.has_nil()
+}
+
+// Whether an accepted reference with d levels, or one inside it, names zero.
+fn names_nil(s: &[u8], d: usize) -> bool
+    requires { ⌜ layoutAnswer d (now s) ≡ 0 ⌝ }
+    ensures { λ r. ⌜ r ≡ namesNil d (now (s .entry)) ⌝ }
+{
+    if d == 0 {
+        return false;
+    }
+    let f = fields::read_u32(s, 4);
+    if f == Reference::CUSTOM {
+        return false;
+    }
+    if nil_block(s) {
+        return true;
+    }
+    if f != Reference::EXTENDED {
+        return false;
+    }
+    let from = list_end(s) + 32;
+    let to = from + (fields::read_u32(s, from - 8) as usize);
+    if !elements::is_reference(&s[from..to]) {
+        return false;
+    }
+    names_nil(&s[from..to], d - 1)
+}
+
+// Whether the bytes are a reference: 0, 13, 14, 21 or 22.
 pub fn reference_answer(s: &[u8]) -> u32
     ensures { λ r. ⌜ r ≡ referenceAnswer (now (s .entry)) ⌝ }
 {
-    let number = layout_answer(s);
+    let number = layout(s, Reference::DEPTH);
     if number != answer::DONE {
         return number;
     }
-    if names_nil(fields::read_u32(s, 4), Block::read(s)) {
+    if names_nil(s, Reference::DEPTH) {
         return answer::NIL_IDENTIFIER;
     }
     answer::DONE
+}
+
+// The place of a refusal.
+fn refused_place(number: u32) -> Place
+    ensures { λ r. ⌜ r ≡ refusal number ⌝ }
+{
+    Place {
+        answer: number,
+        from: 0,
+        to: 0,
+    }
 }
 
 // Where the binding list or the object data of a reference stands.
@@ -305,15 +469,19 @@ pub fn tail_place(s: &[u8]) -> Place
 {
     let number = reference_answer(s);
     if number != answer::DONE {
+        return refused_place(number);
+    }
+    let f = fields::read_u32(s, 4);
+    if f == Reference::EXTENDED {
         return Place {
-            answer: number,
-            from: 0,
-            to: 0,
+            answer: answer::DONE,
+            from: 68,
+            to: list_end(s),
         };
     }
     Place {
         answer: answer::DONE,
-        from: fixed_size(fields::read_u32(s, 4)),
+        from: fixed_size(f),
         to: s.len(),
     }
 }
@@ -344,7 +512,8 @@ pub fn locate(s: &[u8], p: Part, k: usize) -> Place
         };
     }
     let from = x.from;
-    let found = bindings::locate(&s[from..], p, k);
+    let to = x.to;
+    let found = bindings::locate(&s[from..to], p, k);
     if found.answer != answer::DONE {
         return found;
     }
@@ -373,6 +542,116 @@ pub fn binding(s: &[u8], p: Part, k: usize) -> &[u8]
     &s[from..to]
 }
 
+// ---- the element's data
+
+// Where the data of an accepted extended reference's element stands.
+fn content_place(s: &[u8]) -> Place
+    ensures { λ r. ⌜ r ≡ record { answer = 0; from = contentStart (now (s .entry)); to = contentStart (now (s .entry)) + contentLength (now (s .entry)) } ⌝ }
+{
+    let from = list_end(s) + 32;
+    Place {
+        answer: answer::DONE,
+        from: from,
+        to: from + (fields::read_u32(s, from - 8) as usize),
+    }
+}
+
+// Where the data of element k stands: the reference's refusals first, then 24.
+pub fn locate_element(s: &[u8], k: usize) -> Place
+    ensures { λ r. ⌜ ElementFound (now (s .entry)) k r ⌝ }
+{
+    let number = reference_answer(s);
+    if number != answer::DONE {
+        return refused_place(number);
+    }
+    if fields::read_u32(s, 4) != Reference::EXTENDED {
+        return refused_place(answer::NO_BINDING);
+    }
+    if k != 0 {
+        return refused_place(answer::NO_BINDING);
+    }
+    content_place(s)
+}
+
+// Whether there is an element k: 0, the reference's refusals, or 24.
+pub fn element_answer(s: &[u8], k: usize) -> u32
+    ensures { λ r. ⌜ r ≡ (elementPlace (now (s .entry)) k) .answer ⌝ }
+{
+    let x = locate_element(s, k);
+    x.answer
+}
+
+// The data of element k; no bytes where it is refused.
+pub fn element_data(s: &[u8], k: usize) -> &[u8]
+    ensures { λ r. ⌜ PartOf (now (s .entry)) (s .entry .ptr) (elementPlace (now (s .entry)) k) (r .ptr) (now r) ⌝ }
+{
+    let x = locate_element(s, k);
+    let from = x.from;
+    let to = x.to;
+    &s[from..to]
+}
+
+// Where the data of context property k stands: the reference's refusals first, then 24.
+pub fn locate_property(s: &[u8], k: usize) -> Place
+    ensures { λ r. ⌜ r ≡ contextPlace (now (s .entry)) k ⌝ }
+{
+    let number = reference_answer(s);
+    if number != answer::DONE {
+        return refused_place(number);
+    }
+    if fields::read_u32(s, 4) != Reference::CUSTOM {
+        return refused_place(answer::NO_BINDING);
+    }
+    if !contexts::is_marshaler(fields::read_guid(s, 24)) {
+        return refused_place(answer::NO_BINDING);
+    }
+    let x = contexts::locate(&s[48..], k);
+    if x.answer != answer::DONE {
+        return x;
+    }
+    Place {
+        answer: answer::DONE,
+        from: 48 + x.from,
+        to: 48 + x.to,
+    }
+}
+
+// Whether there is a context property k: 0, the reference's refusals, or 24.
+pub fn property_answer(s: &[u8], k: usize) -> u32
+    ensures { λ r. ⌜ r ≡ (contextPlace (now (s .entry)) k) .answer ⌝ }
+{
+    let x = locate_property(s, k);
+    x.answer
+}
+
+// The data of context property k; no bytes where it is refused.
+pub fn property_data(s: &[u8], k: usize) -> &[u8]
+    ensures { λ r. ⌜ PartOf (now (s .entry)) (s .entry .ptr) (contextPlace (now (s .entry)) k) (r .ptr) (now r) ⌝ }
+{
+    let x = locate_property(s, k);
+    let from = x.from;
+    let to = x.to;
+    &s[from..to]
+}
+
+// ---- writing
+
+// The count, the signature and the element of an extended reference, which fill buf.
+fn write_element(id: Guid, x: &[u8], buf: &mut [u8])
+    requires { ⌜ (length (now x) ≤ mostContent) × (length (now buf) ≡ 32 + rounded (length (now x))) ⌝ }
+    ensures { λ _. ⌜ now (buf .exit) ≡ written (now (buf .entry)) 0 (encode 4 1 ++ encode 4 extendedSignature ++ elementBytes id (now (x .entry))) ⌝ }
+{
+    let n = x.len();
+    let m = (n + 7) / 8 * 8;
+    fields::write_u32(buf, 0, 1);
+    fields::write_u32(buf, 4, Reference::EXTENDED_SIGNATURE);
+    fields::write_guid(buf, 8, id);
+    fields::write_u32(buf, 24, n as u32);
+    fields::write_u32(buf, 28, m as u32);
+    fields::copy(buf, 32, x);
+    elements::fill(buf, 32 + n, m - n);
+}
+
 impl Block {
     // Writes the block after the header.
     fn write(self, buf: &mut [u8])
@@ -390,26 +669,119 @@ impl Block {
     }
 }
 
+// Of data that goes into the element of the outermost reference.
+fn content_answer(x: &[u8]) -> u32
+    ensures { λ r. ⌜ r ≡ contentAnswer (layoutAnswer 7) (now (x .entry)) ⌝ }
+{
+    if !elements::is_reference(x) {
+        return answer::DONE;
+    }
+    layout(x, 7)
+}
+
+// Of an identifier and data, to be written as an element.
+fn given_answer(id: Guid, x: &[u8]) -> u32
+    ensures { λ r. ⌜ r ≡ givenAnswer (layoutAnswer 7) id (now (x .entry)) ⌝ }
+{
+    if elements::is_nil(id) {
+        return answer::LAYOUT;
+    }
+    if x.len() == 0 {
+        return answer::LAYOUT;
+    }
+    if 0xFFFFFFF8 < x.len() {
+        return answer::LAYOUT;
+    }
+    content_answer(x)
+}
+
+// Whether a reference in the data of an element names zero.
+fn content_nil(x: &[u8]) -> bool
+    requires { ⌜ contentAnswer (layoutAnswer 7) (now x) ≡ 0 ⌝ }
+    ensures { λ r. ⌜ r ≡ contentNil (now (x .entry)) ⌝ }
+{
+    if !elements::is_reference(x) {
+        return false;
+    }
+    names_nil(x, 7)
+}
+
 impl Reference {
-    // Whether the reference can be written with a tail into n bytes: 0, 13, 14, 22 or 15.
-    fn judge(self, tail: &[u8], n: usize) -> u32
-        ensures { λ r. ⌜ r ≡ writeAnswer self (now (tail .entry)) n ⌝ }
+    // Of the tail by itself.
+    fn tail_answer(self, tail: &[u8]) -> u32
+        ensures { λ r. ⌜ r ≡ tailAnswer self (now (tail .entry)) ⌝ }
     {
         let f = self.flags;
         if !is_form(f) {
+            return answer::DONE;
+        }
+        if f == Reference::CUSTOM {
+            let clsid = self.clsid;
+            return object_answer(clsid, tail);
+        }
+        bindings::list_answer(tail)
+    }
+
+    // Of the element; a form without elements has none.
+    fn element_given(self, x: &[u8]) -> u32
+        ensures { λ r. ⌜ r ≡ elementGiven self (now (x .entry)) ⌝ }
+    {
+        if self.flags != Reference::EXTENDED {
+            return answer::DONE;
+        }
+        let id = self.element;
+        given_answer(id, x)
+    }
+
+    // Whether the block, or a reference in the element's data, names zero.
+    fn nil(self, x: &[u8]) -> bool
+        requires { ⌜ (isForm (self .flags) ≡ true) × (elementGiven self (now x) ≡ 0) ⌝ }
+        ensures { λ r. ⌜ r ≡ nilGiven (namesNil 7) (self .flags) (self .block) (now (x .entry)) ⌝ }
+    {
+        let f = self.flags;
+        if f == Reference::CUSTOM {
+            return false;
+        }
+        let block = self.block;
+        if block.has_nil() {
+            return true;
+        }
+        if f != Reference::EXTENDED {
+            return false;
+        }
+        content_nil(x)
+    }
+
+    // What is refused before the room is looked at: 0, 13, 14, 21 or 22.
+    fn value_answer(self, tail: &[u8], x: &[u8]) -> u32
+        ensures { λ r. ⌜ r ≡ valueAnswer self (now (tail .entry)) (now (x .entry)) ⌝ }
+    {
+        if !is_form(self.flags) {
             return answer::LAYOUT;
         }
-        let number = tail_answer(f, tail);
+        let number = self.tail_answer(tail);
         if number != answer::DONE {
             return number;
         }
-        if names_nil(f, self.block) {
+        let given = self.element_given(x);
+        if given != answer::DONE {
+            return given;
+        }
+        if self.nil(x) {
             return answer::NIL_IDENTIFIER;
         }
-        if n < fixed_size(f) + tail.len() {
-            return answer::NO_ROOM;
-        }
         answer::DONE
+    }
+
+    // The bytes of the elements.
+    fn elements_length(self, x: &[u8]) -> usize
+        requires { ⌜ elementGiven self (now x) ≡ 0 ⌝ }
+        ensures { λ r. ⌜ (r ≡ cond (isExtended (self .flags)) (32 + rounded (length (now (x .entry)))) 0) × (r ≤ 4294967328) ⌝ }
+    {
+        if self.flags != Reference::EXTENDED {
+            return 0;
+        }
+        32 + (x.len() + 7) / 8 * 8
     }
 
     fn write_header(self, buf: &mut [u8])
@@ -439,16 +811,30 @@ impl Reference {
             fields::write_guid(buf, 24, clsid);
             fields::write_u32(buf, 40, self.extension);
             fields::write_u32(buf, 44, self.size);
+        } else if f == Reference::EXTENDED {
+            block.write(buf);
+            fields::write_u32(buf, 64, Reference::EXTENDED_SIGNATURE);
         }
     }
 
-    // Writes a reference with its list or object data at the front of buf, and keeps the rest.
-    pub fn write(self, tail: &[u8], buf: &mut [u8]) -> Written
-        ensures { λ r. ⌜
-            (r ≡ writeReference self (now (tail .entry)) (length (now (buf .entry))))
-            × (now (buf .exit) ≡ stored (r .answer) (referenceBytes self (now (tail .entry))) (now (buf .entry))) ⌝ }
+    // Writes the elements, which fill buf; a form without elements has none.
+    fn write_elements(self, x: &[u8], buf: &mut [u8])
+        requires { ⌜ (elementGiven self (now x) ≡ 0) × (length (now buf) ≡ cond (isExtended (self .flags)) (32 + rounded (length (now x))) 0) ⌝ }
+        ensures { λ _. ⌜ now (buf .exit) ≡ written (now (buf .entry)) 0 (elementsBytes self (now (x .entry))) ⌝ }
     {
-        let number = self.judge(tail, buf.len());
+        if self.flags == Reference::EXTENDED {
+            let id = self.element;
+            write_element(id, x, buf);
+        }
+    }
+
+    // Writes a reference with its list or object data, and the data of its element, at the front of buf, and keeps the rest.
+    pub fn write(self, tail: &[u8], x: &[u8], buf: &mut [u8]) -> Written
+        ensures { λ r. ⌜
+            (r ≡ writeReference self (now (tail .entry)) (now (x .entry)) (length (now (buf .entry))))
+            × (now (buf .exit) ≡ stored (r .answer) (referenceBytes self (now (tail .entry)) (now (x .entry))) (now (buf .entry))) ⌝ }
+    {
+        let number = self.value_answer(tail, x);
         if number != answer::DONE {
             return Written {
                 answer: number,
@@ -456,12 +842,21 @@ impl Reference {
             };
         }
         let start = fixed_size(self.flags);
+        let at = start + tail.len();
+        let length = at + self.elements_length(x);
+        if buf.len() < length {
+            return Written {
+                answer: answer::NO_ROOM,
+                length: 0,
+            };
+        }
         self.write_header(buf);
         self.write_body(buf);
         fields::copy(buf, start, tail);
+        self.write_elements(x, &mut buf[at..length]);
         Written {
             answer: answer::DONE,
-            length: start + tail.len(),
+            length: length,
         }
     }
 }

@@ -83,7 +83,7 @@ fn write(reference: &mut [u8]) {
     let interface = ipid();
     let group = iid();
     let block = Block::new(0, 5, Oxid(OXID), Oid(OID), interface);
-    let r = Reference::standard(group, block).write(&list, reference);
+    let r = Reference::standard(group, block).write(&list, b"", reference);
     say::step(r.answer, b"server: writes the reference");
     say::counted(b", ", r.length as u64);
     print::text(b" bytes\n");

@@ -112,8 +112,11 @@ fn references(n: u16, calls: u32) {
     };
     let typed = Reference::standard(guid(ipid(1)), block);
     let (mut ours, mut theirs) = ([0; 1024], [0; 1024]);
-    let length = typed.write(&list, &mut ours).unwrap();
-    assert_eq!(pb::write_reference(&fields, &list, &mut theirs), Ok(length));
+    let length = typed.write(&list, &[], &mut ours).unwrap();
+    assert_eq!(
+        pb::write_reference(&fields, &list, &[], &mut theirs),
+        Ok(length)
+    );
     assert_eq!(ours, theirs);
     let bytes = ours[..length].to_vec();
     assert_eq!(Reference::read(&bytes), Ok(typed));
@@ -126,11 +129,12 @@ fn references(n: u16, calls: u32) {
     measure(
         &format!("write a reference of {length} bytes"),
         calls,
-        || keep(typed.write(black_box(&list), black_box(&mut ours))),
+        || keep(typed.write(black_box(&list), &[], black_box(&mut ours))),
         || {
             keep(pb::write_reference(
                 &fields,
                 black_box(&list),
+                &[],
                 black_box(&mut theirs),
             ))
         },
@@ -151,6 +155,50 @@ fn items() -> Vec<u8> {
         .to_bytes()
     };
     (0..LIST as u64).flat_map(item).collect()
+}
+
+/// A nest of eight references, the deepest that is read.
+fn nest(n: u16, calls: u32) {
+    let list = list(n);
+    let block = Block {
+        flags: 0,
+        public: 5,
+        oxid: Oxid(spread(1)),
+        oid: Oid(spread(2)),
+        ipid: guid(ipid(2)),
+    };
+    let typed = Reference::extended(guid(ipid(1)), block, guid(ipid(3)));
+    let mut bytes = vec![1; 24];
+    for _ in 0..8 {
+        let mut buffer = vec![0; 200 + list.len() + bytes.len()];
+        let length = typed.write(&list, &bytes, &mut buffer).unwrap();
+        bytes = buffer[..length].to_vec();
+    }
+    assert_eq!(Reference::read(&bytes), Ok(typed));
+    assert!(pb::read_reference(&bytes).is_ok());
+    measure(
+        &format!("read a nest of eight, {} bytes", bytes.len()),
+        calls,
+        || keep(Reference::read(black_box(&bytes))),
+        || keep(pb::read_reference(black_box(&bytes))),
+    );
+    let content = Reference::element(&bytes, 0).unwrap();
+    let fields = pb::read_reference(&bytes).unwrap().0;
+    let (mut ours, mut theirs) = (bytes.clone(), bytes.clone());
+    measure(
+        &format!("write a nest of eight, {} bytes", bytes.len()),
+        calls,
+        || keep(typed.write(black_box(&list), black_box(content), &mut ours)),
+        || {
+            keep(pb::write_reference(
+                &fields,
+                black_box(&list),
+                black_box(content),
+                &mut theirs,
+            ))
+        },
+    );
+    assert_eq!(ours, theirs);
 }
 
 fn tables() {
@@ -288,5 +336,7 @@ fn main() {
     );
     references(20, 20_000);
     references(254, 4_000);
+    nest(20, 2_000);
+    nest(254, 500);
     tables();
 }

@@ -1,12 +1,15 @@
-//! References, binding lists and call headers, proper and damaged, compared with the model.
+//! References, binding lists, contexts and call headers, proper and damaged, compared with the model.
 
-use crate::generate::{damage, list, reference};
+use crate::generate::{clsid, context, damage, list, property, random_data, reference};
 use crate::random::Random;
 use crate::shrink::shrink;
 use crate::tally::Tally;
 use crate::Differs;
 use model::bytes as m;
-use rimonakh::{Block, Error, Guid, Oid, OrpcThat, OrpcThis, Oxid, Part, Reference};
+use model::contexts as c;
+use rimonakh::{
+    Block, Context, Error, Guid, Oid, OrpcThat, OrpcThis, Oxid, Part, Property, Reference,
+};
 use std::fmt::Debug;
 use std::panic::catch_unwind;
 
@@ -16,8 +19,11 @@ enum Kind {
     List,
     This,
     That,
+    Context,
     /// A reference to be written, with the bytes as its list or object data.
     Written,
+    /// A context and a property to be written, with the bytes as the context's properties.
+    WrittenContext,
 }
 
 /// One input; the seed gives the fields that are not in the bytes.
@@ -37,14 +43,26 @@ impl Case {
             Kind::List,
             Kind::This,
             Kind::That,
+            Kind::Context,
             Kind::Written,
+            Kind::Written,
+            Kind::WrittenContext,
         ]);
         let mut bytes = match kind {
             Kind::Reference => {
                 let oxid = random.word();
                 reference(random, oxid)
             }
+            Kind::Written if random.once_in(3) => context(random),
             Kind::List | Kind::Written => list(random),
+            Kind::Context => context(random),
+            Kind::WrittenContext => {
+                let mut properties = Vec::new();
+                for _ in 0..random.below(4) {
+                    property(random, &mut properties);
+                }
+                properties
+            }
             Kind::This => {
                 let mut header = vec![5, 0, random.below(9) as u8, 0];
                 header.extend(random.bytes(24));
@@ -91,29 +109,75 @@ fn check(kind: Kind, s: &[u8], seed: u64, tally: &mut Tally) -> Result<(), Strin
         Kind::List => check_list(s, tally),
         Kind::This => check_this(s, &mut random, tally),
         Kind::That => check_that(s, &mut random, tally),
+        Kind::Context => check_context(s, &mut random, tally),
         Kind::Written => {
-            let mut fields = m::Reference {
-                flags: random.pick(&[0, 1, 1, 2, 2, 3, 4, 4, 5, 8]),
-                iid: guid(&mut random),
-                block_flags: random.word() as u32,
-                public: random.word() as u32,
-                oxid: random.word(),
-                oid: random.word(),
-                ipid: guid(&mut random),
-                clsid: guid(&mut random),
-                extension: random.word() as u32,
-                size: random.word() as u32,
-            };
-            match random.below(20) {
-                0 => fields.oxid = 0,
-                1 => fields.oid = 0,
-                2 => fields.ipid = [0; 16],
-                3 => fields.ipid[..8].fill(0),
-                4 => fields.ipid[8..].fill(0),
-                _ => {}
-            }
-            check_written(&fields, s, &mut random, tally)
+            let fields = written_fields(&mut random);
+            let content = written_content(&mut random);
+            check_written(&fields, s, &content, &mut random, tally)
         }
+        Kind::WrittenContext => {
+            let fields = c::Context {
+                count: random.below(4) as u32,
+                ..context_fields(&mut random)
+            };
+            check_context_written(&fields, s, &mut random, tally)?;
+            check_property_written(&mut random, tally)
+        }
+    }
+}
+
+/// A reference to be written: any flags, and now and then an identifier, half an IPID or the element's identifier is zero.
+fn written_fields(random: &mut Random) -> m::Reference {
+    let mut fields = m::Reference {
+        flags: random.pick(&[0, 1, 1, 2, 2, 3, 4, 4, 5, 8, 8, 8, 16]),
+        iid: guid(random),
+        block_flags: random.word() as u32,
+        public: random.word() as u32,
+        oxid: random.word(),
+        oid: random.word(),
+        ipid: guid(random),
+        clsid: clsid(random),
+        extension: random.word() as u32,
+        size: random.word() as u32,
+        element: guid(random),
+    };
+    match random.below(20) {
+        0 => fields.oxid = 0,
+        1 => fields.oid = 0,
+        2 => fields.ipid = [0; 16],
+        3 => fields.ipid[..8].fill(0),
+        4 => fields.ipid[8..].fill(0),
+        5 => fields.element = [0; 16],
+        6 => fields.element[..8].fill(0),
+        7 => fields.element[8..].fill(0),
+        _ => {}
+    }
+    fields
+}
+
+/// Data of an element to be written: none, any bytes, or a reference, which now and then is damaged.
+fn written_content(random: &mut Random) -> Vec<u8> {
+    let mut content = match random.below(8) {
+        0 => vec![],
+        1 | 2 => random_data(random),
+        _ => {
+            let oxid = random.word();
+            reference(random, oxid)
+        }
+    };
+    if random.once_in(4) {
+        damage(random, &mut content);
+    }
+    content
+}
+
+fn context_fields(random: &mut Random) -> c::Context {
+    c::Context {
+        id: guid(random),
+        reserved: random.word() as u32,
+        marshal: random.word() as u32,
+        count: random.word() as u32,
+        frozen: random.word() as u32,
     }
 }
 
@@ -215,8 +279,31 @@ fn check_reference(s: &[u8], random: &mut Random, tally: &mut Tally) -> Result<(
             )?;
         }
     }
+    for k in [0, 1, usize::MAX] {
+        same(
+            "element",
+            Reference::locate_element(s, k),
+            m::reference_element(s, k),
+            tally,
+        )?;
+    }
+    for k in [0, 1, 2, usize::MAX] {
+        same(
+            "property of a reference",
+            Reference::locate_property(s, k),
+            m::reference_property(s, k),
+            tally,
+        )?;
+    }
+    let plain = plain::bytes::read_reference(s).map(|(_, tail)| tail);
+    if plain != demanded.clone().map(|(_, tail)| tail) {
+        return Err(format!("plain Rust answered {plain:?}"));
+    }
     match demanded {
-        Ok((fields, tail)) => check_written(&fields, &s[tail], random, tally),
+        Ok((fields, tail)) => {
+            let content = m::reference_element(s, 0).unwrap_or_default();
+            check_written(&fields, &s[tail], &s[content], random, tally)
+        }
         Err(_) => Ok(()),
     }
 }
@@ -224,17 +311,74 @@ fn check_reference(s: &[u8], random: &mut Random, tally: &mut Tally) -> Result<(
 fn check_written(
     fields: &m::Reference,
     tail: &[u8],
+    content: &[u8],
     random: &mut Random,
     tally: &mut Tally,
 ) -> Result<(), String> {
-    let n = tail.len() + [0, 64, 80, 0, 48][fields.flags.min(4) as usize];
+    let n = tail.len()
+        + match fields.flags {
+            1 => 64,
+            2 => 80,
+            8 => 68 + 32 + content.len().next_multiple_of(8),
+            _ => 48,
+        };
     let library = typed_fields(fields);
-    let write = |buffer: &mut [u8]| library.write(tail, buffer);
-    let demand = |buffer: &mut [u8]| m::write_reference(fields, tail, buffer);
+    let write = |buffer: &mut [u8]| library.write(tail, content, buffer);
+    let demand = |buffer: &mut [u8]| m::write_reference(fields, tail, content, buffer);
     same_written("reference written", n, random, tally, write, demand)
 }
 
-fn plain_fields(r: Reference) -> m::Reference {
+fn check_context(s: &[u8], random: &mut Random, tally: &mut Tally) -> Result<(), String> {
+    let demanded = c::read_context(s);
+    same(
+        "context",
+        Context::read(s).map(plain_context),
+        demanded,
+        tally,
+    )?;
+    for k in [0, 1, 2, usize::MAX] {
+        same(
+            "property",
+            Property::read(s, k).map(plain_property),
+            c::read_property(s, k).map(|(property, _)| property),
+            tally,
+        )?;
+    }
+    match demanded {
+        Ok(fields) => check_context_written(&fields, &s[48..], random, tally),
+        Err(_) => Ok(()),
+    }
+}
+
+fn check_context_written(
+    fields: &c::Context,
+    properties: &[u8],
+    random: &mut Random,
+    tally: &mut Tally,
+) -> Result<(), String> {
+    let library = typed_context(fields);
+    let write = |buffer: &mut [u8]| library.write(properties, buffer);
+    let demand = |buffer: &mut [u8]| c::write_context(fields, properties, buffer);
+    let n = 48 + properties.len();
+    same_written("context written", n, random, tally, write, demand)
+}
+
+fn check_property_written(random: &mut Random, tally: &mut Tally) -> Result<(), String> {
+    let fields = c::Property {
+        clsid: guid(random),
+        policy: guid(random),
+        flags: random.pick(&[0, 1, 2, 3, 4, 5, 8, 1 << 31]),
+    };
+    let size = random.below(20);
+    let content = random.bytes(size);
+    let library = typed_property(&fields);
+    let write = |buffer: &mut [u8]| library.write(&content, buffer);
+    let demand = |buffer: &mut [u8]| c::write_property(&fields, &content, buffer);
+    let n = 40 + content.len();
+    same_written("property written", n, random, tally, write, demand)
+}
+
+pub fn plain_fields(r: Reference) -> m::Reference {
     m::Reference {
         flags: r.flags,
         iid: r.iid.0,
@@ -246,10 +390,11 @@ fn plain_fields(r: Reference) -> m::Reference {
         clsid: r.clsid.0,
         extension: r.extension,
         size: r.size,
+        element: r.element.0,
     }
 }
 
-fn typed_fields(r: &m::Reference) -> Reference {
+pub fn typed_fields(r: &m::Reference) -> Reference {
     Reference {
         flags: r.flags,
         iid: Guid(r.iid),
@@ -263,6 +408,43 @@ fn typed_fields(r: &m::Reference) -> Reference {
         clsid: Guid(r.clsid),
         extension: r.extension,
         size: r.size,
+        element: Guid(r.element),
+    }
+}
+
+pub fn plain_context(x: Context) -> c::Context {
+    c::Context {
+        id: x.id.0,
+        reserved: x.reserved,
+        marshal: x.marshal,
+        count: x.count,
+        frozen: x.frozen,
+    }
+}
+
+pub fn typed_context(x: &c::Context) -> Context {
+    Context {
+        id: Guid(x.id),
+        reserved: x.reserved,
+        marshal: x.marshal,
+        count: x.count,
+        frozen: x.frozen,
+    }
+}
+
+pub fn plain_property(x: Property) -> c::Property {
+    c::Property {
+        clsid: x.clsid.0,
+        policy: x.policy.0,
+        flags: x.flags,
+    }
+}
+
+pub fn typed_property(x: &c::Property) -> Property {
+    Property {
+        clsid: Guid(x.clsid),
+        policy: Guid(x.policy),
+        flags: x.flags,
     }
 }
 

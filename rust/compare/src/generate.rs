@@ -4,6 +4,7 @@ use crate::decode;
 use crate::op::Op;
 use crate::random::Random;
 use model::bytes::filtered_list;
+use model::contexts::MARSHALER;
 use model::entries::{Entries, Way, EXPORTERS, INTERFACES, OBJECTS, SETS};
 use model::Guid;
 use std::ops::Range;
@@ -91,28 +92,123 @@ pub fn damage(random: &mut Random, bytes: &mut Vec<u8>) {
 /// Bytes of the block's identifiers in a reference: OXID, OID, IPID and its halves.
 const IDENTIFIERS: [Range<usize>; 5] = [32..40, 40..48, 48..64, 48..56, 56..64];
 
-/// A reference to an object of an exporter, which keeps the rules but that now and then an identifier, or half an IPID, is zero.
+/// A reference to an object of an exporter, which keeps the rules but that now and then an identifier, or half an IPID, is zero,
+/// in it or in a reference inside it, or that references are nested too deep.
 pub fn reference(random: &mut Random, oxid: u64) -> Vec<u8> {
-    let flags = random.pick(&[1u32, 1, 2, 4]);
+    let levels = if random.once_in(4) {
+        1 + random.below(10)
+    } else {
+        random.below(3)
+    };
+    nest(random, oxid, levels)
+}
+
+/// A standard, handler or custom reference, or one of them inside so many extended ones.
+fn nest(random: &mut Random, oxid: u64, levels: usize) -> Vec<u8> {
+    let flags = match levels {
+        0 => random.pick(&[1u32, 1, 2, 4, 4]),
+        _ => 8,
+    };
     let mut bytes = b"MEOW".to_vec();
     bytes.extend(flags.to_le_bytes());
     bytes.extend(random.bytes(16));
     if flags == 4 {
-        bytes.extend(random.bytes(24));
-        let data = random.below(40);
-        bytes.extend(random.bytes(data));
+        custom(random, &mut bytes);
         return bytes;
     }
     bytes.extend(random.pick(&[0u32, 0x1000, 0x280]).to_le_bytes());
     bytes.extend((random.below(6) as u32).to_le_bytes());
     bytes.extend(oxid.to_le_bytes());
     bytes.extend(random.bytes(if flags == 2 { 40 } else { 24 }));
+    if flags == 8 {
+        bytes.extend(EXTENDED);
+    }
     bytes.extend(proper_list(random));
-    if random.once_in(6) {
+    if flags == 8 {
+        bytes.extend([1, 0, 0, 0]);
+        bytes.extend(EXTENDED);
+        let data = match random.below(if levels == 1 { 4 } else { 1 }) {
+            1 => random_data(random),
+            _ => nest(random, oxid, levels - 1),
+        };
+        element(random, &data, &mut bytes);
+    }
+    if random.once_in(if levels > 2 { 20 } else { 6 }) {
         let zeros = &IDENTIFIERS[random.below(IDENTIFIERS.len())];
         bytes[zeros.clone()].fill(0);
     }
     bytes
+}
+
+/// The signature of an extended reference.
+const EXTENDED: [u8; 4] = [0x56, 0x59, 0x53, 0x4E];
+
+fn element(random: &mut Random, data: &[u8], bytes: &mut Vec<u8>) {
+    let rounded = data.len().next_multiple_of(8);
+    bytes.extend(random.bytes(16));
+    bytes.extend((data.len() as u32).to_le_bytes());
+    bytes.extend((rounded as u32).to_le_bytes());
+    bytes.extend(data);
+    bytes.resize(bytes.len() + rounded - data.len(), 0);
+}
+
+/// Data that is no reference, or only the front of one.
+pub fn random_data(random: &mut Random) -> Vec<u8> {
+    let front = random.pick(&[0, 0, 0, 3, 4]);
+    let mut data = b"MEOW"[..front].to_vec();
+    let more = 1 + random.below(20);
+    data.extend(random.bytes(more));
+    data
+}
+
+/// What a custom reference has after its header: CLSID, two sizes, and object data, often a context.
+fn custom(random: &mut Random, bytes: &mut Vec<u8>) {
+    let clsid = clsid(random);
+    bytes.extend(clsid);
+    bytes.extend(random.bytes(8));
+    let other = if clsid == MARSHALER { 1 } else { 6 };
+    if random.below(8) < other {
+        let data = random.below(40);
+        bytes.extend(random.bytes(data));
+    } else {
+        bytes.extend(context(random));
+    }
+}
+
+/// A CLSID: every second time the context marshaler's, or nearly so.
+pub fn clsid(random: &mut Random) -> Guid {
+    let mut clsid = MARSHALER;
+    match random.below(6) {
+        0 | 1 | 2 => {}
+        3 => clsid[random.below(16)] ^= 1 << random.below(8),
+        _ => clsid = random.bytes(16).try_into().unwrap(),
+    }
+    clsid
+}
+
+/// A context, with its properties, which keeps the rules.
+pub fn context(random: &mut Random) -> Vec<u8> {
+    let count = random.below(4);
+    let mut bytes = vec![1, 0, 1, 0];
+    bytes.extend(random.bytes(16));
+    bytes.extend([2, 0, 0, 0]);
+    bytes.extend(random.bytes(4));
+    bytes.extend([0; 8]);
+    bytes.extend(random.bytes(4));
+    bytes.extend((count as u32).to_le_bytes());
+    bytes.extend(random.bytes(4));
+    for _ in 0..count {
+        property(random, &mut bytes);
+    }
+    bytes
+}
+
+pub fn property(random: &mut Random, bytes: &mut Vec<u8>) {
+    let size = random.pick(&[0, 0, 1, 3, 8, 17]);
+    bytes.extend(random.bytes(32));
+    bytes.extend(random.pick(&[1u32, 2, 4]).to_le_bytes());
+    bytes.extend((size as u32).to_le_bytes());
+    bytes.extend(random.bytes(size));
 }
 
 // ---- calls

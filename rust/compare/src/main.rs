@@ -45,7 +45,7 @@ fn compare(seed: u64, scale: &Scale) -> Result<(), Differs> {
     let (calls, pokes) = (scale.calls, scale.pokes);
     bytes::wire_codes()?;
     lines::compare()?;
-    all.join(&part("references, lists and headers", &|| {
+    all.join(&part("references, lists, contexts and headers", &|| {
         bytes::compare(seed, scale.inputs)
     })?);
     all.join(&part("calls", &|| {

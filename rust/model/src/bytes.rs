@@ -1,6 +1,6 @@
-//! References, binding lists and call headers.
+//! References, binding lists and call headers; MS-DCOM, section 2.2.18, for what document 02 adds to references.
 
-use crate::Guid;
+use crate::{contexts, Guid};
 use std::ops::Range;
 
 fn u16_at(s: &[u8], at: usize) -> u16 {
@@ -26,6 +26,56 @@ pub(crate) fn put(made: &[u8], buffer: &mut [u8]) -> Result<usize, u32> {
     }
     buffer[..made.len()].copy_from_slice(made);
     Ok(made.len())
+}
+
+/// Bytes that are read from the front: a field that is not all there is 13.
+pub(crate) struct Reading<'a> {
+    bytes: &'a [u8],
+    at: usize,
+}
+
+impl<'a> Reading<'a> {
+    pub(crate) fn new(bytes: &'a [u8]) -> Reading<'a> {
+        Reading { bytes, at: 0 }
+    }
+
+    fn rest(&self) -> &'a [u8] {
+        &self.bytes[self.at..]
+    }
+
+    /// Where the next `n` bytes stand, which are passed over.
+    pub(crate) fn skip(&mut self, n: usize) -> Result<Range<usize>, u32> {
+        if self.rest().len() < n {
+            return Err(13);
+        }
+        self.at += n;
+        Ok(self.at - n..self.at)
+    }
+
+    pub(crate) fn u32(&mut self) -> Result<u32, u32> {
+        Ok(u32_at(self.bytes, self.skip(4)?.start))
+    }
+
+    pub(crate) fn guid(&mut self) -> Result<Guid, u32> {
+        Ok(guid_at(self.bytes, self.skip(16)?.start))
+    }
+
+    /// Two bytes of a version, which are fixed.
+    pub(crate) fn version(&mut self, fixed: u16) -> Result<(), u32> {
+        let read = u16_at(self.bytes, self.skip(2)?.start);
+        (read == fixed).then_some(()).ok_or(14)
+    }
+
+    /// A number that is one of these, or 14.
+    pub(crate) fn one_of(&mut self, these: &[u32]) -> Result<u32, u32> {
+        let read = self.u32()?;
+        these.contains(&read).then_some(read).ok_or(14)
+    }
+
+    /// Nothing is left over, or 14.
+    pub(crate) fn end(&self) -> Result<(), u32> {
+        self.rest().is_empty().then_some(()).ok_or(14)
+    }
 }
 
 // ---- binding lists
@@ -160,35 +210,50 @@ pub struct Reference {
     pub clsid: Guid,
     pub extension: u32,
     pub size: u32,
+    /// The identifier of an extended reference's element.
+    pub element: Guid,
 }
 
-impl Reference {
-    /// Refuses a standard or handler reference with a nil OXID, OID or IPID.
-    fn named(&self) -> Result<(), u32> {
-        let nil = self.oxid == 0 || self.oid == 0 || self.ipid == [0; 16];
-        if self.flags != 4 && nil {
-            return Err(22);
-        }
-        Ok(())
-    }
-}
+/// "MEOW".
+const SIGNATURE: [u8; 4] = [0x4D, 0x45, 0x4F, 0x57];
 
-/// The size of the fixed fields of the form that flags name.
+/// Before the list and before the elements of an extended reference (MS-DCOM, section 2.2.18.7).
+const EXTENDED_SIGNATURE: u32 = 0x4E53_5956;
+
+/// The deepest reference, where the outermost is depth 1.
+const DEEPEST: usize = 8;
+
+/// The size of the fixed fields of the form that flags name. Of an extended reference these are block and first signature.
 fn fixed_size(flags: u32) -> Option<usize> {
     match flags {
         1 => Some(24 + 40),
         2 => Some(24 + 40 + 16),
         4 => Some(24 + 16 + 4 + 4),
+        8 => Some(24 + 40 + 4),
         _ => None,
     }
 }
 
-/// Reads a reference: its fields, and where its list or object data stands.
-pub fn read_reference(s: &[u8]) -> Result<(Reference, Range<usize>), u32> {
+/// A reference whose layout is right, and where its parts stand.
+struct Parsed {
+    fields: Reference,
+    tail: Range<usize>,
+    /// The data of each element and of each property of a context.
+    elements: Vec<Range<usize>>,
+    properties: Vec<Range<usize>>,
+    /// Whether an OXID, OID or IPID in it, or in a reference inside it, is nil.
+    nil: bool,
+}
+
+/// A reference of this depth: all of 13, 14 and 21.
+fn parse(s: &[u8], depth: usize) -> Result<Parsed, u32> {
+    if depth > DEEPEST {
+        return Err(21);
+    }
     if s.len() < 24 {
         return Err(13);
     }
-    if s[..4] != *b"MEOW" {
+    if s[..4] != SIGNATURE {
         return Err(14);
     }
     let flags = u32_at(s, 4);
@@ -196,30 +261,99 @@ pub fn read_reference(s: &[u8]) -> Result<(Reference, Range<usize>), u32> {
     if s.len() < start {
         return Err(13);
     }
-    if flags != 4 {
-        list(&s[start..])?;
-    }
-    let mut r = Reference {
-        flags,
-        iid: guid_at(s, 8),
-        ..Reference::default()
+    let mut found = Parsed {
+        fields: Reference {
+            flags,
+            iid: guid_at(s, 8),
+            ..Reference::default()
+        },
+        tail: start..s.len(),
+        elements: vec![],
+        properties: vec![],
+        nil: false,
     };
+    let r = &mut found.fields;
     if flags == 4 {
         r.clsid = guid_at(s, 24);
         r.extension = u32_at(s, 40);
         r.size = u32_at(s, 44);
-    } else {
-        r.block_flags = u32_at(s, 24);
-        r.public = u32_at(s, 28);
-        r.oxid = u64_at(s, 32);
-        r.oid = u64_at(s, 40);
-        r.ipid = guid_at(s, 48);
+        if r.clsid == contexts::MARSHALER {
+            let moved = |p: &contexts::Placed| start + p.1.start..start + p.1.end;
+            let (_, properties) = contexts::context(&s[start..])?;
+            found.properties = properties.iter().map(moved).collect();
+        }
+        return Ok(found);
     }
-    if flags == 2 {
-        r.clsid = guid_at(s, 64);
+    r.block_flags = u32_at(s, 24);
+    r.public = u32_at(s, 28);
+    r.oxid = u64_at(s, 32);
+    r.oid = u64_at(s, 40);
+    r.ipid = guid_at(s, 48);
+    found.nil = r.oxid == 0 || r.oid == 0 || r.ipid == [0; 16];
+    match flags {
+        1 => drop(list(&s[start..])?),
+        2 => {
+            r.clsid = guid_at(s, 64);
+            list(&s[start..])?;
+        }
+        _ => elements(s, depth, &mut found)?,
     }
-    r.named()?;
-    Ok((r, start..s.len()))
+    Ok(found)
+}
+
+/// What an extended reference has after its block: signature, list, count, signature and one element, whose data may be a
+/// reference of the next depth.
+fn elements(s: &[u8], depth: usize, found: &mut Parsed) -> Result<(), u32> {
+    let mut reading = Reading { bytes: s, at: 64 };
+    reading.one_of(&[EXTENDED_SIGNATURE])?;
+    let length = front_list(reading.rest())?.length;
+    found.tail = reading.skip(length)?;
+    reading.one_of(&[1])?; // the number of elements
+    reading.one_of(&[EXTENDED_SIGNATURE])?;
+    let (data, padding) = element(&mut reading, &mut found.fields)?;
+    if s[data.clone()].starts_with(&SIGNATURE) {
+        let inside = parse(&s[data.clone()], depth + 1)?;
+        found.nil |= inside.nil;
+    }
+    found.elements.push(data);
+    if s[padding].iter().any(|b| *b != 0) {
+        return Err(14);
+    }
+    reading.end()
+}
+
+/// Where the data of an element and its padding stand.
+fn element(s: &mut Reading, r: &mut Reference) -> Result<(Range<usize>, Range<usize>), u32> {
+    r.element = s.guid()?;
+    if r.element == [0; 16] {
+        return Err(14);
+    }
+    let size = s.u32()? as u64;
+    if size == 0 {
+        return Err(14);
+    }
+    let rounded = s.u32()? as u64;
+    if rounded != size.next_multiple_of(8) {
+        return Err(14);
+    }
+    let all = s.skip(rounded as usize)?;
+    let end = all.start + size as usize;
+    Ok((all.start..end, end..all.end))
+}
+
+/// The outermost reference; 22 stands after all else.
+fn outermost(s: &[u8]) -> Result<Parsed, u32> {
+    let found = parse(s, 1)?;
+    if found.nil {
+        return Err(22);
+    }
+    Ok(found)
+}
+
+/// Reads a reference: its fields, and where its list or object data stands.
+pub fn read_reference(s: &[u8]) -> Result<(Reference, Range<usize>), u32> {
+    let found = outermost(s)?;
+    Ok((found.fields, found.tail))
 }
 
 /// Where binding `k` of a part of a reference's list stands; a custom reference has no list.
@@ -232,14 +366,29 @@ pub fn reference_binding(s: &[u8], part: Part, k: usize) -> Result<Range<usize>,
     Ok(tail.start + place.start..tail.start + place.end)
 }
 
-/// Writes a reference with its list or object data.
-pub fn write_reference(r: &Reference, tail: &[u8], buffer: &mut [u8]) -> Result<usize, u32> {
+/// Where the data of element `k` of a reference stands.
+pub fn reference_element(s: &[u8], k: usize) -> Result<Range<usize>, u32> {
+    outermost(s)?.elements.get(k).cloned().ok_or(24)
+}
+
+/// Where the data of property `k` of the context in a reference stands.
+pub fn reference_property(s: &[u8], k: usize) -> Result<Range<usize>, u32> {
+    outermost(s)?.properties.get(k).cloned().ok_or(24)
+}
+
+/// Writes a reference with its list or object data, and the data of its element. The list is judged by itself; then what could
+/// not be read is refused.
+pub fn write_reference(
+    r: &Reference,
+    tail: &[u8],
+    data: &[u8],
+    buffer: &mut [u8],
+) -> Result<usize, u32> {
     fixed_size(r.flags).ok_or(14u32)?;
     if r.flags != 4 {
         list(tail)?;
     }
-    r.named()?;
-    let mut made = b"MEOW".to_vec();
+    let mut made = SIGNATURE.to_vec();
     made.extend(r.flags.to_le_bytes());
     made.extend(r.iid);
     if r.flags == 4 {
@@ -256,7 +405,21 @@ pub fn write_reference(r: &Reference, tail: &[u8], buffer: &mut [u8]) -> Result<
     if r.flags == 2 {
         made.extend(r.clsid);
     }
+    if r.flags == 8 {
+        made.extend(EXTENDED_SIGNATURE.to_le_bytes());
+    }
     made.extend(tail);
+    if r.flags == 8 {
+        let rounded = u32::try_from(data.len().next_multiple_of(8)).map_err(|_| 14u32)?;
+        made.extend(1u32.to_le_bytes());
+        made.extend(EXTENDED_SIGNATURE.to_le_bytes());
+        made.extend(r.element);
+        made.extend((data.len() as u32).to_le_bytes());
+        made.extend(rounded.to_le_bytes());
+        made.extend(data);
+        made.resize(made.len() + rounded as usize - data.len(), 0);
+    }
+    outermost(&made)?;
     put(&made, buffer)
 }
 

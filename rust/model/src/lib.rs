@@ -1,7 +1,9 @@
-//! Documents 01 and 02 on plain vectors, written from the documents alone: bytes (references, lists, headers), entries and calls.
+//! Documents 01 and 02 on plain vectors, written from the documents alone: bytes (references, lists, headers), contexts, entries
+//! and calls.
 //! A refusal is `Err` with its answer number.
 
 pub mod bytes;
+pub mod contexts;
 pub mod entries;
 
 /// A GUID as its sixteen bytes on the wire.

@@ -1,4 +1,4 @@
-//! Object references and binding lists.
+//! Object references, binding lists and contexts.
 
 use crate::Guid;
 use std::ops::Range;
@@ -15,6 +15,7 @@ pub struct Reference {
     pub clsid: Guid,
     pub extension: u32,
     pub size: u32,
+    pub element: Guid,
 }
 
 impl Reference {
@@ -24,6 +25,14 @@ impl Reference {
 }
 
 const SIGNATURE: u32 = 0x574F_454D;
+const EXTENDED: u32 = 0x4E53_5956;
+const MARSHALER: Guid = Guid {
+    low: 0x33B,
+    high: 0x4600_0000_0000_00C0,
+};
+
+/// References in references, the outermost counted.
+const DEPTH: usize = 8;
 
 fn u16_at(s: &[u8], at: usize) -> u16 {
     u16::from_le_bytes(s[at..at + 2].try_into().unwrap())
@@ -74,8 +83,8 @@ fn is_part(s: &[u8], head: usize) -> bool {
     false
 }
 
-/// Whether the bytes are one whole list.
-pub fn judge_list(s: &[u8]) -> Result<(), u32> {
+/// The length of the list at the front.
+fn front_list(s: &[u8]) -> Result<usize, u32> {
     if s.len() < 4 {
         return Err(13);
     }
@@ -86,7 +95,15 @@ pub fn judge_list(s: &[u8]) -> Result<(), u32> {
     }
     let bare = end == 4 && split == 4;
     let parted = |s: &[u8]| is_part(&s[4..split], 1) && is_part(&s[split..end], 2);
-    if end < split || !(bare || parted(s)) || end < s.len() {
+    if end < split || !(bare || parted(s)) {
+        return Err(14);
+    }
+    Ok(end)
+}
+
+/// Whether the bytes are one whole list.
+pub fn judge_list(s: &[u8]) -> Result<(), u32> {
+    if front_list(s)? < s.len() {
         return Err(14);
     }
     Ok(())
@@ -143,17 +160,72 @@ pub fn stated_length(s: &[u8]) -> usize {
     s.len().min(4 + 2 * u16_at(s, 0) as usize)
 }
 
+/// Whether the bytes are a context.
+pub fn judge_context(s: &[u8]) -> Result<(), u32> {
+    for (at, fixed) in [(0, 1), (2, 1)] {
+        if s.len() < at + 2 {
+            return Err(13);
+        }
+        if u16_at(s, at) != fixed {
+            return Err(14);
+        }
+    }
+    for (at, fixed) in [(20, 2), (28, 0), (32, 0)] {
+        if s.len() < at + 4 {
+            return Err(13);
+        }
+        if u32_at(s, at) != fixed {
+            return Err(14);
+        }
+    }
+    if s.len() < 48 {
+        return Err(13);
+    }
+    let mut at = 48;
+    for _ in 0..u32_at(s, 40) {
+        if s.len() < at + 36 {
+            return Err(13);
+        }
+        if !matches!(u32_at(s, at + 32), 1 | 2 | 4) {
+            return Err(14);
+        }
+        if s.len() < at + 40 {
+            return Err(13);
+        }
+        at += 40 + u32_at(s, at + 36) as usize;
+        if s.len() < at {
+            return Err(13);
+        }
+    }
+    if at < s.len() {
+        return Err(14);
+    }
+    Ok(())
+}
+
 fn fixed_size(flags: u32) -> Result<usize, u32> {
     match flags {
         1 => Ok(64),
         2 => Ok(80),
         4 => Ok(48),
+        8 => Ok(68),
         _ => Err(14),
     }
 }
 
-/// Reads a reference: its fields, and where its list or object data stands.
-pub fn read_reference(s: &[u8]) -> Result<(Reference, Range<usize>), u32> {
+/// Where the parts of a reference stand: its list or object data, and the data of its element.
+struct Parts {
+    flags: u32,
+    tail: Range<usize>,
+    content: Range<usize>,
+    nil: bool,
+}
+
+/// Judges the layout of a reference with so many levels left, itself counted.
+fn layout(s: &[u8], depth: usize) -> Result<Parts, u32> {
+    if depth == 0 {
+        return Err(21);
+    }
     if s.len() < 24 {
         return Err(13);
     }
@@ -165,6 +237,90 @@ pub fn read_reference(s: &[u8]) -> Result<(Reference, Range<usize>), u32> {
     if s.len() < start {
         return Err(13);
     }
+    let mut parts = Parts {
+        flags,
+        tail: start..s.len(),
+        content: 0..0,
+        nil: false,
+    };
+    if flags == 4 {
+        if guid_at(s, 24) == MARSHALER {
+            judge_context(&s[start..])?;
+        }
+        return Ok(parts);
+    }
+    parts.nil = u64_at(s, 32) == 0 || u64_at(s, 40) == 0 || guid_at(s, 48) == Guid::default();
+    if flags == 8 {
+        extended(s, depth, &mut parts)?;
+    } else {
+        judge_list(&s[start..])?;
+    }
+    Ok(parts)
+}
+
+/// What follows the block of an extended reference.
+fn extended(s: &[u8], depth: usize, parts: &mut Parts) -> Result<(), u32> {
+    if u32_at(s, 64) != EXTENDED {
+        return Err(14);
+    }
+    let end = 68 + front_list(&s[68..])?;
+    parts.tail.end = end;
+    for (at, fixed) in [(end, 1), (end + 4, EXTENDED)] {
+        if s.len() < at + 4 {
+            return Err(13);
+        }
+        if u32_at(s, at) != fixed {
+            return Err(14);
+        }
+    }
+    let t = &s[end + 8..];
+    let content = element(t)?;
+    if content.len() >= 4 && u32_at(t, 24) == SIGNATURE {
+        parts.nil |= layout(&t[content.clone()], depth - 1)?.nil;
+    }
+    let whole = 24 + u32_at(t, 20) as usize;
+    if t[content.end..whole].iter().any(|b| *b != 0) || whole < t.len() {
+        return Err(14);
+    }
+    parts.content = end + 8 + content.start..end + 8 + content.end;
+    Ok(())
+}
+
+/// Where the data of the element at the front stands.
+fn element(t: &[u8]) -> Result<Range<usize>, u32> {
+    if t.len() < 16 {
+        return Err(13);
+    }
+    if guid_at(t, 0) == Guid::default() {
+        return Err(14);
+    }
+    if t.len() < 20 {
+        return Err(13);
+    }
+    let size = u32_at(t, 16) as usize;
+    if size == 0 {
+        return Err(14);
+    }
+    if t.len() < 24 {
+        return Err(13);
+    }
+    let rounded = u32_at(t, 20) as usize;
+    if rounded != size.next_multiple_of(8) {
+        return Err(14);
+    }
+    if t.len() < 24 + rounded {
+        return Err(13);
+    }
+    Ok(24..24 + size)
+}
+
+/// Reads a reference: its fields, and where its list or object data stands.
+pub fn read_reference(s: &[u8]) -> Result<(Reference, Range<usize>), u32> {
+    let parts = layout(s, DEPTH)?;
+    if parts.nil {
+        return Err(22);
+    }
+    let flags = parts.flags;
     let mut r = Reference {
         flags,
         iid: guid_at(s, 8),
@@ -174,33 +330,69 @@ pub fn read_reference(s: &[u8]) -> Result<(Reference, Range<usize>), u32> {
         r.clsid = guid_at(s, 24);
         r.extension = u32_at(s, 40);
         r.size = u32_at(s, 44);
-        return Ok((r, start..s.len()));
+        return Ok((r, parts.tail));
     }
-    judge_list(&s[start..])?;
     r.block_flags = u32_at(s, 24);
     r.public = u32_at(s, 28);
     r.oxid = u64_at(s, 32);
     r.oid = u64_at(s, 40);
     r.ipid = guid_at(s, 48);
-    if flags == 2 {
-        r.clsid = guid_at(s, 64);
+    match flags {
+        2 => r.clsid = guid_at(s, 64),
+        8 => r.element = guid_at(s, parts.content.start - 24),
+        _ => {}
     }
-    if r.names_nil() {
-        return Err(22);
-    }
-    Ok((r, start..s.len()))
+    Ok((r, parts.tail))
 }
 
-/// Writes a reference with its list or object data; answers the length.
-pub fn write_reference(r: &Reference, tail: &[u8], buffer: &mut [u8]) -> Result<usize, u32> {
+/// Where the data of element `k` of a reference stands.
+pub fn locate_element(s: &[u8], k: usize) -> Result<Range<usize>, u32> {
+    let parts = layout(s, DEPTH)?;
+    if parts.nil {
+        return Err(22);
+    }
+    if parts.flags != 8 || k != 0 {
+        return Err(24);
+    }
+    Ok(parts.content)
+}
+
+/// Judges an element that is to be written; answers whether a reference in its data names zero.
+fn judge_element(id: Guid, content: &[u8]) -> Result<bool, u32> {
+    if id == Guid::default() || content.is_empty() || content.len() > 0xFFFF_FFF8 {
+        return Err(14);
+    }
+    if content.len() >= 4 && u32_at(content, 0) == SIGNATURE {
+        return Ok(layout(content, DEPTH - 1)?.nil);
+    }
+    Ok(false)
+}
+
+/// Writes a reference with its list or object data, and the data of its element; answers the length.
+pub fn write_reference(
+    r: &Reference,
+    tail: &[u8],
+    content: &[u8],
+    buffer: &mut [u8],
+) -> Result<usize, u32> {
     let start = fixed_size(r.flags)?;
-    if r.flags != 4 {
+    let end = start + tail.len();
+    let mut length = end;
+    if r.flags == 4 {
+        if r.clsid == MARSHALER {
+            judge_context(tail)?;
+        }
+    } else {
         judge_list(tail)?;
-        if r.names_nil() {
+        let mut nil = r.names_nil();
+        if r.flags == 8 {
+            nil |= judge_element(r.element, content)?;
+            length += 32 + content.len().next_multiple_of(8);
+        }
+        if nil {
             return Err(22);
         }
     }
-    let length = start + tail.len();
     if buffer.len() < length {
         return Err(15);
     }
@@ -217,10 +409,27 @@ pub fn write_reference(r: &Reference, tail: &[u8], buffer: &mut [u8]) -> Result<
         put_u64(buffer, 32, r.oxid);
         put_u64(buffer, 40, r.oid);
         put_guid(buffer, 48, r.ipid);
-        if r.flags == 2 {
-            put_guid(buffer, 64, r.clsid);
-        }
     }
-    buffer[start..length].copy_from_slice(tail);
+    match r.flags {
+        2 => put_guid(buffer, 64, r.clsid),
+        8 => put_u32(buffer, 64, EXTENDED),
+        _ => {}
+    }
+    buffer[start..end].copy_from_slice(tail);
+    if r.flags == 8 {
+        put_element(r.element, content, &mut buffer[end..length]);
+    }
     Ok(length)
+}
+
+/// The count, the signature and the element, which fill the buffer.
+fn put_element(id: Guid, content: &[u8], buffer: &mut [u8]) {
+    let n = content.len();
+    put_u32(buffer, 0, 1);
+    put_u32(buffer, 4, EXTENDED);
+    put_guid(buffer, 8, id);
+    put_u32(buffer, 24, n as u32);
+    put_u32(buffer, 28, n.next_multiple_of(8) as u32);
+    buffer[32..32 + n].copy_from_slice(content);
+    buffer[32 + n..].fill(0);
 }

@@ -1,4 +1,4 @@
-//! Call headers, binding lists and object references.
+//! Call headers, binding lists, object references and contexts.
 
 use crate::error::answered;
 use crate::{ffi, Guid, Oid, Oxid, Result};
@@ -148,12 +148,14 @@ pub struct Reference {
     pub clsid: Guid,
     pub extension: u32,
     pub size: u32,
+    pub element: Guid,
 }
 
 impl Reference {
     pub const STANDARD: u32 = 1;
     pub const HANDLER: u32 = 2;
     pub const CUSTOM: u32 = 4;
+    pub const EXTENDED: u32 = 8;
 
     pub fn standard(iid: Guid, block: Block) -> Reference {
         Reference {
@@ -181,6 +183,16 @@ impl Reference {
             clsid,
             extension,
             size,
+            ..Reference::default()
+        }
+    }
+
+    pub fn extended(iid: Guid, block: Block, element: Guid) -> Reference {
+        Reference {
+            flags: Reference::EXTENDED,
+            iid,
+            block,
+            element,
             ..Reference::default()
         }
     }
@@ -224,12 +236,38 @@ impl Reference {
         Ok(&bytes[Reference::locate(bytes, part, k)?])
     }
 
-    /// Writes the reference with its list or object data at the front of `buffer` and keeps the rest. Answers the length.
-    pub fn write(&self, tail: &[u8], buffer: &mut [u8]) -> Result<usize> {
+    /// Where the data of element `k` of an extended reference stands, without its padding.
+    pub fn locate_element(bytes: &[u8], k: usize) -> Result<Range<usize>> {
+        // SAFETY: pointer and length are of one slice.
+        let place = unsafe { ffi::rimonakh_reference_element(bytes.as_ptr(), bytes.len(), k) };
+        place.range()
+    }
+
+    /// The data of element `k` of an extended reference. It is a reference where it begins with the four bytes "MEOW".
+    pub fn element(bytes: &[u8], k: usize) -> Result<&[u8]> {
+        Ok(&bytes[Reference::locate_element(bytes, k)?])
+    }
+
+    /// Where the data of property `k` of the context in a custom reference stands.
+    pub fn locate_property(bytes: &[u8], k: usize) -> Result<Range<usize>> {
+        // SAFETY: pointer and length are of one slice.
+        let place = unsafe { ffi::rimonakh_reference_property(bytes.as_ptr(), bytes.len(), k) };
+        place.range()
+    }
+
+    /// The data of property `k` of the context in a custom reference.
+    pub fn property(bytes: &[u8], k: usize) -> Result<&[u8]> {
+        Ok(&bytes[Reference::locate_property(bytes, k)?])
+    }
+
+    /// Writes the reference with its list or object data, and the data of its element, at the front of `buffer` and keeps the
+    /// rest. Answers the length.
+    pub fn write(&self, tail: &[u8], content: &[u8], buffer: &mut [u8]) -> Result<usize> {
         let (iid_low, iid_high) = self.iid.halves();
         let (ipid_low, ipid_high) = self.block.ipid.halves();
         let (clsid_low, clsid_high) = self.clsid.halves();
-        // SAFETY: each pointer and length are of one slice, and the two slices do not overlap.
+        let (element_low, element_high) = self.element.halves();
+        // SAFETY: each pointer and length are of one slice, and the slices do not overlap.
         let r = unsafe {
             ffi::rimonakh_reference_write(
                 self.flags,
@@ -245,8 +283,102 @@ impl Reference {
                 clsid_high,
                 self.extension,
                 self.size,
+                element_low,
+                element_high,
                 tail.as_ptr(),
                 tail.len(),
+                content.as_ptr(),
+                content.len(),
+                buffer.as_mut_ptr(),
+                buffer.len(),
+            )
+        };
+        answered(r.answer, r.length)
+    }
+}
+
+/// The fields of a context that are not fixed. A context is the object data of a custom reference with the CLSID
+/// [`Context::MARSHALER`].
+#[repr(C)]
+#[derive(Clone, Copy, Debug, Default, PartialEq, Eq)]
+pub struct Context {
+    pub id: Guid,
+    pub reserved: u32,
+    pub marshal: u32,
+    /// The number of properties.
+    pub count: u32,
+    pub frozen: u32,
+}
+
+impl Context {
+    /// The context marshaler's CLSID.
+    pub const MARSHALER: Guid = Guid([0x3B, 3, 0, 0, 0, 0, 0, 0, 0xC0, 0, 0, 0, 0, 0, 0, 0x46]);
+
+    /// Reads the fields of a context.
+    pub fn read(bytes: &[u8]) -> Result<Context> {
+        // SAFETY: pointer and length are of one slice.
+        let r = unsafe { ffi::rimonakh_context_read(bytes.as_ptr(), bytes.len()) };
+        answered(r.answer, r.context)
+    }
+
+    /// Writes the context with the bytes of its properties, one after the other, at the front of `buffer` and keeps the rest.
+    /// Answers the length.
+    pub fn write(&self, properties: &[u8], buffer: &mut [u8]) -> Result<usize> {
+        let (id_low, id_high) = self.id.halves();
+        // SAFETY: each pointer and length are of one slice, and the slices do not overlap.
+        let r = unsafe {
+            ffi::rimonakh_context_write(
+                id_low,
+                id_high,
+                self.reserved,
+                self.marshal,
+                self.count,
+                self.frozen,
+                properties.as_ptr(),
+                properties.len(),
+                buffer.as_mut_ptr(),
+                buffer.len(),
+            )
+        };
+        answered(r.answer, r.length)
+    }
+}
+
+/// The fields of a context's property before its data.
+#[repr(C)]
+#[derive(Clone, Copy, Debug, Default, PartialEq, Eq)]
+pub struct Property {
+    pub clsid: Guid,
+    pub policy: Guid,
+    pub flags: u32,
+}
+
+impl Property {
+    pub const PROPAGATE: u32 = 1;
+    pub const EXPOSE: u32 = 2;
+    pub const ENVOY: u32 = 4;
+
+    /// Reads the fields of property `k` of a context.
+    pub fn read(bytes: &[u8], k: usize) -> Result<Property> {
+        // SAFETY: pointer and length are of one slice.
+        let r = unsafe { ffi::rimonakh_context_property(bytes.as_ptr(), bytes.len(), k) };
+        answered(r.answer, r.property)
+    }
+
+    /// Writes the property with its data at the front of `buffer` and keeps the rest. Answers the length.
+    pub fn write(&self, content: &[u8], buffer: &mut [u8]) -> Result<usize> {
+        let (clsid_low, clsid_high) = self.clsid.halves();
+        let (policy_low, policy_high) = self.policy.halves();
+        // SAFETY: each pointer and length are of one slice, and the slices do not overlap.
+        let r = unsafe {
+            ffi::rimonakh_property_write(
+                clsid_low,
+                clsid_high,
+                policy_low,
+                policy_high,
+                self.flags,
+                content.as_ptr(),
+                content.len(),
                 buffer.as_mut_ptr(),
                 buffer.len(),
             )

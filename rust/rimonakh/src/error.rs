@@ -27,12 +27,13 @@ pub enum Error {
     SetsUsedUp = 18,
     LongList = 19,
     NoClient = 20,
+    TooDeep = 21,
     NilIdentifier = 22,
     NoBinding = 24,
 }
 
 impl Error {
-    const ALL: [Error; 22] = [
+    const ALL: [Error; 23] = [
         Error::Unsound,
         Error::ClockBack,
         Error::BadIdentifier,
@@ -53,6 +54,7 @@ impl Error {
         Error::SetsUsedUp,
         Error::LongList,
         Error::NoClient,
+        Error::TooDeep,
         Error::NilIdentifier,
         Error::NoBinding,
     ];
@@ -89,8 +91,9 @@ impl Error {
             Error::SetsUsedUp => "set numbers used up",
             Error::LongList => "a binding list of more than 512 bytes",
             Error::NoClient => "the client is none of 0 to 7",
+            Error::TooDeep => "references nested deeper than 8",
             Error::NilIdentifier => "the OXID, OID or IPID of a reference is zero",
-            Error::NoBinding => "the list has no binding of this number",
+            Error::NoBinding => "no binding, element or property of this number",
         }
     }
 }

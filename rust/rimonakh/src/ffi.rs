@@ -2,7 +2,7 @@
 //! length is a slice, and the slices of one call do not overlap. Types that are shared with the safe functions have the
 //! layout of the header's.
 
-use crate::{Counts, OrpcThat, OrpcThis, Pinged, Reference, Resolved};
+use crate::{Context, Counts, OrpcThat, OrpcThis, Pinged, Property, Reference, Resolved};
 
 #[repr(C)]
 #[derive(Clone, Copy)]
@@ -31,6 +31,20 @@ pub struct Place {
 pub struct ReadReference {
     pub answer: u32,
     pub reference: Reference,
+}
+
+#[repr(C)]
+#[derive(Clone, Copy)]
+pub struct ReadContext {
+    pub answer: u32,
+    pub context: Context,
+}
+
+#[repr(C)]
+#[derive(Clone, Copy)]
+pub struct ReadProperty {
+    pub answer: u32,
+    pub property: Property,
 }
 
 #[repr(C)]
@@ -118,6 +132,8 @@ extern "C" {
         bytes_len: usize,
         k: usize,
     ) -> Place;
+    pub fn rimonakh_reference_element(bytes: *const u8, bytes_len: usize, k: usize) -> Place;
+    pub fn rimonakh_reference_property(bytes: *const u8, bytes_len: usize, k: usize) -> Place;
     pub fn rimonakh_reference_write(
         flags: u32,
         iid_low: u64,
@@ -132,8 +148,38 @@ extern "C" {
         clsid_high: u64,
         extension: u32,
         size: u32,
+        element_low: u64,
+        element_high: u64,
         tail: *const u8,
         tail_len: usize,
+        content: *const u8,
+        content_len: usize,
+        buffer: *mut u8,
+        buffer_len: usize,
+    ) -> Written;
+
+    pub fn rimonakh_context_read(bytes: *const u8, bytes_len: usize) -> ReadContext;
+    pub fn rimonakh_context_property(bytes: *const u8, bytes_len: usize, k: usize) -> ReadProperty;
+    pub fn rimonakh_context_write(
+        id_low: u64,
+        id_high: u64,
+        reserved: u32,
+        marshal: u32,
+        count: u32,
+        frozen: u32,
+        properties: *const u8,
+        properties_len: usize,
+        buffer: *mut u8,
+        buffer_len: usize,
+    ) -> Written;
+    pub fn rimonakh_property_write(
+        clsid_low: u64,
+        clsid_high: u64,
+        policy_low: u64,
+        policy_high: u64,
+        flags: u32,
+        content: *const u8,
+        content_len: usize,
         buffer: *mut u8,
         buffer_len: usize,
     ) -> Written;

@@ -15,7 +15,7 @@
 //! table.enter_object(oid, oxid, ipid, iid, 5, false)?;
 //! let block = Block { flags: 0, public: 5, oxid, oid, ipid };
 //! let mut bytes = [0; 128];
-//! let length = Reference::standard(iid, block).write(&list, &mut bytes)?;
+//! let length = Reference::standard(iid, block).write(&list, &[], &mut bytes)?;
 //!
 //! // a client reads it, resolves the exporter, pings, and gives its references back
 //! let reference = Reference::read(&bytes[..length])?;
@@ -38,7 +38,7 @@ pub mod ffi;
 mod ids;
 mod table;
 
-pub use bytes::{list, Block, OrpcThat, OrpcThis, Part, Reference};
+pub use bytes::{list, Block, Context, OrpcThat, OrpcThis, Part, Property, Reference};
 pub use error::{wire_code, Error};
 pub use ids::{Guid, Oid, Oxid, SetId};
 pub use table::{Counts, Item, Pinged, Released, Resolved, Stop, Table, BYTES, WORDS};

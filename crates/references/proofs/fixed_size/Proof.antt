@@ -1,4 +1,3 @@
--- `fixed_size`: a case for each form.
 use mathlib.Core.Path.{sym}
 use Rattle.references.specs.References.{fixedSize}
 use Rattle.references.proofs.Laws.{by-other}
@@ -19,7 +18,11 @@ returns-3 c = rw (c .if3 .taken)
 
 returns-4 : tie.Need-returns-4
 unfolding fixedSize
-returns-4 c = sym (by-other _ 64 80 48 0 (c .before .before .if1 .left) (c .before .if2 .left) (c .if3 .left))
+returns-4 c = rw (c .if4 .taken)
+
+returns-5 : tie.Need-returns-5
+unfolding fixedSize
+returns-5 c = sym (by-other _ 64 80 48 68 0 (c .before .before .before .if1 .left) (c .before .before .if2 .left) (c .before .if3 .left) (c .if4 .left))
 
 pub fixed-size-spec : {M : Type 1} → statement M
-fixed-size-spec = tie.close (tie.spec returns returns-2 returns-3 returns-4)
+fixed-size-spec = tie.close (tie.spec returns returns-2 returns-3 returns-4 returns-5)

@@ -1,4 +1,3 @@
--- `is_form`: a case for each form.
 use borrow.Author.Tests.{eq-eqb, ne-eqb}
 use Rattle.references.proofs.is_form.Statement.{statement}
 use Rattle.references.proofs.is_form.Tie as tie
@@ -10,7 +9,10 @@ returns-2 : tie.Need-returns-2
 returns-2 c = simp (ne-eqb _ _ (c .before .if1 .left), eq-eqb _ _ (c .if2 .taken))
 
 returns-3 : tie.Need-returns-3
-returns-3 c = simp (ne-eqb _ _ (c .before .if1 .left), ne-eqb _ _ (c .if2 .left))
+returns-3 c = simp (ne-eqb _ _ (c .before .before .if1 .left), ne-eqb _ _ (c .before .if2 .left), eq-eqb _ _ (c .if3 .taken))
+
+returns-4 : tie.Need-returns-4
+returns-4 c = rw (ne-eqb _ _ (c .before .before .if1 .left), ne-eqb _ _ (c .before .if2 .left), ne-eqb _ _ (c .if3 .left))
 
 pub is-form-spec : {M : Type 1} → statement M
-is-form-spec = tie.close (tie.spec returns returns-2 returns-3)
+is-form-spec = tie.close (tie.spec returns returns-2 returns-3 returns-4)

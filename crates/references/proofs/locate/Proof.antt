@@ -5,12 +5,11 @@ use native.Mathlib.Omega.{arith}
 use borrow.Author.Tests.{eq-eqb, ne-eqb}
 use lib.ListN.{length}
 use Rattle.fields.specs.Fields.{field}
-use Rattle.fields.proofs.Laws.{take-rest}
-use Rattle.bindings.specs.Bindings.{bindingAt}
+use Rattle.bindings.specs.Bindings.{bindingAt, bytesAt}
 use Rattle.bindings.specs.declared.Place.{Place}
-use Rattle.bindings.proofs.Laws.{within-binding}
+use Rattle.bindings.proofs.Laws.{Within, within-binding}
 use Rattle.references.specs.References.{fixedSize, referenceAnswer, tailOf, moved, referenceBinding}
-use Rattle.references.proofs.Laws.{accepted, tail-number, tail-start, tail-accepted, tail-length, binding-refused, binding-custom, binding-listed}
+use Rattle.references.proofs.Laws.{tail-number, tail-start, tail-within, tail-length, binding-refused, binding-custom, binding-listed}
 use borrow.Author.Needs.{needs}
 use Rattle.references.proofs.locate.Statement.{statement}
 use Rattle.references.proofs.locate.Tie as tie
@@ -29,8 +28,8 @@ done c = sym (tail-number _) ∙ ap (λ (x : Place). x .answer) (sym (c .before 
 start : (c : tie.Else1) → c .before .before .tail-place .result .from ≡ fixedSize (field (c .before .before .before .before .args .s .now) 4 4)
 start c = ap (λ (x : Place). x .from) (c .before .before .tail-place .ensures) ∙ tail-start _ (done c)
 
-inside : (c : tie.Else1) → c .before .before .tail-place .result .from ≤ length (c .before .before .before .before .args .s .now)
-inside c = rw (start c) (accepted _ (done c) .fixed)
+inside : (c : tie.Else1) → Within (length (c .before .before .before .before .args .s .now)) (c .before .before .tail-place .result)
+inside c = rw (c .before .before .tail-place .ensures) (tail-within _)
 
 read-u32-requires : tie.Need-read-u32-requires
 read-u32-requires c κs = search needs
@@ -39,13 +38,13 @@ returns-2 : tie.Need-returns-2
 returns-2 c = sym (binding-custom _ _ _ (done (c .before .before)) (sym (c .before .read-u32 .ensures) ∙ c .if2 .taken))
 
 sub-locate : tie.Need-sub-locate
-sub-locate c = inside (c .before .before)
+sub-locate c = inside (c .before .before) .0
 
 part-locate-start : tie.Need-part-locate-start
-part-locate-start c = inside (c .before .before)
+part-locate-start c = inside (c .before .before) .0
 
 part-locate-end : tie.Need-part-locate-end
-part-locate-end c = search needs
+part-locate-end c = inside (c .before .before) .1
 
 locate-requires : tie.Need-locate-requires
 locate-requires c κs = search needs
@@ -54,7 +53,8 @@ listed : (c : tie.After-locate) → c .locate .result ≡ bindingAt (tailOf (c .
 listed c =
     let test = c .before .before .before .before in
     let s = test .before .before .before .before .args .s .now in
-    rw (tail-accepted s (done test), ← start test, ← take-rest s (test .before .before .tail-place .result .from)) (c .locate .ensures)
+    let a = test .before .before .before .before .args in
+    c .locate .ensures ∙ ap (λ (x : Place). bindingAt (bytesAt s x) (a .p) (a .k)) (test .before .before .tail-place .ensures)
 
 found : (c : tie.After-locate) → referenceBinding (c .before .before .before .before .before .before .before .before .args .s .now) (c .before .before .before .before .before .before .before .before .args .p) (c .before .before .before .before .before .before .before .before .args .k) ≡ moved (c .before .before .before .before .before .before .tail-place .result .from) (c .locate .result)
 found c =
@@ -72,11 +72,11 @@ room c =
 returns-3 : tie.Need-returns-3
 returns-3 c = rw (found (c .before .before), ne-eqb _ _ (c .if3 .taken))
 
-add-t10 : tie.Need-add-t10
-add-t10 c = let h = room (c .before .before .before) in omega arith
+add-t11 : tie.Need-add-t11
+add-t11 c = let h = room (c .before .before .before) in omega arith
 
-add-t13 : tie.Need-add-t13
-add-t13 c = let h = room (c .before .before .before .before) in omega arith
+add-t14 : tie.Need-add-t14
+add-t14 c = let h = room (c .before .before .before .before) in omega arith
 
 returns-4 : tie.Need-returns-4
 returns-4 c = rw (found (c .before .before .before .before), eq-eqb _ _ (c .before .before .if3 .left))
@@ -94,6 +94,6 @@ locate-spec =
     part-locate-end
     locate-requires
     returns-3
-    add-t10
-    add-t13
+    add-t11
+    add-t14
     returns-4)

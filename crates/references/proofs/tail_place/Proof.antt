@@ -1,6 +1,8 @@
--- `tail_place`: a refusal, or from the end of the fixed fields to the end.
+-- `tail_place`: a refusal; the list of an extended reference; or from the end of the fixed fields to the end.
 use mathlib.Core.Path.{sym, ap, _∙_}
 use borrow.Author.Tests.{eq-eqb, ne-eqb}
+use Rattle.fields.specs.Fields.{field}
+use Rattle.bindings.specs.Bindings.{refusal}
 use Rattle.references.specs.References.{fixedSize, tailPlace}
 use borrow.Author.Needs.{needs}
 use Rattle.references.proofs.tail_place.Statement.{statement}
@@ -9,25 +11,48 @@ use Rattle.references.proofs.tail_place.Tie as tie
 reference-answer-requires : tie.Need-reference-answer-requires
 reference-answer-requires c κs = search needs
 
+refused-place-requires : tie.Need-refused-place-requires
+refused-place-requires c κs = search needs
+
 returns : tie.Need-returns
 unfolding tailPlace
 returns c =
-    let number = c .before .reference-answer .ensures in
-    simp (ne-eqb _ _ (λ z. c .if1 .taken (number ∙ z))) (cc number)
+    let n = c .before .before .reference-answer .ensures in
+    rw (ne-eqb _ _ (λ z. c .before .if1 .taken (n ∙ z))) (c .refused-place .ensures ∙ ap refusal n)
 
 read-u32-requires : tie.Need-read-u32-requires
 read-u32-requires c κs = search needs
 
+list-end-requires : tie.Need-list-end-requires
+list-end-requires c κs = search needs
+
+returns-2 : tie.Need-returns-2
+unfolding tailPlace fixedSize
+returns-2 c =
+    let n = c .before .before .before .before .reference-answer .ensures in
+    let f = sym (c .before .before .read-u32 .ensures) ∙ c .before .if2 .taken in
+    rw (eq-eqb _ _ (sym n ∙ c .before .before .before .if1 .left), f) (cc (c .list-end .ensures .0))
+
 fixed-size-requires : tie.Need-fixed-size-requires
 fixed-size-requires c κs = search needs
 
-returns-2 : tie.Need-returns-2
+returns-3 : tie.Need-returns-3
 unfolding tailPlace
-returns-2 c =
-    let number = c .before .before .before .reference-answer .ensures in
-    simp (eq-eqb _ _ (sym number ∙ c .before .before .if1 .left)) (cc (c .fixed-size .ensures ∙ ap fixedSize (c .before .read-u32 .ensures)))
+returns-3 c =
+    let n = c .before .before .before .before .reference-answer .ensures in
+    let s = c .before .before .before .before .before .before .args .s .now in
+    let f = c .before .before .read-u32 .ensures in
+    rw (eq-eqb _ _ (sym n ∙ c .before .before .before .if1 .left), ne-eqb (field s 4 4) 8 (λ z. c .before .if2 .left (f ∙ z))) (cc (c .fixed-size .ensures ∙ ap fixedSize f))
 
 pub tail-place-spec : {M : Type 1} → statement M
 tail-place-spec =
     tie.close
-    (tie.spec reference-answer-requires returns read-u32-requires fixed-size-requires returns-2)
+    (tie.spec
+    reference-answer-requires
+    refused-place-requires
+    returns
+    read-u32-requires
+    list-end-requires
+    returns-2
+    fixed-size-requires
+    returns-3)

@@ -11,15 +11,19 @@
 //!     B           a list of N = 65,535 words, and the same one word short
 
 use super::{all_seen, hex, text, Answers, Arguments, Seen};
+use crate::bytes::{
+    plain_context, plain_fields, plain_property, typed_context, typed_fields, typed_property,
+};
 use crate::decode::guid;
 use crate::model_side::Model;
 use crate::subject::Library;
 use model::bytes::{self as m, OrpcThis, Part, Reference};
+use model::contexts::{self, Context, Property};
 use rimonakh as r;
 use std::fmt::Write;
 use std::ops::Range;
 
-type Answer<T> = Result<T, u32>;
+pub type Answer<T> = Result<T, u32>;
 
 /// Readers and writers of bytes.
 pub trait Codec {
@@ -32,7 +36,18 @@ pub trait Codec {
     fn list_binding(s: &[u8], part: Part, k: usize) -> Answer<Range<usize>>;
     fn read_reference(s: &[u8]) -> Answer<(Reference, Range<usize>)>;
     fn reference_binding(s: &[u8], part: Part, k: usize) -> Answer<Range<usize>>;
-    fn write_reference(r: &Reference, tail: &[u8], buffer: &mut [u8]) -> Answer<usize>;
+    fn reference_element(s: &[u8], k: usize) -> Answer<Range<usize>>;
+    fn reference_property(s: &[u8], k: usize) -> Answer<Range<usize>>;
+    fn write_reference(
+        r: &Reference,
+        tail: &[u8],
+        content: &[u8],
+        buffer: &mut [u8],
+    ) -> Answer<usize>;
+    fn read_context(s: &[u8]) -> Answer<Context>;
+    fn read_property(s: &[u8], k: usize) -> Answer<Property>;
+    fn write_context(x: &Context, properties: &[u8], buffer: &mut [u8]) -> Answer<usize>;
+    fn write_property(x: &Property, content: &[u8], buffer: &mut [u8]) -> Answer<usize>;
 }
 
 impl Codec for Model {
@@ -63,8 +78,31 @@ impl Codec for Model {
     fn reference_binding(s: &[u8], part: Part, k: usize) -> Answer<Range<usize>> {
         m::reference_binding(s, part, k)
     }
-    fn write_reference(r: &Reference, tail: &[u8], buffer: &mut [u8]) -> Answer<usize> {
-        m::write_reference(r, tail, buffer)
+    fn reference_element(s: &[u8], k: usize) -> Answer<Range<usize>> {
+        m::reference_element(s, k)
+    }
+    fn reference_property(s: &[u8], k: usize) -> Answer<Range<usize>> {
+        m::reference_property(s, k)
+    }
+    fn write_reference(
+        r: &Reference,
+        tail: &[u8],
+        content: &[u8],
+        buffer: &mut [u8],
+    ) -> Answer<usize> {
+        m::write_reference(r, tail, content, buffer)
+    }
+    fn read_context(s: &[u8]) -> Answer<Context> {
+        contexts::read_context(s)
+    }
+    fn read_property(s: &[u8], k: usize) -> Answer<Property> {
+        contexts::read_property(s, k).map(|(property, _)| property)
+    }
+    fn write_context(x: &Context, properties: &[u8], buffer: &mut [u8]) -> Answer<usize> {
+        contexts::write_context(x, properties, buffer)
+    }
+    fn write_property(x: &Property, content: &[u8], buffer: &mut [u8]) -> Answer<usize> {
+        contexts::write_property(x, content, buffer)
     }
 }
 
@@ -120,40 +158,41 @@ impl Codec for Library {
     fn read_reference(s: &[u8]) -> Answer<(Reference, Range<usize>)> {
         let x = r::Reference::read(s).map_err(r::Error::number)?;
         let tail = r::Reference::tail(s).map_err(r::Error::number)?;
-        let made = Reference {
-            flags: x.flags,
-            iid: x.iid.0,
-            block_flags: x.block.flags,
-            public: x.block.public,
-            oxid: x.block.oxid.0,
-            oid: x.block.oid.0,
-            ipid: x.block.ipid.0,
-            clsid: x.clsid.0,
-            extension: x.extension,
-            size: x.size,
-        };
-        Ok((made, place(s, tail)))
+        Ok((plain_fields(x), place(s, tail)))
     }
     fn reference_binding(s: &[u8], p: Part, k: usize) -> Answer<Range<usize>> {
         r::Reference::locate(s, part(p), k).map_err(r::Error::number)
     }
-    fn write_reference(x: &Reference, tail: &[u8], buffer: &mut [u8]) -> Answer<usize> {
-        let block = r::Block {
-            flags: x.block_flags,
-            public: x.public,
-            oxid: r::Oxid(x.oxid),
-            oid: r::Oid(x.oid),
-            ipid: r::Guid(x.ipid),
-        };
-        let made = r::Reference {
-            flags: x.flags,
-            iid: r::Guid(x.iid),
-            block,
-            clsid: r::Guid(x.clsid),
-            extension: x.extension,
-            size: x.size,
-        };
-        made.write(tail, buffer).map_err(r::Error::number)
+    fn reference_element(s: &[u8], k: usize) -> Answer<Range<usize>> {
+        r::Reference::locate_element(s, k).map_err(r::Error::number)
+    }
+    fn reference_property(s: &[u8], k: usize) -> Answer<Range<usize>> {
+        r::Reference::locate_property(s, k).map_err(r::Error::number)
+    }
+    fn write_reference(
+        x: &Reference,
+        tail: &[u8],
+        content: &[u8],
+        buffer: &mut [u8],
+    ) -> Answer<usize> {
+        let written = typed_fields(x).write(tail, content, buffer);
+        written.map_err(r::Error::number)
+    }
+    fn read_context(s: &[u8]) -> Answer<Context> {
+        let read = r::Context::read(s).map(plain_context);
+        read.map_err(r::Error::number)
+    }
+    fn read_property(s: &[u8], k: usize) -> Answer<Property> {
+        let read = r::Property::read(s, k).map(plain_property);
+        read.map_err(r::Error::number)
+    }
+    fn write_context(x: &Context, properties: &[u8], buffer: &mut [u8]) -> Answer<usize> {
+        let written = typed_context(x).write(properties, buffer);
+        written.map_err(r::Error::number)
+    }
+    fn write_property(x: &Property, content: &[u8], buffer: &mut [u8]) -> Answer<usize> {
+        let written = typed_property(x).write(content, buffer);
+        written.map_err(r::Error::number)
     }
 }
 
@@ -172,7 +211,7 @@ const ANSWERS: Answers = &[
 ];
 
 /// The answer number, and the results: zeros where it is refused.
-fn zeroed<T: Default>(answer: Answer<T>) -> (u32, T) {
+pub fn zeroed<T: Default>(answer: Answer<T>) -> (u32, T) {
     match answer {
         Ok(value) => (0, value),
         Err(number) => (number, T::default()),
@@ -289,7 +328,7 @@ fn largest() -> Vec<u8> {
     words.iter().flat_map(|w| w.to_le_bytes()).collect()
 }
 
-fn reference<C: Codec>(s: &[u8], seen: &mut Seen) -> String {
+pub fn reference<C: Codec>(s: &[u8], seen: &mut Seen) -> String {
     let (number, (x, tail)) = zeroed(C::read_reference(s));
     seen.insert((b'O', number));
     let mut out = format!(
@@ -308,7 +347,11 @@ fn reference<C: Codec>(s: &[u8], seen: &mut Seen) -> String {
     )
     .unwrap();
     write!(out, " ipid {} clsid {}", text(&x.ipid), text(&x.clsid)).unwrap();
-    write!(out, " extension {} size {} tail", x.extension, x.size).unwrap();
+    write!(out, " extension {} size {}", x.extension, x.size).unwrap();
+    if x.flags == 8 {
+        write!(out, " element {}", text(&x.element)).unwrap();
+    }
+    out += " tail";
     write!(out, " {number}:{}-{}", tail.start, tail.end).unwrap();
     for (name, part) in [("string", Part::Strings), ("security", Part::Security)] {
         let (number, place) = zeroed(C::reference_binding(s, part, 0));
@@ -317,7 +360,8 @@ fn reference<C: Codec>(s: &[u8], seen: &mut Seen) -> String {
     }
     if number == 0 {
         let mut buffer = vec![0xee; s.len() + 2];
-        let (number, length) = zeroed(C::write_reference(&x, &s[tail], &mut buffer));
+        let content = &s[C::reference_element(s, 0).unwrap_or_default()];
+        let (number, length) = zeroed(C::write_reference(&x, &s[tail], content, &mut buffer));
         let same = if &buffer[..s.len()] == s {
             "same"
         } else {
@@ -336,9 +380,19 @@ fn reference<C: Codec>(s: &[u8], seen: &mut Seen) -> String {
 /// A reference with flags `s[0]` and the tail `s[2..]`, written into `s[1]` bytes. The identifiers whose bits are set in `zeros`
 /// are zero.
 fn written<C: Codec>(zeros: u8, s: &[u8], seen: &mut Seen) -> String {
+    let made = sample(zeros, s[0].into());
+    let mut buffer = vec![0xee; s[1].into()];
+    let (number, length) = zeroed(C::write_reference(&made, &s[2..], &[], &mut buffer));
+    seen.insert((b'W', number));
+    format!("{number} length {length} {}", hex(&buffer))
+}
+
+/// A reference to be written. Zero are, added: OXID 1, OID 2, the halves of the IPID 4 and 8, those of the element's identifier 16
+/// and 32.
+pub fn sample(zeros: u8, flags: u32) -> Reference {
     let unless = |bit: u8, id: u64| if zeros & bit != 0 { 0 } else { id };
-    let made = Reference {
-        flags: s[0].into(),
+    Reference {
+        flags,
         iid: guid(0x131, 0x4600_0000_0000_00C0),
         block_flags: 0x1000,
         public: 5,
@@ -351,9 +405,9 @@ fn written<C: Codec>(zeros: u8, s: &[u8], seen: &mut Seen) -> String {
         clsid: guid(0x11CE_A5D6_0000_0303, 0x4600_0000_0000_00C0),
         extension: 0,
         size: 24,
-    };
-    let mut buffer = vec![0xee; s[1].into()];
-    let (number, length) = zeroed(C::write_reference(&made, &s[2..], &mut buffer));
-    seen.insert((b'W', number));
-    format!("{number} length {length} {}", hex(&buffer))
+        element: guid(
+            unless(16, 0x5A5A_0000_0000_0D01),
+            unless(32, 0x00A5_A500_0000_0D02),
+        ),
+    }
 }

@@ -3,6 +3,7 @@
 //! writes the outputs anew, from the model alone.
 
 mod bytes;
+mod extended;
 mod table;
 
 use crate::decode::guid;
@@ -116,12 +117,14 @@ fn stored(name: &str) -> PathBuf {
         .join(name)
 }
 
-const INPUTS: [&str; 2] = ["table", "bytes"];
+const INPUTS: [&str; 3] = ["table", "bytes", "extended"];
 
 fn printed(name: &str, input: &[u8], library: bool) -> String {
     match (name, library) {
         ("table", false) => table::run::<Model>(input),
         ("table", true) => table::run::<Library>(input),
+        ("extended", false) => extended::run::<Model>(input),
+        ("extended", true) => extended::run::<Library>(input),
         (_, false) => bytes::run::<Model>(input),
         (_, true) => bytes::run::<Library>(input),
     }

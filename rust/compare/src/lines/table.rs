@@ -83,7 +83,7 @@ const ANSWERS: Answers = &[
     (b'v', &[0, 1, 10, 4, 15]),
     (b'C', &[0, 1]),
     (b'M', &[0, 1, 11]),
-    (b'T', &[0, 1, 13, 14, 22]),
+    (b'T', &[0, 1, 13, 14, 21, 22]),
 ];
 
 pub fn run<S: Stops>(input: &[u8]) -> String {

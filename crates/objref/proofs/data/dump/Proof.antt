@@ -5,10 +5,10 @@ use Rattle.objref.proofs.data.dump.Statement.{statement}
 use Rattle.objref.proofs.data.dump.Tie as tie
 
 abbrev Inv-loop : tie.InvT-loop
-Inv-loop s at₀ at = Unit {0}
+Inv-loop s n at₀ at = Unit {0}
 
 abbrev μ-loop : tie.MeasureT-loop
-μ-loop s at₀ at = 64 - at
+μ-loop s n at₀ at = 64 - at
 
 loop-holds : tie.Need-loop-holds Inv-loop μ-loop
 loop-holds c = search needs

@@ -5,10 +5,10 @@ use Rattle.objref.proofs.list.all.Statement.{statement}
 use Rattle.objref.proofs.list.all.Tie as tie
 
 abbrev Inv-loop : tie.InvT-loop
-Inv-loop s p k₀ k = Unit {0}
+Inv-loop s p n k₀ k = Unit {0}
 
 abbrev μ-loop : tie.MeasureT-loop
-μ-loop s p k₀ k = 65536 - k
+μ-loop s p n k₀ k = 65536 - k
 
 loop-holds : tie.Need-loop-holds Inv-loop μ-loop
 loop-holds c = search needs

@@ -1,5 +1,7 @@
 -- `Reference::fields`: a case for each form.
-use mathlib.Core.Path.{sym, _∙_}
+use Prim.Native.Nat.{ℕ, _+_}
+use mathlib.Core.Path.{sym, ap, _∙_}
+use Rattle.fields.specs.Fields.{guidAt}
 use Rattle.references.specs.References.{referenceAt}
 use Rattle.references.proofs.Laws.{by-other}
 use borrow.Author.Needs.{needs}
@@ -60,15 +62,35 @@ returns-3 c =
     let flags = iid .before .read-u32 .ensures in
     rw (← flags, test .if3 .taken) (cc (c .custom .ensures, iid .read-guid .ensures, c .before .before .before .read-guid3 .ensures, c .before .before .read-u322 .ensures, c .before .read-u323 .ensures))
 
-zero-requires : tie.Need-zero-requires
-zero-requires c κs = search needs
+list-end-requires : tie.Need-list-end-requires
+list-end-requires c κs = search needs
+
+add-read-guid : tie.Need-add-read-guid
+add-read-guid c = search needs
+
+read-guid-requires-4 : tie.Need-read-guid-requires-4
+read-guid-requires-4 c κs = search needs
+
+extended-requires : tie.Need-extended-requires
+extended-requires c κs = search needs
 
 returns-4 : tie.Need-returns-4
 unfolding referenceAt
 returns-4 c =
-    let flags = c .before .before .before .before .before .before .read-u32 .ensures in
+    let flags = c .before .before .before .before .before .before .before .before .before .read-u32 .ensures in
+    let s = c .before .before .before .before .before .before .before .before .before .before .before .args .s .now in
+    let element = c .before .read-guid4 .ensures ∙ ap (λ (n : ℕ). guidAt s (n + 8)) (c .before .before .list-end .ensures .0) in
+    rw (← flags, c .before .before .before .if4 .taken) (cc (c .extended .ensures, c .before .before .before .before .before .before .before .before .read-guid .ensures, c .before .before .before .before .before .before .before .read .ensures, element))
+
+zero-requires : tie.Need-zero-requires
+zero-requires c κs = search needs
+
+returns-5 : tie.Need-returns-5
+unfolding referenceAt
+returns-5 c =
+    let flags = c .before .before .before .before .before .before .before .read-u32 .ensures in
     c .zero .ensures
-    ∙ sym (by-other _ _ _ _ _ (λ z. c .before .before .before .if1 .left (flags ∙ z)) (λ z. c .before .before .if2 .left (flags ∙ z)) (λ z. c .before .if3 .left (flags ∙ z)))
+    ∙ sym (by-other _ _ _ _ _ _ (λ z. c .before .before .before .before .if1 .left (flags ∙ z)) (λ z. c .before .before .before .if2 .left (flags ∙ z)) (λ z. c .before .before .if3 .left (flags ∙ z)) (λ z. c .before .if4 .left (flags ∙ z)))
 
 pub fields-spec : {M : Type 1} → statement M
 fields-spec =
@@ -87,5 +109,10 @@ fields-spec =
     read-u32-requires-3
     custom-requires
     returns-3
+    list-end-requires
+    add-read-guid
+    read-guid-requires-4
+    extended-requires
+    returns-4
     zero-requires
-    returns-4)
+    returns-5)

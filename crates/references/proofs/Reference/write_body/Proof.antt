@@ -4,7 +4,7 @@ use mathlib.Core.Path.{sym}
 use native.Mathlib.Omega.{arith}
 use lib.ListN.{length}
 use Rattle.fields.proofs.Laws.{first-bytes, first-guid, then-field, then-guid, written-none}
-use Rattle.references.specs.References.{fixedSize, blockBytes, bodyBytes}
+use Rattle.references.specs.References.{extendedSignature, fixedSize, blockBytes, bodyBytes}
 use Rattle.references.proofs.Laws.{by-other, length-block}
 use borrow.Author.Needs.{needs}
 use Rattle.references.proofs.Reference.write_body.Statement.{statement}
@@ -31,6 +31,15 @@ write-u32-requires c κs = search needs
 
 write-u32-requires-2 : tie.Need-write-u32-requires-2
 write-u32-requires-2 c κs = search needs
+
+write-requires-3 : tie.Need-write-requires-3
+unfolding fixedSize
+write-requires-3 c κs =
+    let room : 68 ≤ length (c .before .before .before .before .before .before .before .before .args .buf .now) = rw (c .before .if4 .taken) at (c .before .before .before .before .before .before .before .before .pre) in
+    omega arith
+
+write-u32-requires-3 : tie.Need-write-u32-requires-3
+write-u32-requires-3 c κs = search needs
 
 same-length : tie.Need-same-length
 same-length c = search needs
@@ -73,11 +82,25 @@ returns-3 c =
     let run3 = then-field 4 (r .size) run2 (omega arith) (size .write-u322 .ensures) in
     rw (test .if3 .taken) (run3 .holds)
 
+same-length-4 : tie.Need-same-length-4
+same-length-4 c = search needs
+
 returns-4 : tie.Need-returns-4
-unfolding bodyBytes
+unfolding fixedSize bodyBytes
 returns-4 c =
-    let start = c .before .before .before .before .before .before in
-    sym (rw (by-other (start .args .self .flags) _ _ _ _ (c .before .before .if1 .left) (c .before .if2 .left) (c .if3 .left)) (written-none _ 24))
+    let test = c .before .before .before .before .before .before .before .before in
+    let start = c .before .before .before .before .before .before .before .before .before .before .before .before .before .before .before in
+    let r = start .args .self in
+    let room : 68 ≤ length (start .args .buf .now) = rw (test .if4 .taken) at (start .pre) in
+    let run = first-bytes (blockBytes (r .block)) 40 (length-block (r .block)) (c .before .before .before .before .before .before .write3 .ensures) in
+    let run2 = then-field 4 extendedSignature run (omega arith) (c .before .before .write-u323 .ensures) in
+    rw (test .if4 .taken) (run2 .holds)
+
+returns-5 : tie.Need-returns-5
+unfolding bodyBytes
+returns-5 c =
+    let start = c .before .before .before .before .before .before .before in
+    sym (rw (by-other (start .args .self .flags) _ _ _ _ _ (c .before .before .before .if1 .left) (c .before .before .if2 .left) (c .before .if3 .left) (c .if4 .left)) (written-none _ 24))
 
 pub write-body-spec : {M : Type 1} → statement M
 write-body-spec =
@@ -89,10 +112,14 @@ write-body-spec =
     write-guid-requires-2
     write-u32-requires
     write-u32-requires-2
+    write-requires-3
+    write-u32-requires-3
     same-length
     returns
     same-length-2
     returns-2
     same-length-3
     returns-3
-    returns-4)
+    same-length-4
+    returns-4
+    returns-5)

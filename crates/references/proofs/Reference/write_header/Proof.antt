@@ -1,7 +1,8 @@
 -- `Reference::write_header`: its fields are a run of writes.
 use native.Mathlib.Omega.{arith}
 use Rattle.fields.proofs.Laws.{first-field, then-field, then-guid}
-use Rattle.references.specs.References.{signature, headerBytes}
+use Rattle.references.specs.References.{headerBytes}
+use Rattle.elements.specs.Elements.{signature}
 use borrow.Author.Needs.{needs}
 use Rattle.references.proofs.Reference.write_header.Statement.{statement}
 use Rattle.references.proofs.Reference.write_header.Tie as tie

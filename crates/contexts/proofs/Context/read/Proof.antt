@@ -1,0 +1,32 @@
+-- `Context::read`: a refusal, or the fields.
+use mathlib.Core.Path.{sym, _∙_}
+use borrow.Author.Tests.{eq-eqb, ne-eqb}
+use Rattle.contexts.specs.Contexts.{readContext}
+use borrow.Author.Needs.{needs}
+use Rattle.contexts.proofs.Context.read.Statement.{statement}
+use Rattle.contexts.proofs.Context.read.Tie as tie
+
+context-answer-requires : tie.Need-context-answer-requires
+context-answer-requires c κs = search needs
+
+zero-requires : tie.Need-zero-requires
+zero-requires c κs = search needs
+
+returns : tie.Need-returns
+unfolding readContext
+returns c =
+    let number = c .before .before .context-answer .ensures in
+    simp (ne-eqb _ _ (λ z. c .before .if1 .taken (number ∙ z))) (cc (number, c .zero .ensures))
+
+fields-requires : tie.Need-fields-requires
+fields-requires c κs = search needs
+
+returns-2 : tie.Need-returns-2
+unfolding readContext
+returns-2 c =
+    let number = c .before .before .context-answer .ensures in
+    simp (eq-eqb _ _ (sym number ∙ c .before .if1 .left)) (cc (c .fields .ensures))
+
+pub read-spec : {M : Type 1} → statement M
+read-spec =
+    tie.close (tie.spec context-answer-requires zero-requires returns fields-requires returns-2)

@@ -1,0 +1,81 @@
+-- `Property::read`: a refusal, or the fields before the data.
+use Prim.Native.Nat.{_-_, _≤_}
+use mathlib.Core.Path.{sym, ap, _∙_}
+use native.Mathlib.Omega.{arith}
+use borrow.Author.Tests.{eq-eqb, ne-eqb}
+use lib.ListN.{length}
+use Rattle.fields.proofs.Laws.{take-rest}
+use Rattle.bindings.specs.declared.Place.{Place}
+use Rattle.contexts.specs.Contexts.{readProperty}
+use Rattle.contexts.proofs.Laws.{property-within, property-after}
+use borrow.Author.Needs.{needs}
+use Rattle.contexts.proofs.Property.read.Statement.{statement}
+use Rattle.contexts.proofs.Property.read.Tie as tie
+
+locate-requires : tie.Need-locate-requires
+locate-requires c κs = search needs
+
+zero-requires : tie.Need-zero-requires
+zero-requires c κs = search needs
+
+returns : tie.Need-returns
+unfolding readProperty
+returns c =
+    let e = c .before .before .before .locate .ensures in
+    let n = ap (λ (x : Place). x .answer) e in
+    rw (ne-eqb _ _ (λ z. c .before .if1 .taken (n ∙ z))) (cc (n, c .zero .ensures))
+
+after : (c : tie.Else1) → 40 ≤ c .before .before .locate .result .from
+after c =
+    let e = c .before .before .locate .ensures in
+    let n = ap (λ (x : Place). x .answer) e in
+    let from = ap (λ (x : Place). x .from) e in
+    let h = property-after _ _ (sym n ∙ c .if1 .left) in
+    omega arith
+
+inside : (c : tie.Else1) → c .before .before .locate .result .from - 40 ≤ length (c .before .before .before .before .args .s .now)
+inside c =
+    let e = c .before .before .locate .ensures in
+    let from = ap (λ (x : Place). x .from) e in
+    let to = ap (λ (x : Place). x .to) e in
+    let h = property-within (c .before .before .before .before .args .s .now) (c .before .before .before .before .args .k) in
+    omega arith
+
+sub-start : tie.Need-sub-start
+sub-start c = after (c .before)
+
+sub-fields : tie.Need-sub-fields
+sub-fields c = inside (c .before)
+
+part-fields-start : tie.Need-part-fields-start
+part-fields-start c = inside (c .before)
+
+part-fields-end : tie.Need-part-fields-end
+part-fields-end c = search needs
+
+fields-requires : tie.Need-fields-requires
+fields-requires c κs = search needs
+
+returns-2 : tie.Need-returns-2
+unfolding readProperty
+returns-2 c =
+    let e = c .before .before .before .before .before .locate .ensures in
+    let s = c .before .before .before .before .before .before .before .args .s .now in
+    let n = ap (λ (x : Place). x .answer) e in
+    let from = ap (λ (x : Place). x .from) e in
+    let p = rw (take-rest s _, from) at (c .fields .ensures) in
+    rw (eq-eqb _ _ (sym n ∙ c .before .before .before .if1 .left)) (cc p)
+
+pub read-spec : {M : Type 1} → statement M
+read-spec =
+    tie.close
+    (tie.spec
+    locate-requires
+    zero-requires
+    returns
+    sub-start
+    sub-fields
+    part-fields-start
+    part-fields-end
+    fields-requires
+    returns-2)

@@ -1,0 +1,54 @@
+use mathlib.Core.Path.{sym, _∙_}
+use native.Mathlib.Omega.{arith}
+use Rattle.kinds.specs.Refusals.{order}
+use Rattle.kinds.proofs.Refusing.{ne-differ, eq-differ, last-row}
+use Rattle.fields.proofs.Laws.{take-rest}
+use Rattle.contexts.specs.Contexts.{contextAnswer}
+use Rattle.contexts.proofs.Laws.{headed}
+use borrow.Author.Needs.{needs}
+use Rattle.contexts.proofs.context_answer.Statement.{statement}
+use Rattle.contexts.proofs.context_answer.Tie as tie
+
+head-answer-requires : tie.Need-head-answer-requires
+head-answer-requires c κs = search needs
+
+returns : tie.Need-returns
+unfolding contextAnswer order
+returns c = let head = c .before .head-answer .ensures in simp (ne-differ _ _ (λ z. c .if1 .taken (head ∙ z))) head
+
+sub-properties-answer : tie.Need-sub-properties-answer
+sub-properties-answer c = let h = headed _ (sym (c .before .head-answer .ensures) ∙ c .if1 .left) .fixed in omega arith
+
+part-properties-answer-start : tie.Need-part-properties-answer-start
+part-properties-answer-start c = let h = headed _ (sym (c .before .head-answer .ensures) ∙ c .if1 .left) .fixed in omega arith
+
+part-properties-answer-end : tie.Need-part-properties-answer-end
+part-properties-answer-end c = search needs
+
+read-u32-requires : tie.Need-read-u32-requires
+read-u32-requires c κs = search needs
+
+properties-answer-requires : tie.Need-properties-answer-requires
+properties-answer-requires c κs = search needs
+
+returns-2 : tie.Need-returns-2
+unfolding contextAnswer order
+returns-2 c =
+    let test = c .before .before .before in
+    let head = test .before .head-answer .ensures in
+    let s = test .before .before .before .args .s .now in
+    let e = rw (c .before .read-u32 .ensures, take-rest s 48) at (c .properties-answer .ensures) in
+    simp (eq-differ _ _ (sym head ∙ test .if1 .left)) (e ∙ sym (last-row _))
+
+pub context-answer-spec : {M : Type 1} → statement M
+context-answer-spec =
+    tie.close
+    (tie.spec
+    head-answer-requires
+    returns
+    sub-properties-answer
+    part-properties-answer-start
+    part-properties-answer-end
+    read-u32-requires
+    properties-answer-requires
+    returns-2)

@@ -1,0 +1,53 @@
+// The context in the object data of a custom reference.
+use crate::data;
+use crate::line;
+use contexts::Context;
+use contexts::Property;
+use kinds::answer;
+
+pub fn report(s: &[u8], n: usize) {
+    let r = Context::read(s);
+    let context = r.context;
+    let id = context.id;
+    line::identifier(n, b"context id: ", id);
+    line::bits(n, b"reserved: 0x", context.reserved);
+    line::bits(n, b"marshal flags: 0x", context.marshal);
+    line::number(n, b"frozen: ", context.frozen);
+    line::number(n, b"properties: ", context.count);
+    properties(s, n);
+}
+
+// A property has at least 40 bytes, so that there are fewer than the bound.
+fn properties(s: &[u8], n: usize) {
+    let mut k = 0;
+    while k < 65536 {
+        let r = Property::read(s, k);
+        if r.answer != answer::DONE {
+            return;
+        }
+        let property = r.property;
+        fields(property, k, n);
+        data::content(contexts::property_data(s, k), n);
+        k += 1;
+    }
+}
+
+fn fields(p: Property, k: usize, n: usize) {
+    line::named(n, b"property ");
+    print::decimal(k as u64);
+    print::text(b": class ");
+    let clsid = p.clsid;
+    print::guid(clsid);
+    print::text(b", policy ");
+    let policy = p.policy;
+    print::guid(policy);
+    flags(p.flags);
+}
+
+fn flags(f: u32) {
+    match f {
+        1 => print::text(b", flags 1 (propagate), "),
+        2 => print::text(b", flags 2 (expose), "),
+        _ => print::text(b", flags 4 (envoy), "),
+    }
+}
