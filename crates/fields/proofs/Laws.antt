@@ -6,8 +6,8 @@ use mathlib.Core.List.{List, [], _∷_, _++_, append-assoc}
 use native.Mathlib.Omega.{arith}
 use native.Mathlib.Numerals.{add-one}
 use native.Mathlib.Nat.{pow-suc, pow-zero, add-zero, zero-add, div-lt-iff-lt-mul, pow-le-pow-right}
-use borrow.Author.Tests.{le-leb, lt-leb, leb-true, leb-false}
-use lib.Dec.{leb}
+use borrow.Author.Tests.{le-leb, lt-leb, leb-true, leb-false, eq-eqb, ne-eqb, eqb-true}
+use lib.Dec.{eqb, leb}
 use lib.ListN.{length, getD, take, drop, set, length-append, length-take, length-drop, length-set, take-append-drop}
 use lib.Seq.{drop-cons, drop-set-lt, take-suc-set, take-at, drop-drop, length-take-le, getD-drop, append-snoc, drop-append-add, drop-append-le, take-append-le, take-take, take-all}
 use Rattle.kinds.proofs.Refusing.{by-test, same-test}
@@ -93,6 +93,27 @@ module _ (s : List ℕ) (at w i n : ℕ) (h : 0 < i) (l : i ≤ w) (room : at + 
   read-bound b e =
       let k : w - (i - 1) ≡ suc (w - i) = omega arith in
       rw (k, pow-suc 256 (w - i)) (omega arith)
+
+-- the first byte of the w - i bytes from at + i, and the others
+module _ (s : List ℕ) (at w i : ℕ) (l : i < w) (room : at + w ≤ length s) where
+  first-byte : number (take (w - i) (drop (at + i) s)) ≡ getD s (at + i) 0 + 256 * number (take (w - (i + 1)) (drop (at + (i + 1)) s))
+  unfolding number
+  first-byte =
+      let p : at + i < length s = omega arith in
+      let k : w - i ≡ suc (w - (i + 1)) = omega arith in
+      let q : suc (at + i) ≡ at + (i + 1) = omega arith in
+      rw (k, drop-cons s (at + i) 0 p, q) refl
+
+  -- where it is zero, the number is zero exactly where that of the others is
+  pub zero-first : getD s (at + i) 0 ≡ 0 → eqb (number (take (w - (i + 1)) (drop (at + (i + 1)) s))) 0 ≡ eqb (number (take (w - i) (drop (at + i) s))) 0
+  zero-first e =
+      let f = first-byte in
+      same-test (eqb (number (take (w - (i + 1)) (drop (at + (i + 1)) s))) 0) (eqb (number (take (w - i) (drop (at + i) s))) 0)
+      (λ t. let z = eqb-true (number (take (w - (i + 1)) (drop (at + (i + 1)) s))) 0 t in eq-eqb (number (take (w - i) (drop (at + i) s))) 0 (omega arith))
+      (λ t. let z = eqb-true (number (take (w - i) (drop (at + i) s))) 0 t in eq-eqb (number (take (w - (i + 1)) (drop (at + (i + 1)) s))) 0 (omega arith))
+
+  pub nonzero-first : (getD s (at + i) 0 ≡ 0 → ⊥) → eqb (number (take (w - i) (drop (at + i) s))) 0 ≡ false
+  nonzero-first e = let f = first-byte in ne-eqb (number (take (w - i) (drop (at + i) s))) 0 (λ (z : number (take (w - i) (drop (at + i) s)) ≡ 0). e (omega arith))
 
 pub drop-bytes : (s : List ℕ) (at : ℕ) → Bytes s → Bytes (drop at s)
 drop-bytes s at h i = rw (getD-drop at s i 0) (h (at + i))

@@ -4,7 +4,7 @@ use kinds::Guid;
 ghost use mathlib.Core.Path.{_≡_};
 ghost use Prim.Native.Nat.{_+_, _^_, _<_, _≤_};
 ghost use lib.ListN.{length};
-ghost use lib.Dec.{leb};
+ghost use lib.Dec.{eqb, leb};
 ghost use Rattle.fields.specs.Fields.{field, encode, written, guidAt, guidBytes};
 
 // A writer's answer, and the number of bytes that it wrote.
@@ -48,6 +48,24 @@ fn read(s: &[u8], at: usize, w: usize) -> u64
     } else {
         0
     }
+}
+
+// Whether the number in the w bytes from at is 0, as it is where they are not all there. It looks no further than the first byte
+// that is not 0.
+pub fn is_zero(s: &[u8], at: usize, w: usize) -> bool
+    ensures { λ r. ⌜ r ≡ eqb (field (now (s .entry)) at w) 0 ⌝ }
+{
+    if !inside(s.len(), at, w) {
+        return true;
+    }
+    let mut i = 0;
+    while i < w {
+        if s[at + i] != 0 {
+            return false;
+        }
+        i += 1;
+    }
+    true
 }
 
 // A number of two bytes that are there, for the walk of a list, whose length has been tested.

@@ -408,8 +408,16 @@ fn layout(s: &[u8], d: usize) -> u32
 fn nil_block(s: &[u8]) -> bool
     ensures { λ r. ⌜ r ≡ hasNil (blockAt (now (s .entry)) 24) ⌝ }
 {
-    let block = Block::read(s);
-    block.has_nil()
+    if fields::is_zero(s, 32, 8) {
+        return true;
+    }
+    if fields::is_zero(s, 40, 8) {
+        return true;
+    }
+    if !fields::is_zero(s, 48, 8) {
+        return false;
+    }
+    fields::is_zero(s, 56, 8)
 }
 
 // Whether an accepted reference with d levels, or one inside it, names zero.
