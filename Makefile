@@ -2,14 +2,14 @@
 #
 #   make                        the archive, proved
 #   make install PREFIX=...     header, archive and a pkg-config file
-#   make day                    the example in C
+#   make day, make fault        the examples in C
 
 PREFIX ?= /usr/local
 VERSION = 0.1.0
 ARCHIVE = target/staticlib/libc_api.a
 SOURCES = crates.txt $(shell find crates -path '*/src/*.rt' -o -path '*/specs/*.antt' -o -path '*/proofs/*.antt')
 
-.PHONY: all install day
+.PHONY: all install day fault
 
 all: $(ARCHIVE)
 
@@ -24,6 +24,6 @@ install: $(ARCHIVE)
 	    'Name: rimonakh' 'Description: A proved DCOM object resolver' 'Version: $(VERSION)' \
 	    'Libs: -L$${libdir} -lrimonakh' 'Cflags: -I$${includedir}' >$(DESTDIR)$(PREFIX)/lib/pkgconfig/rimonakh.pc
 
-day: $(ARCHIVE)
-	$(CC) -std=c11 -Wall -Wextra -Wpedantic -Werror -Iinclude examples/day.c $(ARCHIVE) -o target/day
-	target/day
+day fault: $(ARCHIVE)
+	$(CC) -std=c11 -Wall -Wextra -Wpedantic -Werror -Iinclude examples/$@.c $(ARCHIVE) -o target/$@
+	target/$@

@@ -14,11 +14,23 @@ AT(rimonakh_guid, high, 8);
 SIZE(rimonakh_orpc_this, 24);
 AT(rimonakh_orpc_this, flags, 4);
 AT(rimonakh_orpc_this, causality, 8);
-SIZE(rimonakh_read_this, 32);
+SIZE(rimonakh_extensions, 12);
+AT(rimonakh_extensions, array, 4);
+AT(rimonakh_extensions, count, 8);
+SIZE(rimonakh_extension, 40);
+AT(rimonakh_extension, pointer, 4);
+AT(rimonakh_extension, id, 8);
+AT(rimonakh_extension, from, 24);
+AT(rimonakh_extension, to, 32);
+SIZE(rimonakh_read_this, 56);
 AT(rimonakh_read_this, header, 8);
+AT(rimonakh_read_this, extensions, 32);
+AT(rimonakh_read_this, length, 48);
 SIZE(rimonakh_orpc_that, 4);
-SIZE(rimonakh_read_that, 8);
+SIZE(rimonakh_read_that, 32);
 AT(rimonakh_read_that, header, 4);
+AT(rimonakh_read_that, extensions, 8);
+AT(rimonakh_read_that, length, 24);
 SIZE(rimonakh_place, 24);
 AT(rimonakh_place, from, 8);
 AT(rimonakh_place, to, 16);
@@ -135,6 +147,50 @@ static size_t write_nested(uint8_t *buffer, size_t room) {
     size_t n = write_context_reference(inner, sizeof inner);
     n = write_with(RIMONAKH_EXTENDED, 0, 0, LIST, inner, n, middle, sizeof middle);
     return write_with(RIMONAKH_EXTENDED, 0, 0, LIST, middle, n, buffer, room);
+}
+
+static void expect_extension(int line, rimonakh_extension x, uint64_t number, size_t from, size_t to) {
+    expect(line, x.answer, 0);
+    expect(line, x.pointer, number);
+    expect(line, x.id.low, 10 * number);
+    expect(line, x.id.high, 10 * number + 1);
+    expect(line, x.from, from);
+    expect(line, x.to, to);
+}
+
+/* two extensions, with 3 and 8 bytes of data */
+static void headers(void) {
+    static const uint64_t entries[] = {60, 61, 6, 3, 70, 71, 7, 8};
+    static const uint8_t contents[] = {1, 2, 3, 11, 12, 13, 14, 15, 16, 17, 18};
+    uint8_t buffer[160];
+    rimonakh_written w = rimonakh_this_write_extensions(7, 1, 2, 3, 4, 5, entries, 8, contents, 11, buffer, sizeof buffer);
+    IS(w.answer, 0);
+    IS(w.length, 120);
+    rimonakh_read_this call = rimonakh_this_read(buffer, sizeof buffer);
+    IS(call.answer, 0);
+    IS(call.header.minor, 7);
+    IS(call.header.flags, 1);
+    IS(call.header.causality.low, 2);
+    IS(call.header.causality.high, 3);
+    IS(call.extensions.pointer, 4);
+    IS(call.extensions.array, 5);
+    IS(call.extensions.count, 2);
+    IS(call.length, 120);
+    expect_extension(__LINE__, rimonakh_this_extension(buffer, sizeof buffer, 0), 6, 80, 83);
+    expect_extension(__LINE__, rimonakh_this_extension(buffer, sizeof buffer, 1), 7, 112, 120);
+    IS(rimonakh_this_extension(buffer, sizeof buffer, 2).answer, RIMONAKH_NO_BINDING);
+    w = rimonakh_that_write_extensions(9, 4, 5, entries, 8, contents, 11, buffer, sizeof buffer);
+    IS(w.answer, 0);
+    IS(w.length, 96);
+    rimonakh_read_that reply = rimonakh_that_read(buffer, sizeof buffer);
+    IS(reply.answer, 0);
+    IS(reply.header.flags, 9);
+    IS(reply.extensions.pointer, 4);
+    IS(reply.extensions.array, 5);
+    IS(reply.extensions.count, 2);
+    IS(reply.length, 96);
+    expect_extension(__LINE__, rimonakh_that_extension(buffer, sizeof buffer, 1), 7, 88, 96);
+    IS(rimonakh_that_write_extensions(9, 0, 5, entries, 8, contents, 11, buffer, sizeof buffer).answer, RIMONAKH_LAYOUT);
 }
 
 static void bytes(void) {
@@ -302,6 +358,7 @@ int main(int argc, char **argv) {
         uint8_t buffer[512];
         fwrite(buffer, 1, write_named(argv[1], buffer, sizeof buffer), stdout);
     } else {
+        headers();
         bytes();
         contexts();
         calls();

@@ -33,7 +33,7 @@ enum {
     RIMONAKH_NO_PING = 0x1000 /* the bit of a block's flags that means no pinging */
 };
 
-/* Answer numbers. */
+/* Answer numbers. 17 is no longer given: extensions are read. */
 enum {
     RIMONAKH_DONE = 0,
     RIMONAKH_UNSOUND = 1, /* a lent table has the wrong length or is not sound */
@@ -52,13 +52,12 @@ enum {
     RIMONAKH_LAYOUT = 14, /* a layout rule is broken */
     RIMONAKH_NO_ROOM = 15, /* the output buffer is too short */
     RIMONAKH_VERSION = 16, /* version not understood */
-    RIMONAKH_EXTENSIONS = 17, /* extensions present */
     RIMONAKH_SETS_USED_UP = 18, /* the set numbers are used up */
     RIMONAKH_LONG_LIST = 19, /* a binding list of more than 512 bytes */
     RIMONAKH_NO_CLIENT = 20, /* the client is none of 0 to 7 */
     RIMONAKH_TOO_DEEP = 21, /* references nested deeper than 8 */
     RIMONAKH_NIL_IDENTIFIER = 22, /* the OXID, OID or IPID of a reference is zero */
-    RIMONAKH_NO_BINDING = 24 /* no binding, element or property of this number */
+    RIMONAKH_NO_BINDING = 24 /* no binding, extension, element or property of this number */
 };
 
 /* The flags of a reference, which name its form. */
@@ -74,7 +73,24 @@ typedef struct {
     uint64_t high;
 } rimonakh_guid;
 
-/* The header of a call. Its major version is 5, and it has no extensions. */
+/* What a header says of its extensions: its pointer to their array, the array's pointer, and how many there are. A pointer is a
+ * number of the sender's: 0 or not. */
+typedef struct {
+    uint32_t pointer;
+    uint32_t array;
+    uint32_t count;
+} rimonakh_extensions;
+
+/* An extension: its pointer, its id, and its data without padding, from byte `from` up to and not with byte `to`. */
+typedef struct {
+    uint32_t answer;
+    uint32_t pointer;
+    rimonakh_guid id;
+    size_t from;
+    size_t to;
+} rimonakh_extension;
+
+/* The header of a call. Its major version is 5. */
 typedef struct {
     uint16_t minor;
     uint32_t flags;
@@ -84,9 +100,11 @@ typedef struct {
 typedef struct {
     uint32_t answer;
     rimonakh_orpc_this header;
+    rimonakh_extensions extensions;
+    size_t length; /* of the header with its extensions */
 } rimonakh_read_this;
 
-/* The header of a reply, without extensions. */
+/* The header of a reply. */
 typedef struct {
     uint32_t flags;
 } rimonakh_orpc_that;
@@ -94,6 +112,8 @@ typedef struct {
 typedef struct {
     uint32_t answer;
     rimonakh_orpc_that header;
+    rimonakh_extensions extensions;
+    size_t length; /* of the header with its extensions */
 } rimonakh_read_that;
 
 /* A part of a buffer that was lent: from byte `from` up to and not with byte `to`. */
@@ -210,19 +230,42 @@ uint32_t rimonakh_wire_code(uint32_t number);
 
 /* ---- call headers */
 
-/* Reads the ORPCTHIS at the front of bytes; the bytes after its 32 are the call's own. 13; 16; 17. */
+/* Reads the ORPCTHIS at the front of bytes; the bytes after its length are the call's own. 13; 16; then of the extensions 13 and
+ * 14, whichever comes first in the bytes. */
 rimonakh_read_this rimonakh_this_read(const uint8_t *bytes, size_t bytes_len);
 
-/* Writes an ORPCTHIS, 32 bytes, at the front of buffer and keeps the rest. Minor version, flags, the two halves of the
- * causality id; buffer is written. 16; 15. */
+/* Extension k, from 0, of the ORPCTHIS at the front of bytes. The header's refusals; 24. */
+rimonakh_extension rimonakh_this_extension(const uint8_t *bytes, size_t bytes_len, size_t k);
+
+/* Writes an ORPCTHIS without extensions, 32 bytes, at the front of buffer and keeps the rest. Minor version, flags, the two halves
+ * of the causality id; buffer is written. 16; 15. */
 uint32_t rimonakh_this_write(uint16_t minor, uint32_t flags, uint64_t causality_low, uint64_t causality_high,
                              uint8_t *buffer, size_t buffer_len);
 
-/* Reads the ORPCTHAT at the front of bytes; the bytes after its 8 are the call's own. 13; 17. */
+/* Writes an ORPCTHIS with extensions at the front of buffer and keeps the rest. pointer is the header's pointer to the array, array
+ * the array's; both are 0 where there are no extensions. Of each extension, at most 32, entries has four words: the two halves of its
+ * id, its pointer, which is not 0 and has 32 bits, and the size of its data. contents has all data, end to end. 16; 14 where a reader
+ * would refuse the array by 14, where the words are not four for each, where the sizes do not make the length of contents, or where a
+ * number does not fit its field; 15. */
+rimonakh_written rimonakh_this_write_extensions(uint16_t minor, uint32_t flags, uint64_t causality_low,
+                                                uint64_t causality_high, uint32_t pointer, uint32_t array,
+                                                const uint64_t *entries, size_t entries_len, const uint8_t *contents,
+                                                size_t contents_len, uint8_t *buffer, size_t buffer_len);
+
+/* Reads the ORPCTHAT at the front of bytes; the bytes after its length are the call's own. 13 and 14, whichever comes first in the
+ * bytes. */
 rimonakh_read_that rimonakh_that_read(const uint8_t *bytes, size_t bytes_len);
 
-/* Writes an ORPCTHAT, 8 bytes, at the front of buffer and keeps the rest. Flags; buffer is written. 15. */
+/* Extension k, from 0, of the ORPCTHAT at the front of bytes. The header's refusals; 24. */
+rimonakh_extension rimonakh_that_extension(const uint8_t *bytes, size_t bytes_len, size_t k);
+
+/* Writes an ORPCTHAT without extensions, 8 bytes, at the front of buffer and keeps the rest. Flags; buffer is written. 15. */
 uint32_t rimonakh_that_write(uint32_t flags, uint8_t *buffer, size_t buffer_len);
+
+/* Writes an ORPCTHAT with extensions, as rimonakh_this_write_extensions does. 14; 15. */
+rimonakh_written rimonakh_that_write_extensions(uint32_t flags, uint32_t pointer, uint32_t array, const uint64_t *entries,
+                                                size_t entries_len, const uint8_t *contents, size_t contents_len,
+                                                uint8_t *buffer, size_t buffer_len);
 
 /* ---- binding lists */
 

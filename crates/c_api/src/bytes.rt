@@ -5,6 +5,8 @@ use contexts::Context;
 use contexts::Property;
 use contexts::ReadContext;
 use contexts::ReadProperty;
+use extensions::Extension;
+use extensions::Walked;
 use fields::Written;
 use headers::OrpcThat;
 use headers::OrpcThis;
@@ -18,6 +20,7 @@ use references::ReadReference;
 use references::Reference;
 ghost use mathlib.Core.Path.{_≡_};
 ghost use mathlib.Core.Bool.{cond};
+ghost use mathlib.Core.List.{[]};
 ghost use lib.Dec.{eqb};
 ghost use lib.ListN.{length};
 ghost use Rattle.fields.specs.Fields.{stored};
@@ -25,7 +28,8 @@ ghost use Rattle.headers.specs.declared.OrpcThis.{OrpcThis};
 ghost use Rattle.contexts.specs.declared.Context.{Context};
 ghost use Rattle.contexts.specs.declared.Property.{Property};
 ghost use Rattle.references.specs.declared.Reference.{Reference};
-ghost use Rattle.headers.specs.Headers.{readThis, thisBytes, thisWritten, readThat, thatBytes, thatWritten};
+ghost use Rattle.extension_writer.specs.Writing.{given};
+ghost use Rattle.headers.specs.Headers.{readThis, thisExtension, thisBytes, thisWritten, thisWriting, readThat, thatExtension, thatBytes, thatWriting, none};
 ghost use Rattle.bindings.specs.Bindings.{frontAnswer, listAnswer, listLength, bindingAt};
 ghost use Rattle.contexts.specs.Contexts.{readContext, readProperty, propertyBytes, writeProperty, contextBytes, writeContext};
 ghost use Rattle.references.specs.Parts.{ElementFound};
@@ -39,7 +43,15 @@ pub extern "C" fn rimonakh_this_read(bytes: &[u8]) -> ReadThis
     OrpcThis::read(bytes)
 }
 
-// Writes an ORPCTHIS at the front of buffer.
+// Extension k of the ORPCTHIS at the front of bytes.
+#[no_mangle]
+pub extern "C" fn rimonakh_this_extension(bytes: &[u8], k: usize) -> Extension
+    ensures { λ r. ⌜ r ≡ thisExtension (now (bytes .entry)) k ⌝ }
+{
+    OrpcThis::extension(bytes, k)
+}
+
+// Writes an ORPCTHIS without extensions at the front of buffer.
 #[no_mangle]
 pub extern "C" fn rimonakh_this_write(
     minor: u16,
@@ -50,8 +62,8 @@ pub extern "C" fn rimonakh_this_write(
 ) -> u32
     ensures { λ r. ⌜
         (let header : OrpcThis = record { minor = minor; flags = flags; causality = record { low = «causality_low»; high = «causality_high» } } in
-        (r ≡ thisWritten header (length (now (buffer .entry))))
-        × (now (buffer .exit) ≡ stored r (thisBytes 0 header) (now (buffer .entry)))) ⌝ }
+        (r ≡ thisWritten header 0 0 [] [] (length (now (buffer .entry))))
+        × (now (buffer .exit) ≡ stored r (thisBytes 0 header none) (now (buffer .entry)))) ⌝ }
 {
     let causality = Guid {
         low: causality_low,
@@ -65,6 +77,36 @@ pub extern "C" fn rimonakh_this_write(
     header.write(buffer)
 }
 
+// Writes an ORPCTHIS with its extensions at the front of buffer: four words for each in entries, all data end to end in contents.
+#[no_mangle]
+pub extern "C" fn rimonakh_this_write_extensions(
+    minor: u16,
+    flags: u32,
+    causality_low: u64,
+    causality_high: u64,
+    pointer: u32,
+    array: u32,
+    entries: &[u64],
+    contents: &[u8],
+    buffer: &mut [u8],
+) -> Walked
+    ensures { λ r. ⌜
+        (let header : OrpcThis = record { minor = minor; flags = flags; causality = record { low = «causality_low»; high = «causality_high» } } in
+        (r ≡ thisWriting header pointer array (now (entries .entry)) (now (contents .entry)) (length (now (buffer .entry))))
+        × (now (buffer .exit) ≡ stored (r .answer) (thisBytes 0 header (given pointer array (now (entries .entry)) (now (contents .entry)))) (now (buffer .entry)))) ⌝ }
+{
+    let causality = Guid {
+        low: causality_low,
+        high: causality_high,
+    };
+    let header = OrpcThis {
+        minor: minor,
+        flags: flags,
+        causality: causality,
+    };
+    header.write_with(pointer, array, entries, contents, buffer)
+}
+
 // Reads the ORPCTHAT at the front of bytes.
 #[no_mangle]
 pub extern "C" fn rimonakh_that_read(bytes: &[u8]) -> ReadThat
@@ -73,15 +115,41 @@ pub extern "C" fn rimonakh_that_read(bytes: &[u8]) -> ReadThat
     OrpcThat::read(bytes)
 }
 
-// Writes an ORPCTHAT at the front of buffer.
+// Extension k of the ORPCTHAT at the front of bytes.
+#[no_mangle]
+pub extern "C" fn rimonakh_that_extension(bytes: &[u8], k: usize) -> Extension
+    ensures { λ r. ⌜ r ≡ thatExtension (now (bytes .entry)) k ⌝ }
+{
+    OrpcThat::extension(bytes, k)
+}
+
+// Writes an ORPCTHAT without extensions at the front of buffer.
 #[no_mangle]
 pub extern "C" fn rimonakh_that_write(flags: u32, buffer: &mut [u8]) -> u32
     ensures { λ r. ⌜
-        (r ≡ thatWritten (length (now (buffer .entry))))
-        × (now (buffer .exit) ≡ stored r (thatBytes (record { flags = flags })) (now (buffer .entry))) ⌝ }
+        (r ≡ (thatWriting 0 0 [] [] (length (now (buffer .entry)))) .answer)
+        × (now (buffer .exit) ≡ stored r (thatBytes (record { flags = flags }) none) (now (buffer .entry))) ⌝ }
 {
     let header = OrpcThat { flags: flags };
     header.write(buffer)
+}
+
+// Writes an ORPCTHAT with its extensions at the front of buffer: four words for each in entries, all data end to end in contents.
+#[no_mangle]
+pub extern "C" fn rimonakh_that_write_extensions(
+    flags: u32,
+    pointer: u32,
+    array: u32,
+    entries: &[u64],
+    contents: &[u8],
+    buffer: &mut [u8],
+) -> Walked
+    ensures { λ r. ⌜
+        (r ≡ thatWriting pointer array (now (entries .entry)) (now (contents .entry)) (length (now (buffer .entry))))
+        × (now (buffer .exit) ≡ stored (r .answer) (thatBytes (record { flags = flags }) (given pointer array (now (entries .entry)) (now (contents .entry)))) (now (buffer .entry))) ⌝ }
+{
+    let header = OrpcThat { flags: flags };
+    header.write_with(pointer, array, entries, contents, buffer)
 }
 
 // Of the bytes as a whole binding list.

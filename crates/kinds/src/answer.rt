@@ -46,9 +46,6 @@ pub const NO_ROOM: u32 = 15;
 // A version that is not understood.
 pub const VERSION: u32 = 16;
 
-// Extensions are present.
-pub const EXTENSIONS: u32 = 17;
-
 // The set numbers are used up.
 pub const SETS_USED_UP: u32 = 18;
 

@@ -1,15 +1,14 @@
 //! References, binding lists, contexts and call headers, proper and damaged, compared with the model.
 
 use crate::generate::{clsid, context, damage, list, property, random_data, reference};
+use crate::headers;
 use crate::random::Random;
 use crate::shrink::shrink;
 use crate::tally::Tally;
 use crate::Differs;
 use model::bytes as m;
 use model::contexts as c;
-use rimonakh::{
-    Block, Context, Error, Guid, Oid, OrpcThat, OrpcThis, Oxid, Part, Property, Reference,
-};
+use rimonakh::{Block, Context, Guid, Oid, Oxid, Part, Property, Reference};
 use std::fmt::Debug;
 use std::panic::catch_unwind;
 
@@ -17,8 +16,8 @@ use std::panic::catch_unwind;
 enum Kind {
     Reference,
     List,
-    This,
-    That,
+    /// A call header with its extensions.
+    Header(headers::Kind),
     Context,
     /// A reference to be written, with the bytes as its list or object data.
     Written,
@@ -41,8 +40,8 @@ impl Case {
             Kind::Reference,
             Kind::List,
             Kind::List,
-            Kind::This,
-            Kind::That,
+            Kind::Header(headers::Kind::This),
+            Kind::Header(headers::Kind::That),
             Kind::Context,
             Kind::Written,
             Kind::Written,
@@ -63,23 +62,10 @@ impl Case {
                 }
                 properties
             }
-            Kind::This => {
-                let mut header = vec![5, 0, random.below(9) as u8, 0];
-                header.extend(random.bytes(24));
-                header.extend([0; 4]);
-                let after = random.below(5);
-                header.extend(random.bytes(after));
-                header
-            }
-            Kind::That => {
-                let mut header = random.bytes(4);
-                header.extend([0; 4]);
-                let after = random.below(5);
-                header.extend(random.bytes(after));
-                header
-            }
+            Kind::Header(kind) => headers::bytes(random, kind),
         };
         match random.below(10) {
+            _ if matches!(kind, Kind::Header(_)) => {}
             0..=4 => damage(random, &mut bytes),
             5 => {
                 let n = random.below(120);
@@ -107,8 +93,7 @@ fn check(kind: Kind, s: &[u8], seed: u64, tally: &mut Tally) -> Result<(), Strin
     match kind {
         Kind::Reference => check_reference(s, &mut random, tally),
         Kind::List => check_list(s, tally),
-        Kind::This => check_this(s, &mut random, tally),
-        Kind::That => check_that(s, &mut random, tally),
+        Kind::Header(kind) => headers::check(kind, s, &mut random, tally),
         Kind::Context => check_context(s, &mut random, tally),
         Kind::Written => {
             let fields = written_fields(&mut random);
@@ -181,18 +166,18 @@ fn context_fields(random: &mut Random) -> c::Context {
     }
 }
 
-fn guid(random: &mut Random) -> model::Guid {
+pub fn guid(random: &mut Random) -> model::Guid {
     random.bytes(16).try_into().unwrap()
 }
 
 /// Whether both sides answer the same.
-fn same<T: PartialEq + Debug>(
+pub fn same<T: PartialEq + Debug>(
     what: &str,
-    answer: Result<T, Error>,
+    answer: Result<T, impl Into<u32>>,
     demanded: Result<T, u32>,
     tally: &mut Tally,
 ) -> Result<(), String> {
-    let answer = answer.map_err(Error::number);
+    let answer = answer.map_err(Into::into);
     tally.count(*demanded.as_ref().err().unwrap_or(&0));
     if answer == demanded {
         Ok(())
@@ -204,12 +189,12 @@ fn same<T: PartialEq + Debug>(
 }
 
 /// Whether both sides write the same into a buffer of a length near `n`, and keep the rest.
-fn same_written<T: PartialEq + Debug>(
+pub fn same_written<T: PartialEq + Debug, E: Into<u32>>(
     what: &str,
     n: usize,
     random: &mut Random,
     tally: &mut Tally,
-    write: impl Fn(&mut [u8]) -> Result<T, Error>,
+    write: impl Fn(&mut [u8]) -> Result<T, E>,
     demand: impl Fn(&mut [u8]) -> Result<T, u32>,
 ) -> Result<(), String> {
     let room = random.pick(&[0, n.saturating_sub(1), n, n, n + 1, n + 9]);
@@ -446,46 +431,6 @@ pub fn typed_property(x: &c::Property) -> Property {
         policy: Guid(x.policy),
         flags: x.flags,
     }
-}
-
-fn check_this(s: &[u8], random: &mut Random, tally: &mut Tally) -> Result<(), String> {
-    let plain = |h: OrpcThis| m::OrpcThis {
-        minor: h.minor,
-        flags: h.flags,
-        causality: h.causality.0,
-    };
-    same(
-        "ORPCTHIS",
-        OrpcThis::read(s).map(plain),
-        m::read_this(s),
-        tally,
-    )?;
-    let header = m::OrpcThis {
-        minor: random.below(10) as u16,
-        flags: random.word() as u32,
-        causality: guid(random),
-    };
-    let library = OrpcThis {
-        minor: header.minor,
-        flags: header.flags,
-        causality: Guid(header.causality),
-    };
-    let write = |buffer: &mut [u8]| library.write(buffer);
-    let demand = |buffer: &mut [u8]| m::write_this(&header, buffer).map(|_| ());
-    same_written("ORPCTHIS written", 32, random, tally, write, demand)
-}
-
-fn check_that(s: &[u8], random: &mut Random, tally: &mut Tally) -> Result<(), String> {
-    same(
-        "ORPCTHAT",
-        OrpcThat::read(s).map(|h| h.flags),
-        m::read_that(s),
-        tally,
-    )?;
-    let flags = random.word() as u32;
-    let write = |buffer: &mut [u8]| OrpcThat { flags }.write(buffer);
-    let demand = |buffer: &mut [u8]| m::write_that(flags, buffer).map(|_| ());
-    same_written("ORPCTHAT written", 8, random, tally, write, demand)
 }
 
 /// So many inputs. A failure prints the shortest failing input that is found.

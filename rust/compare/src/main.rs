@@ -8,6 +8,7 @@ mod bytes;
 mod calls;
 mod decode;
 mod generate;
+mod headers;
 mod lines;
 mod model_side;
 mod op;

@@ -8,9 +8,9 @@ pub struct Tally {
     events: BTreeMap<&'static str, u64>,
 }
 
-/// The numbers of documents 01 and 02.
-const NUMBERS: [u32; 24] = [
-    0, 1, 2, 3, 4, 5, 6, 7, 8, 9, 10, 11, 12, 13, 14, 15, 16, 17, 18, 19, 20, 21, 22, 24,
+/// The numbers of documents 01 and 02 that are given; 17 no longer is.
+const NUMBERS: [u32; 23] = [
+    0, 1, 2, 3, 4, 5, 6, 7, 8, 9, 10, 11, 12, 13, 14, 15, 16, 18, 19, 20, 21, 22, 24,
 ];
 
 /// What runs of calls have to reach.

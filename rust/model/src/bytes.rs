@@ -1,5 +1,6 @@
 //! References, binding lists and call headers; MS-DCOM, section 2.2.18, for what document 02 adds to references.
 
+use crate::extensions::{self, Extensions, Lent};
 use crate::{contexts, Guid};
 use std::ops::Range;
 
@@ -425,31 +426,30 @@ pub fn write_reference(
 
 // ---- call headers
 
-#[derive(Clone, Copy, Debug, PartialEq, Eq)]
+#[derive(Clone, Copy, Debug, Default, PartialEq, Eq)]
 pub struct OrpcThis {
     pub minor: u16,
     pub flags: u32,
     pub causality: Guid,
 }
 
-pub fn read_this(s: &[u8]) -> Result<OrpcThis, u32> {
+pub fn read_this(s: &[u8]) -> Result<(OrpcThis, Extensions), u32> {
     if s.len() < 32 {
         return Err(13);
     }
     if u16_at(s, 0) != 5 || u16_at(s, 2) > 7 {
         return Err(16);
     }
-    if u32_at(s, 28) != 0 {
-        return Err(17);
-    }
-    Ok(OrpcThis {
+    let found = extensions::read(s, 28)?;
+    let header = OrpcThis {
         minor: u16_at(s, 2),
         flags: u32_at(s, 4),
         causality: guid_at(s, 12),
-    })
+    };
+    Ok((header, found))
 }
 
-pub fn write_this(h: &OrpcThis, buffer: &mut [u8]) -> Result<usize, u32> {
+pub fn write_this(h: &OrpcThis, lent: &Lent, buffer: &mut [u8]) -> Result<usize, u32> {
     if h.minor > 7 {
         return Err(16);
     }
@@ -458,23 +458,15 @@ pub fn write_this(h: &OrpcThis, buffer: &mut [u8]) -> Result<usize, u32> {
     made.extend(h.flags.to_le_bytes());
     made.extend([0; 4]);
     made.extend(h.causality);
-    made.extend([0; 4]);
-    put(&made, buffer)
+    lent.write(&made, buffer)
 }
 
-/// The flags of a reply's header.
-pub fn read_that(s: &[u8]) -> Result<u32, u32> {
-    if s.len() < 8 {
-        return Err(13);
-    }
-    if u32_at(s, 4) != 0 {
-        return Err(17);
-    }
-    Ok(u32_at(s, 0))
+/// The flags of a reply's header, and its extensions.
+pub fn read_that(s: &[u8]) -> Result<(u32, Extensions), u32> {
+    let found = extensions::read(s, 4)?;
+    Ok((u32_at(s, 0), found))
 }
 
-pub fn write_that(flags: u32, buffer: &mut [u8]) -> Result<usize, u32> {
-    let mut made = flags.to_le_bytes().to_vec();
-    made.extend([0; 4]);
-    put(&made, buffer)
+pub fn write_that(flags: u32, lent: &Lent, buffer: &mut [u8]) -> Result<usize, u32> {
+    lent.write(&flags.to_le_bytes(), buffer)
 }

@@ -5,6 +5,7 @@
 pub mod bytes;
 pub mod contexts;
 pub mod entries;
+pub mod extensions;
 
 /// A GUID as its sixteen bytes on the wire.
 pub type Guid = [u8; 16];

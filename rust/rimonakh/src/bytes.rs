@@ -1,4 +1,4 @@
-//! Call headers, binding lists, object references and contexts.
+//! Binding lists, object references and contexts.
 
 use crate::error::answered;
 use crate::{ffi, Guid, Oid, Oxid, Result};
@@ -7,62 +7,6 @@ use std::ops::Range;
 impl ffi::Place {
     fn range(self) -> Result<Range<usize>> {
         answered(self.answer, self.from..self.to)
-    }
-}
-
-/// The header of a call, without extensions. Its major version is 5.
-#[repr(C)]
-#[derive(Clone, Copy, Debug, PartialEq, Eq)]
-pub struct OrpcThis {
-    pub minor: u16,
-    pub flags: u32,
-    pub causality: Guid,
-}
-
-impl OrpcThis {
-    pub const SIZE: usize = 32;
-
-    /// Reads the header at the front of `bytes`; those after it are the call's own.
-    pub fn read(bytes: &[u8]) -> Result<OrpcThis> {
-        // SAFETY: pointer and length are of one slice.
-        let r = unsafe { ffi::rimonakh_this_read(bytes.as_ptr(), bytes.len()) };
-        answered(r.answer, r.header)
-    }
-
-    /// Writes the header at the front of `buffer` and keeps the rest.
-    pub fn write(&self, buffer: &mut [u8]) -> Result<()> {
-        let (low, high) = self.causality.halves();
-        let (at, len) = (buffer.as_mut_ptr(), buffer.len());
-        // SAFETY: pointer and length are of one slice.
-        let number =
-            unsafe { ffi::rimonakh_this_write(self.minor, self.flags, low, high, at, len) };
-        answered(number, ())
-    }
-}
-
-/// The header of a reply, without extensions.
-#[repr(C)]
-#[derive(Clone, Copy, Debug, PartialEq, Eq)]
-pub struct OrpcThat {
-    pub flags: u32,
-}
-
-impl OrpcThat {
-    pub const SIZE: usize = 8;
-
-    /// Reads the header at the front of `bytes`; those after it are the call's own.
-    pub fn read(bytes: &[u8]) -> Result<OrpcThat> {
-        // SAFETY: pointer and length are of one slice.
-        let r = unsafe { ffi::rimonakh_that_read(bytes.as_ptr(), bytes.len()) };
-        answered(r.answer, r.header)
-    }
-
-    /// Writes the header at the front of `buffer` and keeps the rest.
-    pub fn write(&self, buffer: &mut [u8]) -> Result<()> {
-        // SAFETY: pointer and length are of one slice.
-        let number =
-            unsafe { ffi::rimonakh_that_write(self.flags, buffer.as_mut_ptr(), buffer.len()) };
-        answered(number, ())
     }
 }
 

@@ -23,7 +23,6 @@ pub enum Error {
     Layout = 14,
     NoRoom = 15,
     Version = 16,
-    Extensions = 17,
     SetsUsedUp = 18,
     LongList = 19,
     NoClient = 20,
@@ -33,7 +32,7 @@ pub enum Error {
 }
 
 impl Error {
-    const ALL: [Error; 23] = [
+    const ALL: [Error; 22] = [
         Error::Unsound,
         Error::ClockBack,
         Error::BadIdentifier,
@@ -50,7 +49,6 @@ impl Error {
         Error::Layout,
         Error::NoRoom,
         Error::Version,
-        Error::Extensions,
         Error::SetsUsedUp,
         Error::LongList,
         Error::NoClient,
@@ -87,14 +85,19 @@ impl Error {
             Error::Layout => "a layout rule is broken",
             Error::NoRoom => "the output buffer is too short",
             Error::Version => "version not understood",
-            Error::Extensions => "extensions present",
             Error::SetsUsedUp => "set numbers used up",
             Error::LongList => "a binding list of more than 512 bytes",
             Error::NoClient => "the client is none of 0 to 7",
             Error::TooDeep => "references nested deeper than 8",
             Error::NilIdentifier => "the OXID, OID or IPID of a reference is zero",
-            Error::NoBinding => "no binding, element or property of this number",
+            Error::NoBinding => "no binding, extension, element or property of this number",
         }
+    }
+}
+
+impl From<Error> for u32 {
+    fn from(e: Error) -> u32 {
+        e.number()
     }
 }
 

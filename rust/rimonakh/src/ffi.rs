@@ -2,13 +2,17 @@
 //! length is a slice, and the slices of one call do not overlap. Types that are shared with the safe functions have the
 //! layout of the header's.
 
-use crate::{Context, Counts, OrpcThat, OrpcThis, Pinged, Property, Reference, Resolved};
+use crate::{
+    Context, Counts, Extensions, Guid, OrpcThat, OrpcThis, Pinged, Property, Reference, Resolved,
+};
 
 #[repr(C)]
 #[derive(Clone, Copy)]
 pub struct ReadThis {
     pub answer: u32,
     pub header: OrpcThis,
+    pub extensions: Extensions,
+    pub length: usize,
 }
 
 #[repr(C)]
@@ -16,6 +20,18 @@ pub struct ReadThis {
 pub struct ReadThat {
     pub answer: u32,
     pub header: OrpcThat,
+    pub extensions: Extensions,
+    pub length: usize,
+}
+
+#[repr(C)]
+#[derive(Clone, Copy)]
+pub struct Extension {
+    pub answer: u32,
+    pub pointer: u32,
+    pub id: Guid,
+    pub from: usize,
+    pub to: usize,
 }
 
 #[repr(C)]
@@ -105,6 +121,7 @@ extern "C" {
     pub fn rimonakh_wire_code(number: u32) -> u32;
 
     pub fn rimonakh_this_read(bytes: *const u8, bytes_len: usize) -> ReadThis;
+    pub fn rimonakh_this_extension(bytes: *const u8, bytes_len: usize, k: usize) -> Extension;
     pub fn rimonakh_this_write(
         minor: u16,
         flags: u32,
@@ -113,8 +130,34 @@ extern "C" {
         buffer: *mut u8,
         buffer_len: usize,
     ) -> u32;
+    pub fn rimonakh_this_write_extensions(
+        minor: u16,
+        flags: u32,
+        causality_low: u64,
+        causality_high: u64,
+        pointer: u32,
+        array: u32,
+        entries: *const u64,
+        entries_len: usize,
+        contents: *const u8,
+        contents_len: usize,
+        buffer: *mut u8,
+        buffer_len: usize,
+    ) -> Written;
     pub fn rimonakh_that_read(bytes: *const u8, bytes_len: usize) -> ReadThat;
+    pub fn rimonakh_that_extension(bytes: *const u8, bytes_len: usize, k: usize) -> Extension;
     pub fn rimonakh_that_write(flags: u32, buffer: *mut u8, buffer_len: usize) -> u32;
+    pub fn rimonakh_that_write_extensions(
+        flags: u32,
+        pointer: u32,
+        array: u32,
+        entries: *const u64,
+        entries_len: usize,
+        contents: *const u8,
+        contents_len: usize,
+        buffer: *mut u8,
+        buffer_len: usize,
+    ) -> Written;
 
     pub fn rimonakh_list_answer(bytes: *const u8, bytes_len: usize) -> u32;
     pub fn rimonakh_list_front_answer(bytes: *const u8, bytes_len: usize) -> u32;

@@ -1,13 +1,10 @@
 //! Lines of bytes in hex.
 //!
 //!     # a comment, printed as it stands
-//!     H bytes     a call header (ORPCTHIS), and what is written of it into 34 bytes
-//!     R bytes     a reply header (ORPCTHAT), and what is written of it into 10 bytes
 //!     L bytes     a binding list: its answer, the length of the list at the front, bindings 0, 1 and 2 of each part
 //!     O bytes     a reference: its fields, its tail, binding 0 of each part, and whether it is written back the same
 //!     W bytes     a reference to be written: flags, the size of the buffer, then the list or the object data
 //!     I bytes     the same, before it which identifiers are zero: OXID 1, OID 2, the halves of the IPID 4 and 8, added
-//!     M minor room    an ORPCTHIS of this minor version, and T room an ORPCTHAT, into a buffer of so many bytes
 //!     B           a list of N = 65,535 words, and the same one word short
 
 use super::{all_seen, hex, text, Answers, Arguments, Seen};
@@ -17,7 +14,7 @@ use crate::bytes::{
 use crate::decode::guid;
 use crate::model_side::Model;
 use crate::subject::Library;
-use model::bytes::{self as m, OrpcThis, Part, Reference};
+use model::bytes::{self as m, Part, Reference};
 use model::contexts::{self, Context, Property};
 use rimonakh as r;
 use std::fmt::Write;
@@ -27,10 +24,6 @@ pub type Answer<T> = Result<T, u32>;
 
 /// Readers and writers of bytes.
 pub trait Codec {
-    fn read_this(s: &[u8]) -> Answer<OrpcThis>;
-    fn write_this(h: &OrpcThis, buffer: &mut [u8]) -> Answer<()>;
-    fn read_that(s: &[u8]) -> Answer<u32>;
-    fn write_that(flags: u32, buffer: &mut [u8]) -> Answer<()>;
     fn list(s: &[u8]) -> Answer<()>;
     fn front_length(s: &[u8]) -> usize;
     fn list_binding(s: &[u8], part: Part, k: usize) -> Answer<Range<usize>>;
@@ -51,18 +44,6 @@ pub trait Codec {
 }
 
 impl Codec for Model {
-    fn read_this(s: &[u8]) -> Answer<OrpcThis> {
-        m::read_this(s)
-    }
-    fn write_this(h: &OrpcThis, buffer: &mut [u8]) -> Answer<()> {
-        m::write_this(h, buffer).map(|_| ())
-    }
-    fn read_that(s: &[u8]) -> Answer<u32> {
-        m::read_that(s)
-    }
-    fn write_that(flags: u32, buffer: &mut [u8]) -> Answer<()> {
-        m::write_that(flags, buffer).map(|_| ())
-    }
     fn list(s: &[u8]) -> Answer<()> {
         m::list(s).map(|_| ())
     }
@@ -120,32 +101,6 @@ fn place(whole: &[u8], part: &[u8]) -> Range<usize> {
 }
 
 impl Codec for Library {
-    fn read_this(s: &[u8]) -> Answer<OrpcThis> {
-        let made = |h: r::OrpcThis| OrpcThis {
-            minor: h.minor,
-            flags: h.flags,
-            causality: h.causality.0,
-        };
-        r::OrpcThis::read(s).map(made).map_err(r::Error::number)
-    }
-    fn write_this(h: &OrpcThis, buffer: &mut [u8]) -> Answer<()> {
-        let header = r::OrpcThis {
-            minor: h.minor,
-            flags: h.flags,
-            causality: r::Guid(h.causality),
-        };
-        header.write(buffer).map_err(r::Error::number)
-    }
-    fn read_that(s: &[u8]) -> Answer<u32> {
-        r::OrpcThat::read(s)
-            .map(|h| h.flags)
-            .map_err(r::Error::number)
-    }
-    fn write_that(flags: u32, buffer: &mut [u8]) -> Answer<()> {
-        r::OrpcThat { flags }
-            .write(buffer)
-            .map_err(r::Error::number)
-    }
     fn list(s: &[u8]) -> Answer<()> {
         r::list::judge(s).map_err(r::Error::number)
     }
@@ -199,15 +154,11 @@ impl Codec for Library {
 /// The answers of each reader and writer, as documents 01 and 02 list them: each occurs in the lines. `k` is binding k of a list, `K` of a
 /// reference.
 const ANSWERS: Answers = &[
-    (b'H', &[0, 13, 16, 17]),
-    (b'R', &[0, 13, 17]),
     (b'L', &[0, 13, 14]),
     (b'k', &[0, 13, 14, 24]),
     (b'O', &[0, 13, 14, 22]),
     (b'K', &[0, 13, 14, 22, 24]),
     (b'W', &[0, 14, 13, 22, 15]),
-    (b'M', &[0, 16, 15]),
-    (b'T', &[0, 15]),
 ];
 
 /// The answer number, and the results: zeros where it is refused.
@@ -222,35 +173,14 @@ pub fn run<C: Codec>(input: &[u8]) -> String {
     let mut seen = Seen::new();
     let mut out = String::new();
     for line in input.split(|b| *b == b'\n').filter(|line| !line.is_empty()) {
-        let mut a = Arguments { rest: &line[1..] };
+        let a = Arguments { rest: &line[1..] };
         match line[0] {
-            b'H' => out += &call::<C>(&a.bytes(), &mut seen),
-            b'R' => out += &reply::<C>(&a.bytes(), &mut seen),
             b'L' => out += &list::<C>(&a.bytes(), [0, 1, 2], &[0, 1, 2], &mut seen),
             b'O' => out += &reference::<C>(&a.bytes(), &mut seen),
             b'W' => out += &written::<C>(0, &a.bytes(), &mut seen),
             b'I' => {
                 let bytes = a.bytes();
                 out += &written::<C>(bytes[0], &bytes[1..], &mut seen);
-            }
-            b'M' => {
-                let (minor, mut buffer) = (a.number() as u16, vec![0xee; a.number() as usize]);
-                let mut causality = [0; 16];
-                (causality[0], causality[8]) = (1, 2);
-                let header = OrpcThis {
-                    minor,
-                    flags: 0,
-                    causality,
-                };
-                let (number, ()) = zeroed(C::write_this(&header, &mut buffer));
-                seen.insert((b'M', number));
-                out += &format!("{number} {}", hex(&buffer));
-            }
-            b'T' => {
-                let mut buffer = vec![0xee; a.number() as usize];
-                let (number, ()) = zeroed(C::write_that(1, &mut buffer));
-                seen.insert((b'T', number));
-                out += &format!("{number} {}", hex(&buffer));
             }
             b'B' => {
                 let largest = largest();
@@ -264,41 +194,6 @@ pub fn run<C: Codec>(input: &[u8]) -> String {
         out.push('\n');
     }
     all_seen(ANSWERS, &seen);
-    out
-}
-
-fn call<C: Codec>(s: &[u8], seen: &mut Seen) -> String {
-    let answer = C::read_this(s);
-    let none = OrpcThis {
-        minor: 0,
-        flags: 0,
-        causality: [0; 16],
-    };
-    let (number, h) = (answer.err().unwrap_or(0), answer.unwrap_or(none));
-    seen.insert((b'H', number));
-    let mut out = format!(
-        "{number} minor {} flags {:08x} causality {}",
-        h.minor,
-        h.flags,
-        text(&h.causality)
-    );
-    if number == 0 {
-        let mut buffer = [0xee; 34];
-        C::write_this(&h, &mut buffer).expect("room");
-        out += &format!(" written {}", hex(&buffer));
-    }
-    out
-}
-
-fn reply<C: Codec>(s: &[u8], seen: &mut Seen) -> String {
-    let (number, flags) = zeroed(C::read_that(s));
-    seen.insert((b'R', number));
-    let mut out = format!("{number} flags {flags:08x}");
-    if number == 0 {
-        let mut buffer = [0xee; 10];
-        C::write_that(flags, &mut buffer).expect("room");
-        out += &format!(" written {}", hex(&buffer));
-    }
     out
 }
 

@@ -4,6 +4,7 @@
 
 mod bytes;
 mod extended;
+mod headers;
 mod table;
 
 use crate::decode::guid;
@@ -117,7 +118,7 @@ fn stored(name: &str) -> PathBuf {
         .join(name)
 }
 
-const INPUTS: [&str; 3] = ["table", "bytes", "extended"];
+const INPUTS: [&str; 4] = ["headers", "bytes", "extended", "table"];
 
 fn printed(name: &str, input: &[u8], library: bool) -> String {
     match (name, library) {
@@ -125,6 +126,8 @@ fn printed(name: &str, input: &[u8], library: bool) -> String {
         ("table", true) => table::run::<Library>(input),
         ("extended", false) => extended::run::<Model>(input),
         ("extended", true) => extended::run::<Library>(input),
+        ("headers", false) => headers::run::<Model>(input),
+        ("headers", true) => headers::run::<Library>(input),
         (_, false) => bytes::run::<Model>(input),
         (_, true) => bytes::run::<Library>(input),
     }

@@ -1,7 +1,10 @@
 -- `OrpcThat::read`: a refusal, or the fields.
-use mathlib.Core.Path.{sym, _∙_}
+use mathlib.Core.Path.{sym, ap, _∙_}
 use borrow.Author.Tests.{eq-eqb, ne-eqb}
+use Rattle.extensions.specs.declared.Walked.{Walked}
+use Rattle.extensions.proofs.Laws.{walk-answer}
 use Rattle.headers.specs.Headers.{readThat, thatAt}
+use Rattle.headers.proofs.Laws.{that-end}
 use borrow.Author.Needs.{needs}
 use Rattle.headers.proofs.OrpcThat.read.Statement.{statement}
 use Rattle.headers.proofs.OrpcThat.read.Tie as tie
@@ -15,7 +18,7 @@ new-requires c κs = search needs
 returns : tie.Need-returns
 unfolding readThat
 returns c =
-    let number = c .before .before .judge .ensures in
+    let number = ap (λ (x : Walked). x .answer) (c .before .before .before .judge .ensures) ∙ walk-answer _ 4 in
     simp (ne-eqb _ _ (λ z. c .before .if1 .taken (number ∙ z))) (cc (number, c .new .ensures))
 
 read-u32-requires : tie.Need-read-u32-requires
@@ -24,13 +27,24 @@ read-u32-requires c κs = search needs
 new-requires-2 : tie.Need-new-requires-2
 new-requires-2 c κs = search needs
 
+read-requires : tie.Need-read-requires
+read-requires c κs = search needs
+
 returns-2 : tie.Need-returns-2
 unfolding readThat thatAt
 returns-2 c =
-    let number = c .before .before .before .judge .ensures in
-    simp (eq-eqb _ _ (sym number ∙ c .before .before .if1 .left)) (cc (c .new2 .ensures, c .before .read-u32 .ensures))
+    let number = ap (λ (x : Walked). x .answer) (c .before .before .before .before .before .judge .ensures) ∙ walk-answer _ 4 in
+    let done = sym number ∙ c .before .before .before .if1 .left in
+    simp (eq-eqb _ _ done) (cc (c .before .new2 .ensures, c .before .before .read-u32 .ensures, c .read .ensures, that-end _ _ (c .before .before .before .before .before .judge .ensures) done))
 
 pub read-spec : {M : Type 1} → statement M
 read-spec =
     tie.close
-    (tie.spec judge-requires new-requires returns read-u32-requires new-requires-2 returns-2)
+    (tie.spec
+    judge-requires
+    new-requires
+    returns
+    read-u32-requires
+    new-requires-2
+    read-requires
+    returns-2)

@@ -1,17 +1,18 @@
 -- `OrpcThat::write`: the fields are a run of writes from the front.
-use mathlib.Core.Path.{refl}
+use mathlib.Core.Path.{refl, sym, _∙_}
 use borrow.Author.Tests.{lt-ltb, le-ltb}
 use Rattle.kinds.specs.Refusals.{order}
-use Rattle.fields.specs.Fields.{encode}
 use Rattle.fields.proofs.Laws.{first-field, then-field}
-use Rattle.headers.specs.Headers.{thatBytes, thatWritten}
+use Rattle.headers.specs.Headers.{thatBytes}
+use mathlib.Core.List.{[]}
+use Rattle.headers.proofs.Laws.{plain, plain-answer, write-answer}
 use borrow.Author.Needs.{needs}
 use Rattle.headers.proofs.OrpcThat.write.Statement.{statement}
 use Rattle.headers.proofs.OrpcThat.write.Tie as tie
 
 returns : tie.Need-returns
-unfolding thatWritten order
-returns c = (simp (lt-ltb _ _ (c .if1 .taken)), refl)
+unfolding order
+returns c = (sym (write-answer 0 0 [] [] 4 _ ∙ plain-answer 4 _ ∙ simp (lt-ltb _ _ (c .if1 .taken))), refl)
 
 write-u32-requires : tie.Need-write-u32-requires
 write-u32-requires c κs = search needs
@@ -23,15 +24,11 @@ same-length : tie.Need-same-length
 same-length c = search needs
 
 returns-2 : tie.Need-returns-2
-unfolding thatWritten thatBytes order encode
+unfolding thatBytes order
 returns-2 c =
-    let pointer = c .before .before in
-    let flags = pointer .before .before .before .before in
-    let test = flags .before .before in
-    let h = test .before .before .args .self in
-    let room = test .if1 .left in
-    let run = first-field 4 (h .flags) (flags .write-u32 .ensures) in
-    (simp (le-ltb _ _ room), then-field 4 0 run room (pointer .write-u322 .ensures) .holds)
+    let room = c .before .before .before .before .before .before .before .before .if1 .left in
+    let run = first-field 4 (c .before .before .before .before .before .before .before .before .before .before .args .self .flags) (c .before .before .before .before .before .before .write-u32 .ensures) in
+    (sym (write-answer 0 0 [] [] 4 _ ∙ plain-answer 4 _ ∙ simp (le-ltb _ _ room)), rw plain (then-field 4 0 run room (c .before .before .write-u322 .ensures) .holds))
 
 pub write-spec : {M : Type 1} → statement M
 write-spec =

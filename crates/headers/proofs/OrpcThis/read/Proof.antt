@@ -2,6 +2,7 @@
 use mathlib.Core.Path.{sym, _∙_}
 use borrow.Author.Tests.{eq-eqb, ne-eqb}
 use Rattle.headers.specs.Headers.{readThis, thisAt}
+use Rattle.headers.proofs.Laws.{this-number, this-end}
 use borrow.Author.Needs.{needs}
 use Rattle.headers.proofs.OrpcThis.read.Statement.{statement}
 use Rattle.headers.proofs.OrpcThis.read.Tie as tie
@@ -15,7 +16,7 @@ new-requires c κs = search needs
 returns : tie.Need-returns
 unfolding readThis
 returns c =
-    let number = c .before .before .judge .ensures in
+    let number = this-number _ _ (c .before .before .before .judge .ensures) in
     simp (ne-eqb _ _ (λ z. c .before .if1 .taken (number ∙ z))) (cc (number, c .new .ensures))
 
 read-guid-requires : tie.Need-read-guid-requires
@@ -30,11 +31,15 @@ read-u32-requires c κs = search needs
 new-requires-2 : tie.Need-new-requires-2
 new-requires-2 c κs = search needs
 
+read-requires : tie.Need-read-requires
+read-requires c κs = search needs
+
 returns-2 : tie.Need-returns-2
 unfolding readThis thisAt
 returns-2 c =
-    let number = c .before .before .before .before .before .judge .ensures in
-    simp (eq-eqb _ _ (sym number ∙ c .before .before .before .before .if1 .left)) (cc (c .new2 .ensures, c .before .read-u32 .ensures, c .before .before .read-u16 .ensures, c .before .before .before .read-guid .ensures))
+    let number = this-number _ _ (c .before .before .before .before .before .before .before .judge .ensures) in
+    let done = sym number ∙ c .before .before .before .before .before .if1 .left in
+    simp (eq-eqb _ _ done) (cc (c .before .new2 .ensures, c .before .before .read-u32 .ensures, c .before .before .before .read-u16 .ensures, c .before .before .before .before .read-guid .ensures, c .read .ensures, this-end _ _ (c .before .before .before .before .before .before .before .judge .ensures) done))
 
 pub read-spec : {M : Type 1} → statement M
 read-spec =
@@ -47,4 +52,5 @@ read-spec =
     read-u16-requires
     read-u32-requires
     new-requires-2
+    read-requires
     returns-2)

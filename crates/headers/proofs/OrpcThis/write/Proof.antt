@@ -1,11 +1,10 @@
 -- `OrpcThis::write`: the fields are a run of writes from the front.
 use mathlib.Core.Path.{refl}
-use native.Mathlib.Omega.{arith}
 use borrow.Author.Tests.{lt-ltb, le-ltb}
 use Rattle.kinds.specs.Refusals.{order}
-use Rattle.fields.specs.Fields.{encode}
-use Rattle.fields.proofs.Laws.{first-field, then-field, then-guid}
-use Rattle.headers.specs.Headers.{thisBytes, thisWritten}
+use Rattle.fields.proofs.Laws.{first-bytes, then-field}
+use Rattle.headers.specs.Headers.{thisFront, thisBytes, thisWritten}
+use Rattle.headers.proofs.Laws.{plain, plain-answer, length-front}
 use borrow.Author.Needs.{needs}
 use Rattle.headers.proofs.OrpcThis.write.Statement.{statement}
 use Rattle.headers.proofs.OrpcThis.write.Tie as tie
@@ -16,60 +15,26 @@ returns c = (simp (lt-ltb _ _ (c .if1 .taken)), refl)
 
 returns-2 : tie.Need-returns-2
 unfolding thisWritten order
-returns-2 c = (simp (le-ltb _ _ (c .before .if1 .left), lt-ltb _ _ (c .if2 .taken)), refl)
+returns-2 c = (simp (le-ltb _ _ (c .before .if1 .left), plain-answer, lt-ltb _ _ (c .if2 .taken)), refl)
 
-write-u16-requires : tie.Need-write-u16-requires
-write-u16-requires c κs = search needs
-
-write-u16-requires-2 : tie.Need-write-u16-requires-2
-write-u16-requires-2 c κs = search needs
+write-front-requires : tie.Need-write-front-requires
+write-front-requires c κs = search needs
 
 write-u32-requires : tie.Need-write-u32-requires
 write-u32-requires c κs = search needs
-
-write-u32-requires-2 : tie.Need-write-u32-requires-2
-write-u32-requires-2 c κs = search needs
-
-write-guid-requires : tie.Need-write-guid-requires
-write-guid-requires c κs = search needs
-
-write-u32-requires-3 : tie.Need-write-u32-requires-3
-write-u32-requires-3 c κs = search needs
 
 same-length : tie.Need-same-length
 same-length c = search needs
 
 returns-3 : tie.Need-returns-3
-unfolding thisWritten thisBytes order encode
+unfolding thisWritten thisBytes order
 returns-3 c =
-    let pointer = c .before .before in
-    let causality = pointer .before .before .before .before in
-    let reserved = causality .before .before .before .before .before in
-    let flags = reserved .before .before .before .before in
-    let minor = flags .before .before .before .before in
-    let major = minor .before .before .before .before in
-    let tests = major .before .before in
-    let h = tests .before .before .before .args .self in
-    let room = tests .if2 .left in
-    let run = first-field 2 5 (major .write-u16 .ensures) in
-    let run2 = then-field 2 (h .minor) run (omega arith) (minor .write-u162 .ensures) in
-    let run3 = then-field 4 (h .flags) run2 (omega arith) (flags .write-u32 .ensures) in
-    let run4 = then-field 4 0 run3 (omega arith) (reserved .write-u322 .ensures) in
-    let run5 = then-guid (h .causality) run4 (omega arith) (causality .write-guid .ensures) in
-    let run6 = then-field 4 0 run5 (omega arith) (pointer .write-u323 .ensures) in
-    (simp (le-ltb _ _ (tests .before .if1 .left), le-ltb _ _ room), run6 .holds)
+    let h = c .before .before .before .before .before .before .before .before .before .before .before .before .args .self in
+    let room = c .before .before .before .before .before .before .before .before .if2 .left in
+    let run = first-bytes (thisFront 0 h) 28 (length-front 0 h) (c .before .before .before .before .before .before .write-front .ensures) in
+    (simp (le-ltb _ _ (c .before .before .before .before .before .before .before .before .before .if1 .left), plain-answer, le-ltb _ _ room), rw plain (then-field 4 0 run room (c .before .before .write-u32 .ensures) .holds))
 
 pub write-spec : {M : Type 1} → statement M
 write-spec =
     tie.close
-    (tie.spec
-    returns
-    returns-2
-    write-u16-requires
-    write-u16-requires-2
-    write-u32-requires
-    write-u32-requires-2
-    write-guid-requires
-    write-u32-requires-3
-    same-length
-    returns-3)
+    (tie.spec returns returns-2 write-front-requires write-u32-requires same-length returns-3)

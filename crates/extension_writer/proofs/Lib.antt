@@ -1,0 +1,4 @@
+pub mod Writes
+pub mod Forward
+pub mod Same
+pub mod Words

@@ -1,0 +1,184 @@
+use borrow.Author.Needs.{needs}
+-- `extensions::put_extents`: the extensions that are left, written from the next place on, give all.
+use Prim.Native.Nat.{ℕ, _+_, _-_, _*_, _/_, _<_, _≤_}
+use mathlib.Core.Path.{_≡_, refl, sym, ap, _∙_}
+use mathlib.Core.Bool.{true}
+use mathlib.Core.List.{List}
+use native.Mathlib.Omega.{arith}
+use lib.ListN.{length, getD, drop}
+use Rattle.fields.specs.Fields.{written}
+use Rattle.fields.proofs.Laws.{written-none, length-written}
+use Rattle.extensions.specs.Extensions.{eights, extentsBytes}
+use Rattle.extension_writer.specs.Writing.{described, sizes, wordsWritable, extentsLength}
+use Rattle.extension_writer.proofs.Writes.{entry, words-first, sizes-more, length-more, part-length, extents-next, described-none}
+use Rattle.extension_writer.proofs.put_extents.Statement.{statement}
+use Rattle.extension_writer.proofs.put_extents.Tie as tie
+
+abbrev Inv-loop : tie.InvT-loop
+Inv-loop buf₀ at entries contents i₀ left₀ to₀ from₀ buf i left to from =
+    (i + 4 * left ≤ length entries)
+    × (wordsWritable entries i left ≡ true)
+    × (length buf ≡ length buf₀)
+    × (from + sizes entries i left ≤ length contents)
+    × (to + extentsLength entries i left ≤ length buf)
+    × (written buf to (extentsBytes (described entries (drop from contents) i left)) ≡ written buf₀ at (extentsBytes (described entries contents 0 (length entries / 4))))
+
+abbrev μ-loop : tie.MeasureT-loop
+μ-loop buf₀ at entries contents i₀ left₀ to₀ from₀ buf i left to from = left
+
+loop-holds : tie.Need-loop-holds Inv-loop μ-loop
+loop-holds c =
+    let p = c .before .before .before .pre in
+    (omega arith, p .1, refl, omega arith, p .2, refl)
+
+-- what the next entry says, and its share of what is left
+record Next (ws d b : List ℕ) (i left from to : ℕ) : Type 0 where
+  fit : getD ws (i + 3) 0 ≤ 4294967288
+  sizes : getD ws (i + 3) 0 + sizes ws (i + 4) (left - 1) + from ≤ length d
+  room : to + 24 + eights (getD ws (i + 3) 0) + extentsLength ws (i + 4) (left - 1) ≤ length b
+
+next : (c : tie.In-loop Inv-loop μ-loop) → Next (c .before .before .before .before .before .args .entries .now) (c .before .before .before .before .before .args .contents .now) (c .before .loop .buf) (c .before .loop .i) (c .before .loop .left) (c .before .loop .from) (c .before .loop .to)
+next c =
+    let l = c .before .loop in
+    let ws = c .before .before .before .before .before .args .entries .now in
+    let some : 0 < l .left = omega arith in
+    let s = sizes-more ws (l .i) (l .left) some in
+    let m = length-more ws (l .i) (l .left) some in
+    record {
+      fit = entry _ _ (words-first ws (l .i) (l .left) some (l .inv .1) .0) .fit;
+      sizes = omega arith;
+      room = omega arith;
+    }
+
+add-size : tie.Need-add-size Inv-loop μ-loop
+add-size c = omega arith
+
+mul-size : tie.Need-mul-size Inv-loop μ-loop
+mul-size c = omega arith
+
+shared-slice-read-size : tie.Need-shared-slice-read-size Inv-loop μ-loop
+shared-slice-read-size c = omega arith
+
+mul-put-extent : tie.Need-mul-put-extent Inv-loop μ-loop
+mul-put-extent c = omega arith
+
+shared-slice-read-put-extent : tie.Need-shared-slice-read-put-extent Inv-loop μ-loop
+shared-slice-read-put-extent c = omega arith
+
+add-put-extent : tie.Need-add-put-extent Inv-loop μ-loop
+add-put-extent c = omega arith
+
+mul-put-extent-2 : tie.Need-mul-put-extent-2 Inv-loop μ-loop
+mul-put-extent-2 c = omega arith
+
+shared-slice-read-put-extent-2 : tie.Need-shared-slice-read-put-extent-2 Inv-loop μ-loop
+shared-slice-read-put-extent-2 c = omega arith
+
+add-put-extent-2 : tie.Need-add-put-extent-2 Inv-loop μ-loop
+add-put-extent-2 c = let h = next (c .before .before .before .before) in omega (arith, h .sizes)
+
+sub-put-extent : tie.Need-sub-put-extent Inv-loop μ-loop
+sub-put-extent c = omega arith
+
+part-put-extent-start : tie.Need-part-put-extent-start Inv-loop μ-loop
+part-put-extent-start c = omega arith
+
+part-put-extent-end : tie.Need-part-put-extent-end Inv-loop μ-loop
+part-put-extent-end c = let h = next (c .before .before .before .before) in omega (arith, h .sizes)
+
+put-extent-requires : tie.Need-put-extent-requires Inv-loop μ-loop
+put-extent-requires c κs =
+    let h = next (c .before .before .before .before .before) in
+    let l = c .before .before .before .before .before .before .loop in
+    let k = part-length (c .before .before .before .before .before .before .before .before .before .before .args .contents .now) (l .from) (getD (c .before .before .before .before .before .before .before .before .before .before .args .entries .now) (l .i + 3) 0) (omega (arith, h .sizes)) in
+    let fit = h .fit in
+    let room = h .room in
+    (rw k fit, rw k (omega arith))
+
+cast-rounded : tie.Need-cast-rounded Inv-loop μ-loop
+cast-rounded c = let h = next (c .before .before .before .before .before .before .before .before) in omega (arith, h .fit)
+
+rounded-requires : tie.Need-rounded-requires Inv-loop μ-loop
+rounded-requires c κs = search needs
+
+whole : (c : tie.After-rounded Inv-loop μ-loop) → c .rounded .result ≡ eights (getD (c .before .before .before .before .before .before .before .before .before .before .before .before .before .before .args .entries .now) (c .before .before .before .before .before .before .before .before .before .before .loop .i + 3) 0)
+whole c = c .rounded .ensures
+
+add-to : tie.Need-add-to Inv-loop μ-loop
+add-to c = let h = next (c .before .before .before .before .before .before .before .before .before) in omega (arith, h .fit, whole c)
+
+add-to-2 : tie.Need-add-to-2 Inv-loop μ-loop
+add-to-2 c = let h = next (c .before .before .before .before .before .before .before .before .before) in omega (arith, h .room, whole c)
+
+add-from : tie.Need-add-from Inv-loop μ-loop
+add-from c = let h = next (c .before .before .before .before .before .before .before .before .before) in omega (arith, h .sizes)
+
+add-i : tie.Need-add-i Inv-loop μ-loop
+add-i c = omega arith
+
+sub-left : tie.Need-sub-left Inv-loop μ-loop
+sub-left c = omega arith
+
+loop-less : tie.Need-loop-less Inv-loop μ-loop
+loop-less c = omega arith
+
+loop-again : tie.Need-loop-again Inv-loop μ-loop
+loop-again c =
+    let l = c .before .before .before .before .before .before .before .before .before .before .loop in
+    let a = c .before .before .before .before .before .before .before .before .before .before .before .before .before .before .args in
+    let ws = a .entries .now in
+    let h = next (c .before .before .before .before .before .before .before .before .before) in
+    let hs = h .sizes in
+    let hr = h .room in
+    let w = whole c in
+    let e = c .before .before .before .put-extent .ensures in
+    let same : length (c .before .before .before .put-extent .last .0) ≡ length (l .buf) = ap length e ∙ length-written _ _ _ in (
+      omega arith,
+      words-first ws (l .i) (l .left) (omega arith) (l .inv .1) .1,
+      same ∙ l .inv .2,
+      omega arith,
+      omega arith,
+      rw (e, w) (extents-next (l .buf) ws (a .contents .now) (l .to) (l .from) (l .i) (l .left) (omega arith) (l .inv .3) (l .inv .4)) ∙ l .inv .5,
+    )
+
+same-length : tie.Need-same-length Inv-loop μ-loop
+same-length c = c .before .loop .inv .2
+
+returns : tie.Need-returns Inv-loop μ-loop
+unfolding extentsBytes
+returns c =
+    let l = c .before .loop in
+    let none = described-none (c .before .before .before .before .before .args .entries .now) (drop (l .from) (c .before .before .before .before .before .args .contents .now)) (l .i) (l .left) (omega arith) in
+    sym (written-none (l .buf) (l .to)) ∙ (rw none at (l .inv .5))
+
+pub put-extents-spec : {M : Type 1} → statement M
+put-extents-spec =
+    tie.close
+    (tie.spec
+    Inv-loop
+    μ-loop
+    loop-holds
+    add-size
+    mul-size
+    shared-slice-read-size
+    mul-put-extent
+    shared-slice-read-put-extent
+    add-put-extent
+    mul-put-extent-2
+    shared-slice-read-put-extent-2
+    add-put-extent-2
+    sub-put-extent
+    part-put-extent-start
+    part-put-extent-end
+    put-extent-requires
+    cast-rounded
+    rounded-requires
+    add-to
+    add-to-2
+    add-from
+    add-i
+    sub-left
+    loop-less
+    loop-again
+    same-length
+    returns)

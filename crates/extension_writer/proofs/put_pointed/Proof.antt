@@ -1,0 +1,111 @@
+-- `extensions::put_pointed`: the count, the pointers, the zeros and the extensions are a run of writes.
+use Prim.Native.Nat.{ℕ, _+_, _-_, _*_, _/_}
+use mathlib.Core.Path.{_≡_, ap, _∙_}
+use mathlib.Core.List.{[], append-assoc}
+use native.Mathlib.Omega.{arith}
+use lib.ListN.{length, length-replicate}
+use Rattle.fields.proofs.Laws.{first-field, then-bytes}
+use Rattle.extensions.specs.Extensions.{pairs, zeros, pointersBytes, extentsBytes, pointedBytes}
+use Rattle.extension_writer.specs.Writing.{described, extentsLength}
+use Rattle.extension_writer.proofs.Writes.{length-described, length-pointers, length-extents, pointers-described}
+use borrow.Author.Needs.{needs}
+use Rattle.extension_writer.proofs.put_pointed.Statement.{statement}
+use Rattle.extension_writer.proofs.put_pointed.Tie as tie
+
+cast-paired : tie.Need-cast-paired
+cast-paired c = search needs
+
+paired-requires : tie.Need-paired-requires
+paired-requires c κs = search needs
+
+cast-write-u32 : tie.Need-cast-write-u32
+cast-write-u32 c = search needs
+
+write-u32-requires : tie.Need-write-u32-requires
+write-u32-requires c κs = search needs
+
+add-put-pointers : tie.Need-add-put-pointers
+add-put-pointers c = search needs
+
+put-pointers-requires : tie.Need-put-pointers-requires
+put-pointers-requires c κs = search needs
+
+add-clear : tie.Need-add-clear
+add-clear c = search needs
+
+mul-clear : tie.Need-mul-clear
+mul-clear c = search needs
+
+add-clear-2 : tie.Need-add-clear-2
+add-clear-2 c = search needs
+
+sub-clear : tie.Need-sub-clear
+sub-clear c = search needs
+
+mul-clear-2 : tie.Need-mul-clear-2
+mul-clear-2 c = search needs
+
+clear-requires : tie.Need-clear-requires
+clear-requires c κs = search needs
+
+add-put-extents : tie.Need-add-put-extents
+add-put-extents c = search needs
+
+mul-put-extents : tie.Need-mul-put-extents
+mul-put-extents c = search needs
+
+add-put-extents-2 : tie.Need-add-put-extents-2
+add-put-extents-2 c = search needs
+
+put-extents-requires : tie.Need-put-extents-requires
+put-extents-requires c κs = search needs
+
+same-length : tie.Need-same-length
+same-length c = search needs
+
+returns : tie.Need-returns
+unfolding pointedBytes
+returns c =
+    let a = c .before .before .before .before .before .before .before .before .before .before .before .before .before .before .before .before .before .before .before .before .args in
+    let b = a .buf .now in
+    let ws = a .entries .now in
+    let d = a .contents .now in
+    let n = length ws / 4 in
+    let all = c .before .before .before .before .before .before .before .before .before .before .before .before .before .before .before .before .paired .result in
+    let same : all ≡ pairs n = c .before .before .before .before .before .before .before .before .before .before .before .before .before .before .before .before .paired .ensures in
+    let p = c .before .before .before .before .before .before .before .before .before .before .before .before .before .before .before .before .before .before .before .before .pre in
+    let room = p .3 in
+    let ps = pointersBytes (described ws [] 0 n) in
+    let es = extentsBytes (described ws d 0 n) in
+    let many : length ps ≡ 4 * n = length-pointers (described ws [] 0 n) ∙ ap (λ (x : ℕ). 4 * x) (length-described ws [] 0 n) in
+    let long : length es ≡ extentsLength ws 0 n = length-extents ws d 0 n (p .1) in
+    let run = first-field 4 all (c .before .before .before .before .before .before .before .before .before .before .before .before .before .before .write-u32 .ensures) in
+    let run2 = then-bytes ps (4 * n) run many (omega arith) (c .before .before .before .before .before .before .before .before .before .before .put-pointers .ensures) in
+    let place : a .at + 4 + 4 * n ≡ a .at + (4 + 4 * n) = omega arith in
+    let run3 = then-bytes (zeros (4 * (all - n))) (4 * (all - n)) run2 (length-replicate {A = ℕ} (4 * (all - n)) 0) (omega arith) (rw place at (c .before .before .before .before .before .before .clear .ensures)) in
+    let last : a .at + 4 + 4 * all ≡ a .at + (4 + 4 * n + 4 * (all - n)) = omega arith in
+    let run4 = then-bytes es (extentsLength ws 0 n) run3 long (omega arith) (rw last at (c .before .before .put-extents .ensures)) in
+    run4 .holds ∙ (rw (length-described ws d 0 n, pointers-described ws d [] 0 n, same) (simp append-assoc))
+
+pub put-pointed-spec : {M : Type 1} → statement M
+put-pointed-spec =
+    tie.close
+    (tie.spec
+    cast-paired
+    paired-requires
+    cast-write-u32
+    write-u32-requires
+    add-put-pointers
+    put-pointers-requires
+    add-clear
+    mul-clear
+    add-clear-2
+    sub-clear
+    mul-clear-2
+    clear-requires
+    add-put-extents
+    mul-put-extents
+    add-put-extents-2
+    put-extents-requires
+    same-length
+    returns)

@@ -1,0 +1,81 @@
+-- `extensions::write`: 14, then 15, then the array.
+use Prim.Native.Nat.{_+_, _≤_, _<_}
+use mathlib.Core.Path.{_≡_, refl, sym, _∙_}
+use mathlib.Core.Bool.{true}
+use native.Mathlib.Omega.{arith}
+use borrow.Author.Tests.{not-true, not-false, leb-true, leb-false}
+use lib.ListN.{length}
+use Rattle.extension_writer.specs.Writing.{takes, arrayLength}
+use Rattle.extension_writer.proofs.Writes.{Good, good, writing-refused, writing-short, writing-done}
+use borrow.Author.Needs.{needs}
+use Rattle.extension_writer.proofs.write.Statement.{statement}
+use Rattle.extension_writer.proofs.write.Tie as tie
+
+takes-requires : tie.Need-takes-requires
+takes-requires c κs = search needs
+
+returns : tie.Need-returns
+returns c =
+    let a = c .before .before .before .before .before .args in
+    let no = sym (c .before .takes .ensures) ∙ not-true _ (c .if1 .taken) in
+    (sym (writing-refused (a .pointer) (a .array) (a .entries .now) (a .contents .now) (a .at) (length (a .buf .now)) no), refl)
+
+able : (c : tie.Else1) → takes (c .before .before .before .before .before .args .pointer) (c .before .before .before .before .before .args .array) (c .before .before .before .before .before .args .entries .now) (c .before .before .before .before .before .args .contents .now) ≡ true
+able c = sym (c .before .takes .ensures) ∙ not-false _ (c .if1 .left)
+
+fine : (c : tie.Else1) → Good (c .before .before .before .before .before .args .entries .now) (c .before .before .before .before .before .args .contents .now)
+fine c = good _ _ _ _ (able c)
+
+array-length-requires : tie.Need-array-length-requires
+array-length-requires c κs = let g = fine c in (g .few, g .words)
+
+inside-requires : tie.Need-inside-requires
+inside-requires c κs = search needs
+
+returns-2 : tie.Need-returns-2
+returns-2 c =
+    let a = c .before .before .before .before .before .before .before .before .args in
+    let l : length (a .buf .now) < a .at + c .before .before .array-length .result = leb-false _ _ (sym (c .before .inside .ensures) ∙ not-true _ (c .if2 .taken)) in
+    let n = c .before .before .array-length .ensures in
+    (sym (writing-short (a .pointer) (a .array) (a .entries .now) (a .contents .now) (a .at) (length (a .buf .now)) (able (c .before .before .before)) (rw n at l)), refl)
+
+room : (c : tie.Else2) → c .before .before .before .before .before .before .before .before .args .at + arrayLength (c .before .before .before .before .before .before .before .before .args .pointer) (c .before .before .before .before .before .before .before .before .args .array) (c .before .before .before .before .before .before .before .before .args .entries .now) ≤ length (c .before .before .before .before .before .before .before .before .args .buf .now)
+room c =
+    let l : c .before .before .before .before .before .before .before .before .args .at + c .before .before .array-length .result ≤ length (c .before .before .before .before .before .before .before .before .args .buf .now) = leb-true _ _ (sym (c .before .inside .ensures) ∙ not-false _ (c .if2 .left)) in
+    let n = c .before .before .array-length .ensures in
+    rw n at l
+
+put-array-requires : tie.Need-put-array-requires
+put-array-requires c κs =
+    let g = fine (c .before .before .before .before) in
+    let sum = g .sum in
+    (g .few, omega arith, g .words, room (c .before))
+
+add-t10 : tie.Need-add-t10
+add-t10 c =
+    let r = room (c .before .before .before .before) in
+    let n = c .before .before .before .before .before .before .array-length .ensures in
+    omega arith
+
+same-length : tie.Need-same-length
+same-length c = search needs
+
+returns-3 : tie.Need-returns-3
+returns-3 c =
+    let a = c .before .before .before .before .before .before .before .before .before .before .before .before .args in
+    let n = c .before .before .before .before .before .before .array-length .ensures in
+    (rw n (sym (writing-done (a .pointer) (a .array) (a .entries .now) (a .contents .now) (a .at) (length (a .buf .now)) (able (c .before .before .before .before .before .before .before)) (room (c .before .before .before .before)))), c .before .before .put-array .ensures)
+
+pub write-spec : {M : Type 1} → statement M
+write-spec =
+    tie.close
+    (tie.spec
+    takes-requires
+    returns
+    array-length-requires
+    inside-requires
+    returns-2
+    put-array-requires
+    add-t10
+    same-length
+    returns-3)

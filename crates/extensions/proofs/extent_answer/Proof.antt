@@ -1,0 +1,123 @@
+-- `extensions::extent_answer`: the rows of `extentAnswer`.
+use Prim.Native.Nat.{_+_, _≤_}
+use mathlib.Core.Path.{_≡_, sym, ap, _∙_}
+use mathlib.Core.Bool.{true}
+use native.Mathlib.Omega.{arith}
+use borrow.Author.Tests.{leb-true, not-true, not-false}
+use borrow.Author.Needs.{needs}
+use lib.Dec.{leb}
+use lib.ListN.{length}
+use Rattle.fields.specs.Fields.{field}
+use Rattle.extensions.specs.Extensions.{eights, sizeAt}
+use Rattle.extensions.proofs.Laws.{extent-short, extent-sizes, extent-cut, extent-rest}
+use Rattle.extensions.proofs.extent_answer.Statement.{statement}
+use Rattle.extensions.proofs.extent_answer.Tie as tie
+
+inside-requires : tie.Need-inside-requires
+inside-requires c κs = search needs
+
+returns : tie.Need-returns
+returns c = sym (extent-short (c .before .before .before .args .s .now) (c .before .before .before .args .at) (sym (c .before .inside .ensures) ∙ not-true _ (c .if1 .taken)))
+
+fixed : (c : tie.Else1) → leb (c .before .before .before .args .at + 24) (length (c .before .before .before .args .s .now)) ≡ true
+fixed c = sym (c .before .inside .ensures) ∙ not-false _ (c .if1 .left)
+
+room : (c : tie.Else1) → c .before .before .before .args .at + 24 ≤ length (c .before .before .before .args .s .now)
+room c = leb-true _ _ (fixed c)
+
+add-read-u32 : tie.Need-add-read-u32
+add-read-u32 c = omega (arith, room c)
+
+read-u32-requires : tie.Need-read-u32-requires
+read-u32-requires c κs = search needs
+
+rounded-requires : tie.Need-rounded-requires
+rounded-requires c κs = search needs
+
+read-u32-requires-2 : tie.Need-read-u32-requires-2
+read-u32-requires-2 c κs = search needs
+
+cast-if2 : tie.Need-cast-if2
+cast-if2 c = search needs
+
+whole : (c : tie.After-rounded) → c .rounded .result ≡ eights (sizeAt (c .before .before .before .before .before .args .s .now) (c .before .before .before .before .before .args .at))
+whole c = c .rounded .ensures ∙ ap eights (c .before .read-u32 .ensures)
+
+returns-2 : tie.Need-returns-2
+returns-2 c =
+    sym (extent-sizes (c .before .before .before .before .before .before .before .args .s .now) (c .before .before .before .before .before .before .before .args .at) (fixed (c .before .before .before .before)) (λ z. c .if2 .taken (c .before .read-u322 .ensures ∙ z ∙ sym (whole (c .before .before)))))
+
+sizes : (c : tie.Else2) → field (c .before .before .before .before .before .before .before .args .s .now) (c .before .before .before .before .before .before .before .args .at) 4 ≡ eights (sizeAt (c .before .before .before .before .before .before .before .args .s .now) (c .before .before .before .before .before .before .before .args .at))
+sizes c = sym (c .before .read-u322 .ensures) ∙ c .if2 .left ∙ whole (c .before .before)
+
+add-inside : tie.Need-add-inside
+add-inside c = omega (arith, room (c .before .before .before .before))
+
+cast-inside : tie.Need-cast-inside
+cast-inside c = search needs
+
+inside-requires-2 : tie.Need-inside-requires-2
+inside-requires-2 c κs = search needs
+
+returns-3 : tie.Need-returns-3
+returns-3 c =
+    let a = c .before .before .before .before .before .before .before .before .before .args in
+    let e = rw (c .before .before .before .before .before .read-u32 .ensures) at (c .before .inside2 .ensures) in
+    sym (extent-cut (a .s .now) (a .at) (fixed (c .before .before .before .before .before .before)) (sizes (c .before .before)) (sym e ∙ not-true _ (c .if3 .taken)))
+
+content : (c : tie.Else3) → leb (c .before .before .before .before .before .before .before .before .before .args .at + 24 + sizeAt (c .before .before .before .before .before .before .before .before .before .args .s .now) (c .before .before .before .before .before .before .before .before .before .args .at)) (length (c .before .before .before .before .before .before .before .before .before .args .s .now)) ≡ true
+content c =
+    let e = rw (c .before .before .before .before .before .read-u32 .ensures) at (c .before .inside2 .ensures) in
+    sym e ∙ not-false _ (c .if3 .left)
+
+add-padding-answer : tie.Need-add-padding-answer
+add-padding-answer c = omega (arith, room (c .before .before .before .before .before .before))
+
+cast-padding-answer : tie.Need-cast-padding-answer
+cast-padding-answer c = search needs
+
+add-padding-answer-2 : tie.Need-add-padding-answer-2
+add-padding-answer-2 c =
+    let a = c .before .before .before .before .before .before .before .before .before .args in
+    let size = c .before .before .before .before .before .read-u32 .ensures in
+    let h : a .at + 24 + sizeAt (a .s .now) (a .at) ≤ length (a .s .now) = leb-true _ _ (content c) in
+    omega arith
+
+cast-padding-answer-2 : tie.Need-cast-padding-answer-2
+cast-padding-answer-2 c = search needs
+
+sub-padding-answer : tie.Need-sub-padding-answer
+sub-padding-answer c = search needs
+
+padding-answer-requires : tie.Need-padding-answer-requires
+padding-answer-requires c κs = search needs
+
+returns-4 : tie.Need-returns-4
+returns-4 c =
+    let a = c .before .before .before .before .before .before .before .before .before .before .args in
+    let e = rw (whole (c .before .before .before .before .before), c .before .before .before .before .before .before .read-u32 .ensures) at (c .padding-answer .ensures) in
+    e ∙ sym (extent-rest (a .s .now) (a .at) (fixed (c .before .before .before .before .before .before .before)) (sizes (c .before .before .before)) (content (c .before)))
+
+pub extent-answer-spec : {M : Type 1} → statement M
+extent-answer-spec =
+    tie.close
+    (tie.spec
+    inside-requires
+    returns
+    add-read-u32
+    read-u32-requires
+    rounded-requires
+    read-u32-requires-2
+    cast-if2
+    returns-2
+    add-inside
+    cast-inside
+    inside-requires-2
+    returns-3
+    add-padding-answer
+    cast-padding-answer
+    add-padding-answer-2
+    cast-padding-answer-2
+    sub-padding-answer
+    padding-answer-requires
+    returns-4)

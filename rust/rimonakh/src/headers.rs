@@ -1,0 +1,209 @@
+//! Call headers with their extensions.
+//!
+//! ```
+//! use rimonakh::{Error, Extension, Guid, OrpcThat};
+//!
+//! // a reply's header with one extension, error information
+//! let id = Guid::new(0x31c, 0, 0, [0xc0, 0, 0, 0, 0, 0, 0, 0x46]);
+//! let sent = [Extension { id, pointer: 0x20008, data: b"level" }];
+//! let mut reply = [0; 128];
+//! let length = OrpcThat { flags: 0 }.write_with(0x20000, 0x20004, &sent, &mut reply)?;
+//!
+//! let read = OrpcThat::read(&reply)?;
+//! assert_eq!((read.extensions.count, read.length), (1, length));
+//! assert_eq!(OrpcThat::extension(&reply, 0)?, sent[0]);
+//! assert_eq!(OrpcThat::extension(&reply, 1), Err(Error::NoBinding));
+//! # Ok::<(), Error>(())
+//! ```
+
+use crate::error::answered;
+use crate::{ffi, Guid, Result};
+
+/// What a header says of its extensions: its pointer to their array, the array's pointer, and how many there are.
+#[repr(C)]
+#[derive(Clone, Copy, Debug, Default, PartialEq, Eq)]
+pub struct Extensions {
+    pub pointer: u32,
+    pub array: u32,
+    pub count: u32,
+}
+
+/// One extension: its id, its pointer number, which is not 0, and its data without padding.
+#[derive(Clone, Copy, Debug, PartialEq, Eq)]
+pub struct Extension<'a> {
+    pub id: Guid,
+    pub pointer: u32,
+    pub data: &'a [u8],
+}
+
+/// A header that was read, what it says of its extensions, and its length: the call's own bytes follow.
+#[derive(Clone, Copy, Debug, PartialEq, Eq)]
+pub struct Read<H> {
+    pub header: H,
+    pub extensions: Extensions,
+    pub length: usize,
+}
+
+impl ffi::Extension {
+    fn shown(self, bytes: &[u8]) -> Result<Extension<'_>> {
+        let place = answered(self.answer, self.from..self.to)?;
+        Ok(Extension {
+            id: self.id,
+            pointer: self.pointer,
+            data: &bytes[place],
+        })
+    }
+}
+
+/// The words and the data of extensions, as the archive takes them.
+fn lent(extensions: &[Extension]) -> (Vec<u64>, Vec<u8>) {
+    let words = |e: &Extension| {
+        let (low, high) = e.id.halves();
+        [low, high, e.pointer.into(), e.data.len() as u64]
+    };
+    let contents = extensions.iter().flat_map(|e| e.data).copied();
+    (
+        extensions.iter().flat_map(words).collect(),
+        contents.collect(),
+    )
+}
+
+/// The header of a call. Its major version is 5.
+#[repr(C)]
+#[derive(Clone, Copy, Debug, PartialEq, Eq)]
+pub struct OrpcThis {
+    pub minor: u16,
+    pub flags: u32,
+    pub causality: Guid,
+}
+
+impl OrpcThis {
+    /// The size of a header without extensions.
+    pub const SIZE: usize = 32;
+
+    /// Reads the header at the front of `bytes`.
+    pub fn read(bytes: &[u8]) -> Result<Read<OrpcThis>> {
+        // SAFETY: pointer and length are of one slice.
+        let r = unsafe { ffi::rimonakh_this_read(bytes.as_ptr(), bytes.len()) };
+        let read = Read {
+            header: r.header,
+            extensions: r.extensions,
+            length: r.length,
+        };
+        answered(r.answer, read)
+    }
+
+    /// Extension `k` of the header at the front of `bytes`.
+    pub fn extension(bytes: &[u8], k: usize) -> Result<Extension<'_>> {
+        // SAFETY: pointer and length are of one slice.
+        let r = unsafe { ffi::rimonakh_this_extension(bytes.as_ptr(), bytes.len(), k) };
+        r.shown(bytes)
+    }
+
+    /// Writes the header without extensions at the front of `buffer` and keeps the rest.
+    pub fn write(&self, buffer: &mut [u8]) -> Result<()> {
+        let (low, high) = self.causality.halves();
+        let (at, len) = (buffer.as_mut_ptr(), buffer.len());
+        // SAFETY: pointer and length are of one slice.
+        let number =
+            unsafe { ffi::rimonakh_this_write(self.minor, self.flags, low, high, at, len) };
+        answered(number, ())
+    }
+
+    /// Writes the header with extensions at the front of `buffer` and keeps the rest: the header's pointer, the array's, and at most
+    /// 32 extensions. Answers the length.
+    pub fn write_with(
+        &self,
+        pointer: u32,
+        array: u32,
+        extensions: &[Extension],
+        buffer: &mut [u8],
+    ) -> Result<usize> {
+        let (low, high) = self.causality.halves();
+        let (entries, contents) = lent(extensions);
+        // SAFETY: each pointer and length are of one slice, and the slices do not overlap.
+        let r = unsafe {
+            ffi::rimonakh_this_write_extensions(
+                self.minor,
+                self.flags,
+                low,
+                high,
+                pointer,
+                array,
+                entries.as_ptr(),
+                entries.len(),
+                contents.as_ptr(),
+                contents.len(),
+                buffer.as_mut_ptr(),
+                buffer.len(),
+            )
+        };
+        answered(r.answer, r.length)
+    }
+}
+
+/// The header of a reply.
+#[repr(C)]
+#[derive(Clone, Copy, Debug, PartialEq, Eq)]
+pub struct OrpcThat {
+    pub flags: u32,
+}
+
+impl OrpcThat {
+    /// The size of a header without extensions.
+    pub const SIZE: usize = 8;
+
+    /// Reads the header at the front of `bytes`.
+    pub fn read(bytes: &[u8]) -> Result<Read<OrpcThat>> {
+        // SAFETY: pointer and length are of one slice.
+        let r = unsafe { ffi::rimonakh_that_read(bytes.as_ptr(), bytes.len()) };
+        let read = Read {
+            header: r.header,
+            extensions: r.extensions,
+            length: r.length,
+        };
+        answered(r.answer, read)
+    }
+
+    /// Extension `k` of the header at the front of `bytes`.
+    pub fn extension(bytes: &[u8], k: usize) -> Result<Extension<'_>> {
+        // SAFETY: pointer and length are of one slice.
+        let r = unsafe { ffi::rimonakh_that_extension(bytes.as_ptr(), bytes.len(), k) };
+        r.shown(bytes)
+    }
+
+    /// Writes the header without extensions at the front of `buffer` and keeps the rest.
+    pub fn write(&self, buffer: &mut [u8]) -> Result<()> {
+        // SAFETY: pointer and length are of one slice.
+        let number =
+            unsafe { ffi::rimonakh_that_write(self.flags, buffer.as_mut_ptr(), buffer.len()) };
+        answered(number, ())
+    }
+
+    /// Writes the header with extensions at the front of `buffer` and keeps the rest: the header's pointer, the array's, and at most
+    /// 32 extensions. Answers the length.
+    pub fn write_with(
+        &self,
+        pointer: u32,
+        array: u32,
+        extensions: &[Extension],
+        buffer: &mut [u8],
+    ) -> Result<usize> {
+        let (entries, contents) = lent(extensions);
+        // SAFETY: each pointer and length are of one slice, and the slices do not overlap.
+        let r = unsafe {
+            ffi::rimonakh_that_write_extensions(
+                self.flags,
+                pointer,
+                array,
+                entries.as_ptr(),
+                entries.len(),
+                contents.as_ptr(),
+                contents.len(),
+                buffer.as_mut_ptr(),
+                buffer.len(),
+            )
+        };
+        answered(r.answer, r.length)
+    }
+}
