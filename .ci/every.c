@@ -84,6 +84,15 @@ SIZE(rimonakh_stop_place, 24);
 AT(rimonakh_stop_place, in_store, 4);
 AT(rimonakh_stop_place, from, 8);
 AT(rimonakh_stop_place, to, 16);
+SIZE(rimonakh_fragments, 104);
+AT(rimonakh_fragments, kept, 88);
+AT(rimonakh_fragments, seen, 96);
+AT(rimonakh_fragments, low, 100);
+AT(rimonakh_fragments, mode, 101);
+AT(rimonakh_fragments, over, 102);
+SIZE(rimonakh_finished, 120);
+AT(rimonakh_finished, reference, 8);
+AT(rimonakh_finished, length, 112);
 
 static uint64_t words[RIMONAKH_WORDS];
 static uint8_t store[RIMONAKH_BYTES];
@@ -280,6 +289,26 @@ static void contexts(void) {
     IS(rimonakh_reference_property(buffer, n, 2).answer, RIMONAKH_NO_BINDING);
 }
 
+static void fragments(void) {
+    uint8_t buffer[128], waiting[32], last[32];
+    size_t n = write_reference(RIMONAKH_HANDLER, buffer, sizeof buffer);
+    memset(last, 0xEE, sizeof last);
+    rimonakh_fragments state = rimonakh_fragments_none();
+    IS(rimonakh_fragments_finish(state, waiting, sizeof waiting, last, sizeof last).answer, RIMONAKH_SHORT);
+    state = rimonakh_fragments_push(state, waiting, sizeof waiting, buffer, 83);
+    state = rimonakh_fragments_push(state, waiting, sizeof waiting, buffer + 83, n - 83);
+    IS(rimonakh_fragments_finish(state, waiting, sizeof waiting, last, sizeof list - 1).answer, RIMONAKH_NO_ROOM);
+    IS(last[0], 0xEE);
+    rimonakh_finished done = rimonakh_fragments_finish(state, waiting, sizeof waiting, last, sizeof last);
+    IS(done.answer, RIMONAKH_DONE);
+    IS(done.reference.flags, RIMONAKH_HANDLER);
+    IS(done.reference.block.oid, 0x41);
+    IS(done.reference.clsid.high, 0x32);
+    IS(done.length, sizeof list);
+    IS(memcmp(last, list, sizeof list), 0);
+    IS(last[sizeof list], 0xEE);
+}
+
 static void calls(void) {
     uint8_t reference[128], buffer[64];
     const uint64_t oids[] = {0x41};
@@ -361,6 +390,7 @@ int main(int argc, char **argv) {
         headers();
         bytes();
         contexts();
+        fragments();
         calls();
     }
     return failed;

@@ -225,6 +225,23 @@ typedef struct {
     size_t to;
 } rimonakh_stop_place;
 
+/* The state between two fragments of a reference: 104 bytes. The caller keeps it from call to call. */
+typedef struct {
+    uint8_t head[84]; /* the first bytes */
+    size_t kept; /* bytes of the list or object data in the waiting buffer */
+    uint32_t seen; /* bytes that came, counted up to 131,155 */
+    uint8_t low; /* the last byte */
+    uint8_t mode; /* where the walk over the list's words stands */
+    bool over; /* whether more came than the waiting buffer holds */
+} rimonakh_fragments;
+
+/* The fields of a reference, and the length of its list or object data. */
+typedef struct {
+    uint32_t answer;
+    rimonakh_reference reference;
+    size_t length;
+} rimonakh_finished;
+
 /* The code that goes out on the wire for an answer number: an HRESULT or an error code. */
 uint32_t rimonakh_wire_code(uint32_t number);
 
@@ -344,6 +361,26 @@ rimonakh_written rimonakh_context_write(uint64_t id_low, uint64_t id_high, uint3
 rimonakh_written rimonakh_property_write(uint64_t clsid_low, uint64_t clsid_high, uint64_t policy_low,
                                          uint64_t policy_high, uint32_t flags, const uint8_t *content,
                                          size_t content_len, uint8_t *buffer, size_t buffer_len);
+
+/* ---- references that come in over several packets
+ *
+ * A standard, handler or custom reference is read fragment by fragment. Two buffers are lent: the waiting one to every call of
+ * one reference, which the caller leaves alone between them, and the final one at the end. What a call answers is promised for
+ * the state and the waiting buffer as the last call left them; other ones are not refused, and may be answered anything. */
+
+/* The state before the first fragment of a reference. */
+rimonakh_fragments rimonakh_fragments_none(void);
+
+/* The state after one fragment more, which may be of one byte or none. Of the list or object data the waiting buffer gets as much
+ * as it holds. Nothing is refused before the end. */
+rimonakh_fragments rimonakh_fragments_push(rimonakh_fragments state, uint8_t *waiting, size_t waiting_len,
+                                           const uint8_t *fragment, size_t fragment_len);
+
+/* Declares the end: the fields of the reference, and its list or object data at the front of last, whose rest is kept. Wherever
+ * the bytes were cut, the answer is that of the whole, but that flags 8 is 14 and object data is not looked into. 13; 14; 22; 15
+ * where the list or object data is longer than the waiting buffer or than last. */
+rimonakh_finished rimonakh_fragments_finish(rimonakh_fragments state, const uint8_t *waiting, size_t waiting_len,
+                                            uint8_t *last, size_t last_len);
 
 /* ---- calls on a table: each is lent the array and the store, and answers 1 first */
 

@@ -5,6 +5,7 @@ ghost use Rattle.kinds.specs.Wire.{wireCode};
 
 mod bytes;
 mod calls;
+mod packets;
 
 // The code that goes out on the wire for an answer number.
 #[no_mangle]

@@ -77,7 +77,7 @@ impl Block {
     }
 
     // Whether the OXID, OID or IPID is zero.
-    fn has_nil(self) -> bool
+    pub fn has_nil(self) -> bool
         ensures { λ r. ⌜ r ≡ hasNil self ⌝ }
     {
         let oxid = self.oxid;
@@ -189,7 +189,7 @@ impl Reference {
         }
     }
 
-    fn zero() -> Reference
+    pub fn zero() -> Reference
         ensures { λ r. ⌜ r ≡ noReference ⌝ }
     {
         let nil = Guid { low: 0, high: 0 };
@@ -206,7 +206,7 @@ impl Reference {
     }
 
     // The fields of the form that the flags name.
-    fn fields(s: &[u8]) -> Reference
+    pub fn fields(s: &[u8]) -> Reference
         ensures { λ r. ⌜ r ≡ referenceAt (now (s .entry)) ⌝ }
     {
         let f = fields::read_u32(s, 4);
@@ -247,7 +247,7 @@ impl Reference {
 }
 
 // Whether the flags name a form.
-fn is_form(f: u32) -> bool
+pub fn is_form(f: u32) -> bool
     ensures { λ r. ⌜ r ≡ isForm f ⌝ }
 {
     if f == Reference::STANDARD {
@@ -263,7 +263,7 @@ fn is_form(f: u32) -> bool
 }
 
 // The size of the fields before the list or the object data.
-fn fixed_size(f: u32) -> usize
+pub fn fixed_size(f: u32) -> usize
     ensures { λ r. ⌜ r ≡ fixedSize f ⌝ }
 {
     if f == Reference::STANDARD {

@@ -2,8 +2,9 @@
 //! Prints nanoseconds and ratios, library / plain Rust.
 
 use plain::bytes as pb;
+use plain::fragments as pf;
 use plain::table as pt;
-use rimonakh::{Block, Guid, Item, Oid, Oxid, Reference, SetId, Table};
+use rimonakh::{Block, FragmentReader, Guid, Item, Oid, Oxid, Reference, SetId, Table};
 use std::hint::black_box;
 use std::time::Instant;
 
@@ -11,7 +12,18 @@ use std::time::Instant;
 const TURNS: usize = 60;
 
 /// The nanoseconds of one call, in the fastest turn of each side.
-fn measure(what: &str, calls: u32, mut library: impl FnMut(), mut plain: impl FnMut()) {
+fn measure(what: &str, calls: u32, library: impl FnMut(), plain: impl FnMut()) {
+    measure_each(what, calls, 1.0, library, plain);
+}
+
+/// The same for each of so many things that a call does.
+fn measure_each(
+    what: &str,
+    calls: u32,
+    things: f64,
+    mut library: impl FnMut(),
+    mut plain: impl FnMut(),
+) {
     let mut fastest = [f64::INFINITY; 2];
     for _ in 0..TURNS {
         let sides: [&mut dyn FnMut(); 2] = [&mut library, &mut plain];
@@ -20,12 +32,13 @@ fn measure(what: &str, calls: u32, mut library: impl FnMut(), mut plain: impl Fn
             for _ in 0..calls {
                 side();
             }
-            *best = best.min(began.elapsed().as_nanos() as f64 / calls as f64);
+            *best = best.min(began.elapsed().as_nanos() as f64 / calls as f64 / things);
         }
     }
     let [library, plain] = fastest;
+    let digits = if things > 1.0 { 3 } else { 1 };
     println!(
-        "{what:<44} {library:>10.1} {plain:>10.1} {:>8.2}",
+        "{what:<44} {library:>10.digits$} {plain:>10.digits$} {:>8.2}",
         library / plain
     );
 }
@@ -201,6 +214,41 @@ fn nest(n: u16, calls: u32) {
     assert_eq!(ours, theirs);
 }
 
+/// A reference of so many bytes in fragments of a packet's size; nanoseconds for each byte.
+fn fragments(what: &str, bytes: &[u8], calls: u32) {
+    const PACKET: usize = 1400;
+    let room = bytes.len();
+    let mut reader = FragmentReader::new(room);
+    let (mut ours, mut theirs) = (vec![0; room], vec![0; room]);
+    let mut waiting = vec![0; room];
+    let library = || {
+        reader.restart();
+        for fragment in black_box(bytes).chunks(PACKET) {
+            reader.push(fragment);
+        }
+        keep(reader.finish(black_box(&mut ours)).unwrap());
+    };
+    let plain = || {
+        let mut state = pf::Fragments::default();
+        for fragment in black_box(bytes).chunks(PACKET) {
+            state.push(&mut waiting, fragment);
+        }
+        keep(state.finish(&waiting, black_box(&mut theirs)).unwrap());
+    };
+    measure_each(what, calls, room as f64, library, plain);
+    assert_eq!(ours, theirs);
+}
+
+fn in_fragments() {
+    let mut custom = b"MEOW\x04\0\0\0".to_vec();
+    custom.resize(65_536, 7);
+    fragments("a byte of object data in fragments", &custom, 20);
+    let mut standard = b"MEOW\x01\0\0\0".to_vec();
+    standard.resize(64, 7);
+    standard.extend(list(32_767));
+    fragments("a byte of a list in fragments", &standard, 20);
+}
+
 fn tables() {
     let (words, store) = full_table();
     let mut table = Table::over(words.clone(), store.clone());
@@ -338,5 +386,6 @@ fn main() {
     references(254, 4_000);
     nest(20, 2_000);
     nest(254, 500);
+    in_fragments();
     tables();
 }

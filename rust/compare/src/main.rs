@@ -7,6 +7,7 @@
 mod bytes;
 mod calls;
 mod decode;
+mod fragments;
 mod generate;
 mod headers;
 mod lines;
@@ -48,6 +49,9 @@ fn compare(seed: u64, scale: &Scale) -> Result<(), Differs> {
     lines::compare()?;
     all.join(&part("references, lists, contexts and headers", &|| {
         bytes::compare(seed, scale.inputs)
+    })?);
+    all.join(&part("references in fragments", &|| {
+        fragments::compare(seed, scale.inputs / 4)
     })?);
     all.join(&part("calls", &|| {
         calls::compare::<Library>(seed, calls, false)

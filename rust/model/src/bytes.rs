@@ -8,7 +8,7 @@ fn u16_at(s: &[u8], at: usize) -> u16 {
     u16::from_le_bytes(s[at..at + 2].try_into().unwrap())
 }
 
-fn u32_at(s: &[u8], at: usize) -> u32 {
+pub(crate) fn u32_at(s: &[u8], at: usize) -> u32 {
     u32::from_le_bytes(s[at..at + 4].try_into().unwrap())
 }
 
@@ -16,7 +16,7 @@ fn u64_at(s: &[u8], at: usize) -> u64 {
     u64::from_le_bytes(s[at..at + 8].try_into().unwrap())
 }
 
-fn guid_at(s: &[u8], at: usize) -> Guid {
+pub(crate) fn guid_at(s: &[u8], at: usize) -> Guid {
     s[at..at + 16].try_into().unwrap()
 }
 

@@ -6,6 +6,7 @@ pub mod bytes;
 pub mod contexts;
 pub mod entries;
 pub mod extensions;
+pub mod fragments;
 
 /// A GUID as its sixteen bytes on the wire.
 pub type Guid = [u8; 16];

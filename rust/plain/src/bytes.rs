@@ -19,12 +19,12 @@ pub struct Reference {
 }
 
 impl Reference {
-    fn names_nil(&self) -> bool {
+    pub(crate) fn names_nil(&self) -> bool {
         self.oxid == 0 || self.oid == 0 || self.ipid == Guid::default()
     }
 }
 
-const SIGNATURE: u32 = 0x574F_454D;
+pub(crate) const SIGNATURE: u32 = 0x574F_454D;
 const EXTENDED: u32 = 0x4E53_5956;
 const MARSHALER: Guid = Guid {
     low: 0x33B,
@@ -34,19 +34,19 @@ const MARSHALER: Guid = Guid {
 /// References in references, the outermost counted.
 const DEPTH: usize = 8;
 
-fn u16_at(s: &[u8], at: usize) -> u16 {
+pub(crate) fn u16_at(s: &[u8], at: usize) -> u16 {
     u16::from_le_bytes(s[at..at + 2].try_into().unwrap())
 }
 
-fn u32_at(s: &[u8], at: usize) -> u32 {
+pub(crate) fn u32_at(s: &[u8], at: usize) -> u32 {
     u32::from_le_bytes(s[at..at + 4].try_into().unwrap())
 }
 
-fn u64_at(s: &[u8], at: usize) -> u64 {
+pub(crate) fn u64_at(s: &[u8], at: usize) -> u64 {
     u64::from_le_bytes(s[at..at + 8].try_into().unwrap())
 }
 
-fn guid_at(s: &[u8], at: usize) -> Guid {
+pub(crate) fn guid_at(s: &[u8], at: usize) -> Guid {
     Guid {
         low: u64_at(s, at),
         high: u64_at(s, at + 8),

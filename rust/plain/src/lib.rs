@@ -2,6 +2,7 @@
 //! library against it; the comparison runs it too, so that both do the same work. A refusal is `Err` with its answer number.
 
 pub mod bytes;
+pub mod fragments;
 pub mod table;
 
 /// A GUID, as the little-endian numbers of its first and its last eight bytes.

@@ -117,6 +117,26 @@ pub struct StopPlace {
     pub to: usize,
 }
 
+/// The state between two fragments of a reference.
+#[repr(C)]
+#[derive(Clone, Copy, Debug, PartialEq, Eq)]
+pub struct Fragments {
+    pub head: [u8; 84],
+    pub kept: usize,
+    pub seen: u32,
+    pub low: u8,
+    pub mode: u8,
+    pub over: bool,
+}
+
+#[repr(C)]
+#[derive(Clone, Copy)]
+pub struct Finished {
+    pub answer: u32,
+    pub reference: Reference,
+    pub length: usize,
+}
+
 extern "C" {
     pub fn rimonakh_wire_code(number: u32) -> u32;
 
@@ -396,4 +416,20 @@ extern "C" {
         reference: *const u8,
         reference_len: usize,
     ) -> StopPlace;
+
+    pub fn rimonakh_fragments_none() -> Fragments;
+    pub fn rimonakh_fragments_push(
+        state: Fragments,
+        waiting: *mut u8,
+        waiting_len: usize,
+        fragment: *const u8,
+        fragment_len: usize,
+    ) -> Fragments;
+    pub fn rimonakh_fragments_finish(
+        state: Fragments,
+        waiting: *const u8,
+        waiting_len: usize,
+        last: *mut u8,
+        last_len: usize,
+    ) -> Finished;
 }

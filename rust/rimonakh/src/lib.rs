@@ -35,12 +35,14 @@
 mod bytes;
 mod error;
 pub mod ffi;
+mod fragments;
 mod headers;
 mod ids;
 mod table;
 
 pub use bytes::{list, Block, Context, Part, Property, Reference};
 pub use error::{wire_code, Error};
+pub use fragments::FragmentReader;
 pub use headers::{Extension, Extensions, OrpcThat, OrpcThis, Read};
 pub use ids::{Guid, Oid, Oxid, SetId};
 pub use table::{Counts, Item, Pinged, Released, Resolved, Stop, Table, BYTES, WORDS};

@@ -12,7 +12,7 @@ fn file(path: &str) -> String {
     fs::read_to_string(root.join(path)).expect(path)
 }
 
-/// A number's type in Rust's words; nothing for a struct.
+/// A type in Rust's words: that of a number, or of a struct that is handed in by value; nothing for another struct.
 fn number(of: &str) -> Option<String> {
     let name = match of {
         "uint64_t" => "u64",
@@ -20,7 +20,8 @@ fn number(of: &str) -> Option<String> {
         "uint16_t" => "u16",
         "uint8_t" => "u8",
         "size_t" => "usize",
-        "bool" | "u64" | "u32" | "u16" | "u8" | "usize" => of,
+        "rimonakh_fragments" => "Fragments",
+        "Fragments" | "bool" | "u64" | "u32" | "u16" | "u8" | "usize" => of,
         _ => return None,
     };
     Some(name.to_string())
@@ -43,7 +44,7 @@ fn functions(text: &str) -> impl Iterator<Item = (&str, &str, Vec<&str>, &str)> 
         let (arguments, after) = rest.split_once(')')?;
         let arguments = arguments.split(',').map(str::trim);
         let before = text[..at].lines().last().unwrap_or("").trim();
-        let given = arguments.filter(|a| !a.is_empty()).collect();
+        let given = arguments.filter(|a| !matches!(*a, "" | "void")).collect();
         Some((before, name, given, after))
     })
 }
@@ -51,7 +52,7 @@ fn functions(text: &str) -> impl Iterator<Item = (&str, &str, Vec<&str>, &str)> 
 /// The functions of `c_api`; a slice is a pointer and a length.
 fn proved() -> Signatures {
     let mut found = Signatures::new();
-    for path in ["lib", "bytes", "calls"] {
+    for path in ["lib", "bytes", "calls", "packets"] {
         let text = file(&format!("crates/c_api/src/{path}.rt"));
         for (before, name, arguments, after) in functions(&text) {
             if before != "pub extern \"C\" fn" {

@@ -216,7 +216,7 @@ fn list<C: Codec>(s: &[u8], strings: [usize; 3], security: &[usize], seen: &mut 
 }
 
 /// A list of N = 65,535 words: 32,765 string bindings with empty addresses and one security binding.
-fn largest() -> Vec<u8> {
+pub fn largest() -> Vec<u8> {
     let mut words: Vec<u16> = vec![65535, 65531];
     words.extend([7, 0].repeat(32765));
     words.extend([0, 10, 0xFFFF, 0, 0]);

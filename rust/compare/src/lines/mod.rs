@@ -4,6 +4,7 @@
 
 mod bytes;
 mod extended;
+mod fragments;
 mod headers;
 mod table;
 
@@ -118,7 +119,7 @@ fn stored(name: &str) -> PathBuf {
         .join(name)
 }
 
-const INPUTS: [&str; 4] = ["headers", "bytes", "extended", "table"];
+const INPUTS: [&str; 5] = ["headers", "bytes", "extended", "fragments", "table"];
 
 fn printed(name: &str, input: &[u8], library: bool) -> String {
     match (name, library) {
@@ -128,6 +129,8 @@ fn printed(name: &str, input: &[u8], library: bool) -> String {
         ("extended", true) => extended::run::<Library>(input),
         ("headers", false) => headers::run::<Model>(input),
         ("headers", true) => headers::run::<Library>(input),
+        ("fragments", false) => fragments::run::<Model>(input),
+        ("fragments", true) => fragments::run::<Library>(input),
         (_, false) => bytes::run::<Model>(input),
         (_, true) => bytes::run::<Library>(input),
     }

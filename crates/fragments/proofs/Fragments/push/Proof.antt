@@ -1,0 +1,66 @@
+-- `Fragments::push`: the first 84 bytes one by one, the others at once.
+use mathlib.Core.Path.{ap, _∙_}
+use native.Mathlib.Nat.{sub-zero}
+use Rattle.fields.proofs.Laws.{take-rest}
+use Rattle.fragments.specs.Fragments.{Reading}
+use Rattle.fragments.proofs.Rest.{push-parts}
+use borrow.Author.Needs.{needs}
+use Rattle.fragments.proofs.Fragments.push.Statement.{statement}
+use Rattle.fragments.proofs.Fragments.push.Tie as tie
+
+early-requires : tie.Need-early-requires
+early-requires c κs = search needs
+
+sub-push-each : tie.Need-sub-push-each
+sub-push-each c = search needs
+
+part-push-each-start : tie.Need-part-push-each-start
+part-push-each-start c = search needs
+
+part-push-each-end : tie.Need-part-push-each-end
+part-push-each-end c = search needs
+
+push-each-requires : tie.Need-push-each-requires
+push-each-requires c κs = search needs
+
+sub-push-late : tie.Need-sub-push-late
+sub-push-late c = search needs
+
+part-push-late-start : tie.Need-part-push-late-start
+part-push-late-start c = search needs
+
+part-push-late-end : tie.Need-part-push-late-end
+part-push-late-end c = search needs
+
+push-late-requires : tie.Need-push-late-requires
+push-late-requires c κs = search needs
+
+same-length : tie.Need-same-length
+same-length c = search needs
+
+returns : tie.Need-returns
+returns c =
+    let a = c .before .before .before .before .before .before .before .before .before .before .before .before .before .args in
+    let s = a .fragment .now in
+    let r : Reading = record { state = a .self; waiting = a .waiting .now } in
+    let m = c .before .before .before .before .before .before .before .before .before .before .early .result in
+    let each = rw (sub-zero m) at (c .before .before .before .before .before .before .before .push-each .ensures) in
+    let late = rw (take-rest s m) at (c .before .before .push-late .ensures) in
+    let e = push-parts r s m _ _ (each .0) (each .1) in
+    (late .0 ∙ ap (λ (x : Reading). x .state) e, late .1 ∙ ap (λ (x : Reading). x .waiting) e)
+
+pub push-spec : {M : Type 1} → statement M
+push-spec =
+    tie.close
+    (tie.spec
+    early-requires
+    sub-push-each
+    part-push-each-start
+    part-push-each-end
+    push-each-requires
+    sub-push-late
+    part-push-late-start
+    part-push-late-end
+    push-late-requires
+    same-length
+    returns)

@@ -1,0 +1,5 @@
+pub mod Walks
+pub mod Bytewise
+pub mod Following
+pub mod Rest
+pub mod Ending

@@ -1,0 +1,65 @@
+-- `fragments::keep_all`: the bytes that find room.
+use mathlib.Core.Path.{_≡_, sym}
+use native.Mathlib.Nat.{sub-zero}
+use native.Mathlib.Omega.{arith}
+use lib.ListN.{length}
+use Rattle.fields.proofs.Laws.{written-none}
+use Prim.Native.Nat.{_-_}
+use Rattle.fragments.proofs.Rest.{take-least}
+use borrow.Author.Needs.{needs}
+use Rattle.fragments.proofs.keep_all.Statement.{statement}
+use Rattle.fragments.proofs.keep_all.Tie as tie
+
+sub-least : tie.Need-sub-least
+sub-least c = search needs
+
+least-requires : tie.Need-least-requires
+least-requires c κs = search needs
+
+sub-copy : tie.Need-sub-copy
+sub-copy c = search needs
+
+part-copy-start : tie.Need-part-copy-start
+part-copy-start c = search needs
+
+part-copy-end : tie.Need-part-copy-end
+part-copy-end c = let e = c .before .least .ensures in omega arith
+
+copy-requires : tie.Need-copy-requires
+copy-requires c κs = search needs
+
+same-length : tie.Need-same-length
+same-length c = search needs
+
+returns : tie.Need-returns
+returns c =
+    let a = c .before .before .before .before .before .before .before .before .before .before .args in
+    let w = a .waiting .now in
+    let m = c .before .before .before .before .before .least .ensures in
+    let e = rw (sub-zero (c .before .before .before .before .before .least .result), m, take-least (length w - a .kept) (a .bytes .now)) at (c .before .before .copy .ensures) in
+    rw (c .before .before .before .before .before .before .before .if1 .taken) e
+
+returns-2 : tie.Need-returns-2
+returns-2 c =
+    let a = c .before .before .before .before .args in
+    let w = a .waiting .now in
+    let z : length w - a .kept ≡ 0 = omega arith in
+    rw (c .before .if1 .taken, z) (sym (written-none w (a .kept)))
+
+returns-3 : tie.Need-returns-3
+returns-3 c = search needs
+
+pub keep-all-spec : {M : Type 1} → statement M
+keep-all-spec =
+    tie.close
+    (tie.spec
+    sub-least
+    least-requires
+    sub-copy
+    part-copy-start
+    part-copy-end
+    copy-requires
+    same-length
+    returns
+    returns-2
+    returns-3)

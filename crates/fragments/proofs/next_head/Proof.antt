@@ -1,0 +1,20 @@
+-- `fragments::next_head`.
+use borrow.Author.Tests.{lt-ltb, le-ltb}
+use Rattle.fragments.specs.Fragments.{stepHead}
+use borrow.Author.Needs.{needs}
+use Rattle.fragments.proofs.next_head.Statement.{statement}
+use Rattle.fragments.proofs.next_head.Tie as tie
+
+array-write-next : tie.Need-array-write-next
+array-write-next c = search needs
+
+returns : tie.Need-returns
+unfolding stepHead
+returns c = rw (lt-ltb _ _ (c .if1 .taken))
+
+returns-2 : tie.Need-returns-2
+unfolding stepHead
+returns-2 c = rw (le-ltb _ _ (c .if1 .left))
+
+pub next-head-spec : {M : Type 1} → statement M
+next-head-spec = tie.close (tie.spec array-write-next returns returns-2)

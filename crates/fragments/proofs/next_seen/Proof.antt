@@ -1,0 +1,17 @@
+-- `fragments::next_seen`.
+use borrow.Author.Tests.{lt-ltb, le-ltb}
+use borrow.Author.Needs.{needs}
+use Rattle.fragments.proofs.next_seen.Statement.{statement}
+use Rattle.fragments.proofs.next_seen.Tie as tie
+
+add-result : tie.Need-add-result
+add-result c = search needs
+
+returns : tie.Need-returns
+returns c = rw (lt-ltb _ _ (c .if1 .taken))
+
+returns-2 : tie.Need-returns-2
+returns-2 c = rw (le-ltb _ _ (c .if1 .left))
+
+pub next-seen-spec : {M : Type 1} → statement M
+next-seen-spec = tie.close (tie.spec add-result returns returns-2)

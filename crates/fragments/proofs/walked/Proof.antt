@@ -1,0 +1,71 @@
+-- `fragments::walked`: a byte outside the tail, of object data, or of a list.
+use Prim.Native.Nat.{_≤_}
+use mathlib.Core.Path.{_≡_, sym, _∙_}
+use mathlib.Core.Bool.{true, not, and-eq-true-iff}
+use native.Mathlib.Omega.{arith}
+use borrow.Author.Tests.{leb-true, not-true, not-false, eq-eqb, ne-eqb}
+use lib.Dec.{leb, eqb}
+use Rattle.references.specs.References.{fixedSize}
+use Rattle.references.proofs.Laws.{size-most}
+use Rattle.fragments.specs.Fragments.{inTail}
+use borrow.Author.Needs.{needs}
+use Rattle.fragments.proofs.walked.Statement.{statement}
+use Rattle.fragments.proofs.walked.Tie as tie
+
+in-tail-requires : tie.Need-in-tail-requires
+in-tail-requires c κs = search needs
+
+returns : tie.Need-returns
+returns c = simp (sym (c .before .in-tail .ensures) ∙ not-true _ (c .if1 .taken))
+
+inner : (c : tie.Else1) → inTail (c .before .before .before .args .form) (c .before .before .before .args .seen) ≡ true
+inner c = sym (c .before .in-tail .ensures) ∙ not-false _ (c .if1 .left)
+
+returns-2 : tie.Need-returns-2
+returns-2 c = rw (inner (c .before), eq-eqb _ _ (c .if2 .taken))
+
+fixed-size-requires : tie.Need-fixed-size-requires
+fixed-size-requires c κs = search needs
+
+read-u16-requires : tie.Need-read-u16-requires
+read-u16-requires c κs = search needs
+
+add-read-u16 : tie.Need-add-read-u16
+add-read-u16 c = let h = size-most (c .before .before .before .before .before .before .args .form) in let e = c .before .fixed-size .ensures in omega arith
+
+read-u16-requires-2 : tie.Need-read-u16-requires-2
+read-u16-requires-2 c κs = search needs
+
+cast-next-mode : tie.Need-cast-next-mode
+cast-next-mode c = let h = size-most (c .before .before .before .before .before .before .before .args .form) in let e = c .before .before .fixed-size .ensures in omega arith
+
+sub-next-mode : tie.Need-sub-next-mode
+unfolding inTail
+sub-next-mode c =
+    let a = c .before .before .before .before .before .before .before .args in
+    let h : fixedSize (a .form) ≤ a .seen = leb-true _ _ (and-eq-true-iff (not (eqb (a .form) 0)) (leb (fixedSize (a .form)) (a .seen)) .0 (inner (c .before .before .before .before)) .1) in
+    rw (c .before .before .fixed-size .ensures) h
+
+next-mode-requires : tie.Need-next-mode-requires
+next-mode-requires c κs = search needs
+
+returns-3 : tie.Need-returns-3
+returns-3 c =
+    simp (inner (c .before .before .before .before .before), ne-eqb _ _ (c .before .before .before .before .if2 .left))
+    (rw (c .before .before .read-u16 .ensures, c .before .read-u162 .ensures, c .before .before .before .fixed-size .ensures) at (c .next-mode .ensures))
+
+pub walked-spec : {M : Type 1} → statement M
+walked-spec =
+    tie.close
+    (tie.spec
+    in-tail-requires
+    returns
+    returns-2
+    fixed-size-requires
+    read-u16-requires
+    add-read-u16
+    read-u16-requires-2
+    cast-next-mode
+    sub-next-mode
+    next-mode-requires
+    returns-3)

@@ -1,0 +1,57 @@
+-- A fragment at once, where the first 84 bytes have come: each part of the state by itself. The code goes by it; it does what `pushed` does
+-- (`rest-pushed`).
+use Prim.Native.Nat.{ℕ, _+_, _-_, min}
+use mathlib.Core.Bool.{Bool, cond, not, _&&_, _||_}
+use mathlib.Core.List.{List, [], _∷_}
+use lib.ListN.{length, getD, take}
+use lib.Dec.{eqb, ltb}
+use Rattle.kinds.specs.Refusals.{differ}
+use Rattle.fields.specs.Fields.{field, written}
+use Rattle.references.specs.References.{isCustom, fixedSize}
+use Rattle.fragments.specs.Fragments.{limit, Reading, formOf, nextMode, nextSeen}
+
+-- the count, the last byte
+abbrev pub seenAfter : ℕ → ℕ → ℕ
+seenAfter seen m = cond (ltb seen limit) (min (seen + m) limit) seen
+
+abbrev pub lowAfter : ℕ → List ℕ → ℕ
+lowAfter low bs = cond (eqb (length bs) 0) low (getD bs (length bs - 1) 0)
+
+-- the walk over the words of a list with N = n and S = v that begins at byte start
+unfoldable pub modeAfter : ℕ → ℕ → ℕ → ℕ → ℕ → ℕ → List ℕ → ℕ
+modeAfter n v start seen low m [] = m
+modeAfter n v start seen low m (b ∷ bs) = modeAfter n v start (nextSeen seen) b (nextMode n v (seen - start) low m b) bs
+
+-- the bytes that find room in the waiting buffer, of size bytes
+abbrev pub keptAfter : Bool → ℕ → ℕ → ℕ → ℕ
+keptAfter inside kept size m = cond inside (kept + min m (size - kept)) kept
+
+abbrev pub overAfter : Bool → Bool → ℕ → ℕ → ℕ → Bool
+overAfter over inside kept size m = over || (inside && ltb (size - kept) m)
+
+abbrev pub waitingAfter : Bool → List ℕ → ℕ → List ℕ → List ℕ
+waitingAfter inside w kept bs = cond inside (written w kept (take (length w - kept) bs)) w
+
+-- the walk of a form with a list, whose head is h
+abbrev pub walkAfter : List ℕ → ℕ → ℕ → ℕ → ℕ → List ℕ → ℕ
+walkAfter h f seen low m bs =
+    cond (differ f 0 && not (isCustom f)) (modeAfter (field h (fixedSize f) 2) (field h (fixedSize f + 2) 2) (fixedSize f) seen low m bs) m
+
+-- all of it, where f is the form
+unfoldable pub restIn : ℕ → Reading → List ℕ → Reading
+restIn f r bs =
+    record {
+      state =
+          record {
+            head = r .state .head;
+            seen = seenAfter (r .state .seen) (length bs);
+            low = lowAfter (r .state .low) bs;
+            mode = walkAfter (r .state .head) f (r .state .seen) (r .state .low) (r .state .mode) bs;
+            kept = keptAfter (differ f 0) (r .state .kept) (length (r .waiting)) (length bs);
+            over = overAfter (r .state .over) (differ f 0) (r .state .kept) (length (r .waiting)) (length bs);
+          };
+      waiting = waitingAfter (differ f 0) (r .waiting) (r .state .kept) bs;
+    }
+
+unfoldable pub restAfter : Reading → List ℕ → Reading
+restAfter r bs = restIn (formOf (r .state .head) (r .state .seen)) r bs

@@ -1,0 +1,63 @@
+//! References that come in over several packets.
+
+use crate::error::answered;
+use crate::{ffi, Reference, Result};
+
+/// Reads a standard, handler or custom reference fragment by fragment. It owns the state and the waiting buffer.
+///
+/// ```
+/// use rimonakh::{FragmentReader, Guid, Reference};
+///
+/// let custom = Reference::custom(Guid([1; 16]), Guid([2; 16]), 0, 3);
+/// let mut bytes = [0; 64];
+/// let length = custom.write(&[7, 8, 9], &[], &mut bytes)?;
+///
+/// let mut reader = FragmentReader::new(1024);
+/// for fragment in bytes[..length].chunks(5) {
+///     reader.push(fragment);
+/// }
+/// let mut data = [0; 8];
+/// assert_eq!(reader.finish(&mut data)?, (custom, 3));
+/// assert_eq!(data, [7, 8, 9, 0, 0, 0, 0, 0]);
+/// # Ok::<(), rimonakh::Error>(())
+/// ```
+#[derive(Clone, Debug)]
+pub struct FragmentReader {
+    state: ffi::Fragments,
+    waiting: Vec<u8>,
+}
+
+impl FragmentReader {
+    /// A reader before its first fragment, with room for a list or object data of so many bytes.
+    pub fn new(room: usize) -> FragmentReader {
+        FragmentReader {
+            // SAFETY: it has no arguments.
+            state: unsafe { ffi::rimonakh_fragments_none() },
+            waiting: vec![0; room],
+        }
+    }
+
+    /// Takes a fragment, which may be of one byte or none. Nothing is refused before the end.
+    pub fn push(&mut self, fragment: &[u8]) {
+        let (waiting, len) = (self.waiting.as_mut_ptr(), self.waiting.len());
+        let (at, size) = (fragment.as_ptr(), fragment.len());
+        // SAFETY: each pointer and length are of one slice, and the slices do not overlap.
+        self.state = unsafe { ffi::rimonakh_fragments_push(self.state, waiting, len, at, size) };
+    }
+
+    /// Declares the end: the fields, and the length of the list or object data, which is then at the front of `last`; the rest of
+    /// `last` is kept.
+    pub fn finish(&self, last: &mut [u8]) -> Result<(Reference, usize)> {
+        let (waiting, len) = (self.waiting.as_ptr(), self.waiting.len());
+        let (at, room) = (last.as_mut_ptr(), last.len());
+        // SAFETY: each pointer and length are of one slice, and the slices do not overlap.
+        let r = unsafe { ffi::rimonakh_fragments_finish(self.state, waiting, len, at, room) };
+        answered(r.answer, (r.reference, r.length))
+    }
+
+    /// Stands before the first fragment of the next reference.
+    pub fn restart(&mut self) {
+        // SAFETY: it has no arguments.
+        self.state = unsafe { ffi::rimonakh_fragments_none() };
+    }
+}
