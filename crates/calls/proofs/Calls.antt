@@ -5,12 +5,10 @@ use mathlib.Core.Bool.{Bool, true, false, not, _||_}
 use mathlib.Core.List.{List, [], _∷_}
 use borrow.Author.Tests.{not-true, not-false, lt-ltb, le-ltb}
 use lib.ListN.{length, getD}
-use lib.Dec.{eqb, ltb, leb}
+use lib.Dec.{ltb, leb}
 use Rattle.kinds.specs.Refusals.{Row, order, _gives_}
 use Rattle.kinds.specs.declared.Guid.{Guid}
-use Rattle.lists.specs.Lists.{distinct}
-use Rattle.lists.proofs.Tests.{and-left}
-use Rattle.rules.specs.Entries.{Entries, oids}
+use Rattle.rules.specs.Entries.{Entries, exporterRow, objectRow, interfaceRow, setRow}
 use Rattle.rules.specs.Calls.{Call, Reply}
 use Rattle.rules.specs.Rules.{isLiveExporter, isLiveObject, isLiveInterface, isLiveSet, noExporter, exporterOf, number, next, refused, done}
 use Rattle.rules.specs.Contract.{Memory, lengthsOnly}
@@ -18,10 +16,10 @@ use Rattle.rules.proofs.Performing.{unsound}
 use Rattle.rules.proofs.Stepping as stepping
 use Rattle.rules.proofs.Stepping.{performed-step}
 use Rattle.rules.proofs.SoundLaws.{sound-fields, table-fields}
-use Rattle.rules.proofs.ByRow.{exporterRow, objectRow, interfaceRow, setRow, exporter-live, object-live, interface-live, set-live, exporter-row}
+use Rattle.rules.proofs.ByRow.{exporter-live, object-live, interface-live, set-live, exporter-row}
 use Rattle.table.specs.View.{exporterCount, objectCount, interfaceCount, setCount, exportersOf, memory, view, soundMemory, SoundTable, Stepped, Performed}
 use Rattle.table.specs.Edits.{membersBelow}
-use Rattle.table.proofs.edit.Below.{nonzero, live-below}
+use Rattle.table.proofs.edit.Below.{live-below}
 use Rattle.table.proofs.LiveRows.{exporters-length, objects-length, interfaces-length, sets-length}
 
 -- ---- calls
@@ -60,7 +58,7 @@ pub sound-below : (ws s : List ℕ) → SoundTable (memory ws s) → membersBelo
 sound-below ws s t =
     let e : Entries = view (memory ws s) in
     let f = sound-fields e (t .entries) in
-    live-below ws s (and-left (nonzero (oids e)) (distinct eqb (oids e)) (f .objectsProper)) (f .membersNamed)
+    live-below ws s (f .objectsProper) (f .setMembersLive)
 
 -- ---- refusals, row by row: w is the number, of which the rows are left
 

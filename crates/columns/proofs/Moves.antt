@@ -1,18 +1,17 @@
 -- Elements that move down: the loop that moves them, and what is then where.
 use Prim.Native.Nat.{ℕ, suc, _+_, _-_, _<_, _≤_}
 use mathlib.Core.Path.{_≡_, refl, sym, ap, _∙_}
-use mathlib.Core.Bool.{_&&_, and-false}
+use mathlib.Core.Bool.{and-false}
 use mathlib.Core.List.{List, [], _∷_, _++_, append-assoc}
 use native.Mathlib.Omega.{arith}
 use native.Mathlib.Numerals.{add-one}
-use borrow.Author.Tests.{lt-ltb, ltb-true, ltb-false, lt-leb, le-leb, leb-true}
+use borrow.Author.Tests.{lt-ltb, ltb-true, ltb-false, lt-leb, le-leb}
 use lib.Dec.{ltb, leb}
 use lib.ListN.{getD, length, take, drop, set, length-drop, length-append, List·getD-append}
-use lib.Seq.{take-all, take-at, drop-at, length-take-le, getD-drop, paste, paste-suc, drop-paste, length-paste}
+use lib.Seq.{take-all, take-at, drop-at, length-take-le, getD-drop, paste, paste-suc, drop-paste}
 use Rattle.kinds.proofs.Refusing.{by-test}
 use Rattle.lists.specs.Lists.{deleteAt, skip}
 use Rattle.columns.specs.Moved.{removedAt, copiedDown}
-use Rattle.lists.proofs.Tests.{and-left, and-right}
 use Rattle.lists.proofs.Lists.{delete-split, length-delete, getD-delete, skip-below}
 use Rattle.columns.proofs.Loops.{column-step, column-end}
 
@@ -61,12 +60,6 @@ module _ (s : List ℕ) (from to n : ℕ) (h : to ≤ from) (g : from + n ≤ le
       rw (copied-is, drop-at (take to s) (take n (drop from s) ++ drop (to + n) s) to head)
       (take-at (take n (drop from s)) (drop (to + n) s) n (length-take-le n (drop from s) room))
 
-  -- what stands after the target stays
-  pub copied-after : drop (to + n) (copiedDown from to n s) ≡ drop (to + n) s
-  copied-after =
-      rw (copied-is, ← append-assoc (take to s) (take n (drop from s)) (drop (to + n) s))
-      (drop-paste s to (drop from s) n (omega arith) room)
-
   -- all n have moved
   pub move-copied : (t : List ℕ) (j : ℕ) → j ≡ n → t ≡ paste s to (drop from s) j → t ≡ copiedDown from to n s
   move-copied t j q e = rw (e, q, copied-is) (append-assoc (take to s) (take n (drop from s)) (drop (to + n) s))
@@ -75,18 +68,6 @@ module _ (s : List ℕ) (from to n : ℕ) (h : to ≤ from) (g : from + n ≤ le
 pub short-copied : (s : List ℕ) (from to n : ℕ) → length s < from + n → s ≡ copiedDown from to n s
 unfolding copiedDown
 short-copied s from to n h = rw (lt-leb (from + n) (length s) h, and-false (leb to from))
-
--- the length stays
-pub length-copied : (s : List ℕ) (from to n : ℕ) → length (copiedDown from to n s) ≡ length s
-unfolding copiedDown
-length-copied s from to n =
-    by-test (λ (t : List ℕ). length t ≡ length s) (leb to from && leb (from + n) (length s)) (take to s ++ (take n (drop from s) ++ drop (to + n) s)) s
-    (λ b.
-    let h = leb-true to from (and-left (leb to from) (leb (from + n) (length s)) b) in
-    let g = leb-true (from + n) (length s) (and-right (leb to from) (leb (from + n) (length s)) b) in
-    ap length (sym (append-assoc (take to s) (take n (drop from s)) (drop (to + n) s)))
-    ∙ length-paste s to (drop from s) n (omega arith) (room s from to n h g))
-    (λ b. refl)
 
 -- ---- a word that is removed
 

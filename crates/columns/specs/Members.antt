@@ -1,7 +1,7 @@
 -- Members of a set of rows: a bit for each of 128 rows, in two words.
 use Prim.Native.Nat.{ℕ, _+_, _-_, _*_, _/_, _%_, _^_, _<_}
 use mathlib.Core.Path.{_≡_}
-use mathlib.Core.Bool.{Bool, cond, not, _&&_, _||_}
+use mathlib.Core.Bool.{Bool, cond, _&&_}
 use mathlib.Core.List.{List}
 use lib.Dec.{eqb, ltb}
 use Rattle.lists.specs.Lists.{keep, tabulate, skip}
@@ -31,20 +31,10 @@ cutBit w k = w / 2 ^ k / 2 * 2 ^ k + w % 2 ^ k
 abbrev pub InWords : Members → Type 0
 InWords m = (m .low < 2 ^ 64) × (m .high < 2 ^ 64)
 
--- row j is a member just where b is 1; a row of 128 or more changes nothing
-pub record BitPut (j b : ℕ) (m r : Members) : Type 0 where
+-- row j is a member or not; a row of 128 or more changes nothing
+pub record MemberPut (j : ℕ) (member : Bool) (m r : Members) : Type 0 where
   pub words : InWords r
-  pub member : (i : ℕ) → isMember r i ≡ cond (ltb j 128 && eqb i j) (eqb b 1) (isMember m i)
-
--- row j became a member, where it is below 128
-pub record Added (j : ℕ) (m r : Members) : Type 0 where
-  pub words : InWords r
-  pub member : (i : ℕ) → isMember r i ≡ ((ltb j 128 && eqb i j) || isMember m i)
-
--- row j is no member any more
-pub record Dropped (j : ℕ) (m r : Members) : Type 0 where
-  pub words : InWords r
-  pub member : (i : ℕ) → isMember r i ≡ (not (eqb i j) && isMember m i)
+  pub rows : (i : ℕ) → isMember r i ≡ cond (ltb j 128 && eqb i j) member (isMember m i)
 
 -- row k is taken out, and the rows above it are one lower
 pub record Cut (k : ℕ) (m r : Members) : Type 0 where

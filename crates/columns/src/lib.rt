@@ -8,7 +8,7 @@ ghost use Prim.Native.Nat.{_+_, _-_};
 ghost use mathlib.Core.Bool.{not};
 ghost use lib.ListN.{length, getD, drop};
 ghost use lib.Dec.{eqb, ltb, leb};
-ghost use Rattle.lists.specs.Lists.{every, some, firstIndex, distinct, apart, among};
+ghost use Rattle.lists.specs.Lists.{every, some, nonzero, firstIndex, distinct, apart, among};
 ghost use Rattle.columns.specs.Moved.{removedAt, copiedDown};
 ghost use Rattle.lists.specs.Guids.{nil, sameGuid};
 ghost use Rattle.columns.specs.Guids.{guidAt, guids};
@@ -50,7 +50,7 @@ fn has_hinted(col: &[u64], hint: u16, x: u64) -> bool
 
 // No word is 0.
 pub fn all_nonzero(col: &[u64]) -> bool
-    ensures { λ r. ⌜ r ≡ every (λ x. not (eqb x 0)) (now (col .entry)) ⌝ }
+    ensures { λ r. ⌜ r ≡ nonzero (now (col .entry)) ⌝ }
 {
     let mut i = 0;
     while i < col.len() {
@@ -147,19 +147,13 @@ pub fn all_within(col: &[u64], clock: u64, limit: u64) -> bool
     true
 }
 
-pub fn same_guid(a: Guid, b: Guid) -> bool
-    ensures { λ r. ⌜ r ≡ sameGuid a b ⌝ }
-{
-    if a.low != b.low {
-        return false;
-    }
-    a.high == b.high
-}
-
 pub fn is_nil(g: Guid) -> bool
     ensures { λ r. ⌜ r ≡ sameGuid g nil ⌝ }
 {
-    same_guid(g, Guid { low: 0, high: 0 })
+    if g.low != 0 {
+        return false;
+    }
+    g.high == 0
 }
 
 // The word at i, and 0 past the end.

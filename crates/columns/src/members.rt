@@ -1,12 +1,11 @@
 // Members of a set of rows: a bit for each of 128 rows, in two words.
 ghost use mathlib.Core.Path.{_≡_};
-ghost use mathlib.Core.Bool.{false};
-ghost use Prim.Native.Nat.{ℕ, _^_, _<_, _≤_};
+ghost use Prim.Native.Nat.{_^_, _<_, _≤_};
 ghost use lib.ListN.{length};
 ghost use lib.Count.{ones};
-ghost use lib.Dec.{ltb};
+ghost use lib.Dec.{eqb, ltb};
 ghost use Rattle.lists.specs.Lists.{every};
-ghost use Rattle.columns.specs.Members.{isMember, memberRows, putBit, cutBit, BitPut, Added, Dropped, Cut};
+ghost use Rattle.columns.specs.Members.{isMember, memberRows, putBit, cutBit, MemberPut, Cut};
 
 // Bit j of low is row j, and bit j of high is row 64 + j.
 pub struct Members {
@@ -21,6 +20,13 @@ fn put_bit(w: u64, k: usize, b: u64) -> u64
 {
     let unit = 1u64 << k;
     ((w >> k) / 2 * 2 + b) * unit + w % unit
+}
+
+// A bit that is 1 or 0.
+fn bit(one: bool) -> u64
+    ensures { λ r. ⌜ (r < 2) × (eqb r 1 ≡ «one») ⌝ }
+{
+    if one { 1 } else { 0 }
 }
 
 // The word without bit k: the higher bits move down by one.
@@ -40,13 +46,6 @@ fn ones_in(w: u64) -> usize
 }
 
 impl Members {
-    // No member.
-    pub fn none() -> Members
-        ensures { λ r. ⌜ ((i : ℕ) → isMember r i ≡ false) ⌝ }
-    {
-        Members { low: 0, high: 0 }
-    }
-
     // Row j is a member.
     pub fn has(self, j: usize) -> bool
         ensures { λ r. ⌜ r ≡ isMember self j ⌝ }
@@ -60,11 +59,11 @@ impl Members {
         false
     }
 
-    // Makes row j a member where b is 1, and no member where it is 0.
-    fn put(self, j: usize, b: u64) -> Members
-        requires { ⌜ b < 2 ⌝ }
-        ensures { λ r. ⌜ BitPut j b self r ⌝ }
+    // Makes row j a member, or no member; a row of 128 or more changes nothing.
+    pub fn put(self, j: usize, member: bool) -> Members
+        ensures { λ r. ⌜ MemberPut j «member» self r ⌝ }
     {
+        let b = bit(member);
         if j < 64 {
             return Members {
                 low: put_bit(self.low, j, b),
@@ -78,20 +77,6 @@ impl Members {
             };
         }
         self
-    }
-
-    // Makes row j a member; a row of 128 or more changes nothing.
-    pub fn added(self, j: usize) -> Members
-        ensures { λ r. ⌜ Added j self r ⌝ }
-    {
-        self.put(j, 1)
-    }
-
-    // Makes row j no member.
-    pub fn dropped(self, j: usize) -> Members
-        ensures { λ r. ⌜ Dropped j self r ⌝ }
-    {
-        self.put(j, 0)
     }
 
     // Takes row k out: the rows above it move down by one.

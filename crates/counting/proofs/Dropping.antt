@@ -7,15 +7,15 @@ use Rattle.lists.specs.Lists.{some}
 use Rattle.rules.specs.Entries.{Interface, Entries}
 use Rattle.rules.specs.Rules.{flag}
 use Rattle.table.specs.Edits.{dropInterface}
-use Rattle.settling.specs.Leaving.{settled}
+use Rattle.settling.specs.Leaving.{withoutLeaving}
 use Rattle.counting.specs.Dropping.{InterfaceDropped}
-use Rattle.settling.specs.declared.Leaving.the-variants.{Unserved}
+use Rattle.settling.specs.declared.Leaving.the-variants.{NoInterface}
 
 -- an interface goes, and then the objects without interfaces: whether an object was served before these went says whether it went
 pub dropped : (i object r : ℕ) (served : Bool) (e f after : Entries) → f ≡ dropInterface i e → served ≡ some (λ (p : Interface). eqb object (p .object)) (f .interfaces)
-    → after ≡ settled Unserved f → r ≡ flag (not served) → InterfaceDropped i object e r after
+    → after ≡ withoutLeaving NoInterface f → r ≡ flag (not served) → InterfaceDropped i object e r after
 dropped i object r served e f after d b v o =
     record {
-      became = v ∙ ap (settled Unserved) d;
+      became = v ∙ ap (withoutLeaving NoInterface) d;
       gone = o ∙ ap (λ (x : Bool). flag (not x)) (b ∙ ap (λ (g : Entries). some (λ (p : Interface). eqb object (p .object)) (g .interfaces)) d);
     }

@@ -1,31 +1,31 @@
 -- References are given back: refused where the client or the interface's row is not there; else its counts fall, and it goes where none is left.
 use Prim.Native.Nat.{ℕ, zero, suc, _-_, _<_, _≤_, min}
 use mathlib.Core.Path.{_≡_, refl, sym, subst, ap, _∙_}
-use mathlib.Core.Bool.{Bool, true, false, not}
+use mathlib.Core.Bool.{true, false, not}
 use mathlib.Core.List.{List, [], _∷_}
 use native.Mathlib.Omega.{arith}
 use borrow.Author.Tests.{lt-ltb, le-ltb}
-use lib.Dec.{eqb, ltb}
+use lib.Dec.{eqb}
 use lib.ListN.{length, getD, set}
 use lib.Seq.{getD-set-same}
 use Rattle.kinds.specs.Refusals.{order}
 use Rattle.kinds.specs.declared.Guid.{Guid}
 use Rattle.lists.specs.Lists.{some, deleteAt}
-use Rattle.rules.specs.Entries.{Interface, Entries, publicOf, privateOf, withInterfaces, atCounts}
+use Rattle.rules.specs.Entries.{Interface, Entries, publicOf, privateOf, withInterfaces, atCounts, interfaceRow}
 use Rattle.rules.specs.Calls.{Call}
 use Rattle.rules.specs.Sound.{held}
-use Rattle.rules.specs.Rules.{noInterface, isLiveInterface, flag, noClient, refusals, number, next, results, refused, done}
+use Rattle.rules.specs.Rules.{noInterface, flag, noClient, refusals, number, next, results, refused, done}
 use Rattle.rules.specs.Contract.{Memory}
-use Rattle.rules.proofs.ByRow.{interfaceRow, interfaceIn, lessened, withLessened, interface-live, release-counted, release-empty, counted-values, empty-values}
+use Rattle.rules.proofs.ByRow.{interfaceIn, lessened, release-counted, release-empty, counted-values, empty-values}
 use Rattle.table.specs.View.{interfaceCount, interfacesOf, memory, view, SoundTable, Stepped}
 use Rattle.table.specs.Edits.{changeInterface, dropInterface}
 use Rattle.table.proofs.LiveRows.{interfaces-length}
-use Rattle.settling.specs.Leaving.{settled}
-use Rattle.settling.specs.declared.Leaving.the-variants.{Unserved}
+use Rattle.settling.specs.Leaving.{withoutLeaving}
+use Rattle.settling.specs.declared.Leaving.the-variants.{NoInterface}
 use Rattle.counting.specs.Dropping.{InterfaceDropped}
 use Rattle.counting.specs.Replies.{releaseReply}
 use Rattle.counting.proofs.Counts.{counts-as}
-use Rattle.calls.proofs.Calls.{live-row, refused-step, accepted-step}
+use Rattle.calls.proofs.Calls.{interface-tested, refused-step, accepted-step}
 
 -- clients are 0 to 7
 pub client-missing : (c : ℕ) → 7 < c → noClient c ≡ true
@@ -53,23 +53,19 @@ count-left : (asked count taken left : ℕ) → taken ≡ min asked count → le
 count-left asked count taken left t l = omega arith
 
 -- the row that was found, of as many as were counted, in a sound table
-pub record Found (ws s : List ℕ) (i : Guid) (r n : ℕ) : Type 0 where
+pub record Row (ws s : List ℕ) (i : Guid) (r n : ℕ) : Type 0 where
   pub table : SoundTable (memory ws s)
   pub row : r ≡ interfaceRow (view (memory ws s)) i
   pub count : n ≡ interfaceCount ws
 
-module _ (ws s : List ℕ) (c : ℕ) (i : Guid) (p q : ℕ) {r n : ℕ} (client : c ≤ 7) (found : Found ws s i r n) where
+module _ (ws s : List ℕ) (c : ℕ) (i : Guid) (p q : ℕ) {r n : ℕ} (client : c ≤ 7) (found : Row ws s i r n) where
   abbrev before : Entries
   before = view (memory ws s)
-
-  -- live: the row is below the number of interfaces
-  interface-here : isLiveInterface before i ≡ ltb r n
-  interface-here = live-row r n (interface-live before i) (found .row) (found .count ∙ sym (interfaces-length ws))
 
   pub no-interface : n ≤ r → Stepped (Call.release c i p q) (memory ws s) (releaseReply (record { answer = 6; public = 0; private = 0; interfaces = 0; objects = 0 })) (memory ws s)
   unfolding refused results number refusals order
   no-interface l =
-      let gone = interface-here ∙ le-ltb r n l in
+      let gone = interface-tested ws s i (found .row) (found .count) ∙ le-ltb r n l in
       let e : number (Call.release c i p q) before ≡ 6 = rw (client-here c client, gone) in
       refused-step 6 (sym e) (λ z. omega arith)
 
@@ -79,7 +75,7 @@ module _ (ws s : List ℕ) (c : ℕ) (i : Guid) (p q : ℕ) {r n : ℕ} (client 
       → Stepped (Call.release c i p q) (memory ws s) (releaseReply (record { answer = 0; public = a; private = b; interfaces = o; objects = d })) m
   unfolding done results number refusals order
   released l m a b o d v e =
-      let live = interface-here ∙ lt-ltb r n l in
+      let live = interface-tested ws s i (found .row) (found .count) ∙ lt-ltb r n l in
       let z : number (Call.release c i p q) before ≡ 0 = rw (client-here c client, live) in
       subst (λ (vs : List ℕ). Stepped (Call.release c i p q) (memory ws s) (record { number = 0; values = vs; part = []; buffer = [] }) m) e
       (accepted-step 0 (sym z) refl m v)
@@ -87,7 +83,7 @@ module _ (ws s : List ℕ) (c : ℕ) (i : Guid) (p q : ℕ) {r n : ℕ} (client 
 -- the client is there and the row is live; what is taken of its counts, and what is left
 pub record Taking (ws s : List ℕ) (c : ℕ) (i : Guid) (p q r n taken taken₂ left left₂ : ℕ) : Type 0 where
   pub client : c ≤ 7
-  pub found : Found ws s i r n
+  pub found : Row ws s i r n
   pub live : r < n
   pub takes : taken ≡ min p (publicOf (getD (interfacesOf ws) r noInterface))
   pub takes₂ : taken₂ ≡ min q (privateOf c (getD (interfacesOf ws) r noInterface))
@@ -157,7 +153,7 @@ module _ {ws s : List ℕ} {c : ℕ} {i : Guid} {p q r n taken taken₂ left lef
         let object : ℕ = getD (entries .interfaces) r noInterface .object in
         let left : InterfaceDropped r object entries o (view (memory ws″ s)) =
         record {
-          became = d .became ∙ ap (settled Unserved) without-row;
+          became = d .became ∙ ap (withoutLeaving NoInterface) without-row;
           gone = d .gone ∙ ap (λ (e : Entries). flag (not (some (λ (x : Interface). eqb object (x .object)) (e .interfaces)))) without-row;
         } in
         let dropped : InterfaceDropped (interfaceRow entries i) (interfaceIn entries i .object) entries o (view (memory ws″ s)) = rw (k .found .row) at left in

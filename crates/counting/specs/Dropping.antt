@@ -7,10 +7,10 @@ use Rattle.lists.specs.Lists.{some}
 use Rattle.rules.specs.Entries.{Interface, Entries}
 use Rattle.rules.specs.Rules.{flag}
 use Rattle.table.specs.Edits.{dropInterface}
-use Rattle.settling.specs.Leaving.{settled}
-use Rattle.settling.specs.declared.Leaving.the-variants.{Unserved}
+use Rattle.settling.specs.Leaving.{withoutLeaving}
+use Rattle.settling.specs.declared.Leaving.the-variants.{NoInterface}
 
 -- the interface at row i goes, and with it the objects that no interface names then; r says whether that is an object
 pub record InterfaceDropped (i object : ℕ) (e : Entries) (r : ℕ) (after : Entries) : Type 0 where
-  pub became : after ≡ settled Unserved (dropInterface i e)
+  pub became : after ≡ withoutLeaving NoInterface (dropInterface i e)
   pub gone : r ≡ flag (not (some (λ (p : Interface). eqb object (p .object)) (dropInterface i e .interfaces)))

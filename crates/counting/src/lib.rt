@@ -1,23 +1,23 @@
 // References taken and given back, and a client's dropped.
 use kinds::Guid;
+use kinds::Oid;
 use kinds::answer;
 use settling::Leaving;
 use table::edit;
 use table::find;
 use table::judge;
-use table::layout;
 ghost use mathlib.Core.Path.{_≡_};
 ghost use mathlib.Core.Bool.{true};
 ghost use mathlib.Core.List.{List};
 ghost use Prim.Native.Nat.{ℕ, _<_, min};
-ghost use lib.ListN.{length};
-ghost use Rattle.rules.specs.Entries.{oids, atCounts};
-ghost use Rattle.rules.specs.Sound.{proper, membersLive};
+ghost use Rattle.rules.specs.Entries.{atCounts};
+ghost use Rattle.rules.specs.Sound.{proper};
 ghost use Rattle.rules.specs.Calls.{Call, numbered};
-ghost use Rattle.table.specs.View.{interfaceCount, memory, view, SoundTable, Stepped, Performed};
+ghost use Rattle.table.specs.View.{interfaceCount, memory, view, SoundTable, Stepped, Performed, oidsOf, membersLiveIn};
 ghost use Rattle.table.specs.Edits.{Became, changeInterface};
 ghost use Rattle.counting.specs.Replies.{releaseReply};
 ghost use Rattle.counting.specs.Dropping.{InterfaceDropped};
+ghost use Rattle.rules.specs.Contract.{Whole};
 
 // What a release took of each count, and how many interfaces and objects went: 0 or 1 of each.
 #[repr(C)]
@@ -66,12 +66,12 @@ pub fn add_step<'a>(
         return answer::NO_CLIENT;
     }
     let i = find::interface_row(words, ipid);
-    if layout::interface_count(words) <= i {
+    if find::interface_count(words) <= i {
         return answer::NO_INTERFACE;
     }
-    let held = find::interface_held(words, i, client as usize);
-    let more_public = held.public as u64 + public as u64;
-    let more_private = held.private as u64 + private as u64;
+    let counts = find::interface_counts(words, i, client as usize);
+    let more_public = counts.public as u64 + public as u64;
+    let more_private = counts.private as u64 + private as u64;
     if 0xFFFFFFFF < more_public {
         return answer::COUNT_OVERFLOW;
     }
@@ -84,13 +84,13 @@ pub fn add_step<'a>(
 
 // The public count of interface i and the private one of a client.
 fn set_counts(words: &mut [u64], i: usize, client: u32, public: u32, private: u32)
-    requires { ⌜ (length (now words) ≡ 8192) × (i < interfaceCount (now words)) × (client < 8) ⌝ }
+    requires { ⌜ Whole (now words) × (i < interfaceCount (now words)) × (client < 8) ⌝ }
     ensures { λ _. ⌜
         Became (changeInterface i (atCounts client (λ (n : ℕ). public) (λ (n : ℕ). private)))
         (now (words .entry)) (now (words .exit)) ⌝ }
 {
-    edit::set_count(words, i, 0, public);
-    edit::set_count(words, i, client as usize + 1, private);
+    edit::put_count(words, i, 0, public);
+    edit::put_count(words, i, client as usize + 1, private);
 }
 
 fn smaller(a: u32, b: u32) -> u32
@@ -112,16 +112,16 @@ fn refused(number: u32) -> Released
 }
 
 // Takes interface i out, and with it each object that no interface names then; answers whether that is this object.
-fn drop_interface(words: &mut [u64], i: usize, object: u64) -> u32
+fn drop_interface(words: &mut [u64], i: usize, object: Oid) -> u32
     requires { ⌜
-        (length (now words) ≡ 8192) × (i < interfaceCount (now words))
-        × (proper (oids (view (memory (now words) (now words)))) ≡ true) × (membersLive (view (memory (now words) (now words))) ≡ true) ⌝ }
+        Whole (now words) × (i < interfaceCount (now words))
+        × (proper (oidsOf (now words)) ≡ true) × (membersLiveIn (now words) ≡ true) ⌝ }
     ensures { λ r. ⌜
-        ((s : List ℕ) → InterfaceDropped i object (view (memory (now (words .entry)) s)) r (view (memory (now (words .exit)) s))) ⌝ }
+        ((s : List ℕ) → InterfaceDropped i (object .0) (view (memory (now (words .entry)) s)) r (view (memory (now (words .exit)) s))) ⌝ }
 {
     edit::remove_interface(words, i);
     let served = find::is_served(words, object);
-    settling::settle(words, Leaving::Unserved);
+    settling::remove_leaving(words, Leaving::NoInterface);
     if served { 0 } else { 1 }
 }
 
@@ -163,16 +163,16 @@ pub fn release_step<'a>(
         return refused(answer::NO_CLIENT);
     }
     let i = find::interface_row(words, ipid);
-    if layout::interface_count(words) <= i {
+    if find::interface_count(words) <= i {
         return refused(answer::NO_INTERFACE);
     }
-    let held = find::interface_held(words, i, client as usize);
-    let taken_public = smaller(public, held.public);
-    let taken_private = smaller(private, held.private);
-    let left_public = held.public - taken_public;
-    let left_private = held.private - taken_private;
+    let counts = find::interface_counts(words, i, client as usize);
+    let taken_public = smaller(public, counts.public);
+    let taken_private = smaller(private, counts.private);
+    let left_public = counts.public - taken_public;
+    let left_private = counts.private - taken_private;
     set_counts(words, i, client, left_public, left_private);
-    if judge::is_held(words, i) {
+    if find::is_held(words, i) {
         return Released {
             answer: answer::DONE,
             public: taken_public,
@@ -186,7 +186,7 @@ pub fn release_step<'a>(
         public: taken_public,
         private: taken_private,
         interfaces: 1,
-        objects: drop_interface(words, i, held.object),
+        objects: drop_interface(words, i, counts.object),
     }
 }
 
@@ -214,6 +214,6 @@ pub fn drop_client_step<'a>(words: &'a mut [u64], store: &'a [u8], client: u32) 
     }
     settling::clear_counts(words, client as usize);
     settling::drop_unheld(words);
-    settling::settle(words, Leaving::Unserved);
+    settling::remove_leaving(words, Leaving::NoInterface);
     answer::DONE
 }

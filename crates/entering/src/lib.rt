@@ -8,15 +8,14 @@ use table::find;
 use table::judge;
 use table::layout;
 ghost use mathlib.Core.Path.{_≡_};
-ghost use mathlib.Core.Bool.{Bool, not};
+ghost use mathlib.Core.Bool.{Bool};
 ghost use mathlib.Core.List.{List};
 ghost use Prim.Native.Nat.{ℕ};
-ghost use lib.ListN.{length};
-ghost use lib.Dec.{eqb};
 ghost use Rattle.kinds.specs.declared.Guid.{Guid};
 ghost use Rattle.rules.specs.Calls.{Call, numbered};
 ghost use Rattle.rules.specs.Rules.{number};
-ghost use Rattle.table.specs.View.{memory, view, SoundTable, Stepped, Performed};
+ghost use Rattle.table.specs.View.{memory, view, SoundTable, Stepped, Performed, Holds};
+ghost use Rattle.rules.specs.Contract.{Whole};
 
 // Empties the table and sets its clock: 0, or 1 where a length is wrong. It looks at nothing but the lengths.
 pub fn reset<'a>(words: &'a mut [u64], store: &'a [u8], time: u64) -> u32
@@ -30,24 +29,19 @@ pub fn reset<'a>(words: &'a mut [u64], store: &'a [u8], time: u64) -> u32
     if store.len() != layout::BYTES {
         return answer::UNSOUND;
     }
-    words[layout::CLOCK] = time;
-    words[layout::NEXT_SET] = 1;
-    words[layout::EXPORTERS] = 0;
-    words[layout::OBJECTS] = 0;
-    words[layout::INTERFACES] = 0;
-    words[layout::SETS] = 0;
+    edit::clear(words, time);
     answer::DONE
 }
 
 // The number of an entry: 3; 13; 14; 19; 9.
-fn exporter_number<'a>(words: &'a [u64], oxid: u64, unknown: Guid, list: &'a [u8]) -> u32
-    requires { ⌜ length (now words) ≡ 8192 ⌝ }
-    ensures { λ r. ⌜ ((s : List ℕ) → r ≡ number (Call.enterExporter oxid unknown (now (list .entry))) (view (memory (now (words .entry)) s))) ⌝ }
+fn exporter_number<'a>(words: &'a [u64], oxid: Oxid, unknown: Guid, list: &'a [u8]) -> u32
+    requires { ⌜ Whole (now words) ⌝ }
+    ensures { λ r. ⌜ Holds (λ e. r ≡ number (Call.enterExporter (oxid .0) unknown (now (list .entry))) e) (now (words .entry)) ⌝ }
 {
-    if oxid == 0 {
+    if oxid.0 == 0 {
         return answer::BAD_IDENTIFIER;
     }
-    if find::exporter_row(words, oxid) < layout::exporter_count(words) {
+    if find::exporter_row(words, oxid) < find::exporter_count(words) {
         return answer::BAD_IDENTIFIER;
     }
     if find::ipid_taken(words, unknown) {
@@ -60,7 +54,7 @@ fn exporter_number<'a>(words: &'a [u64], oxid: u64, unknown: Guid, list: &'a [u8
     if layout::SLOT < list.len() {
         return answer::LONG_LIST;
     }
-    if 16 <= layout::exporter_count(words) {
+    if layout::EXPORTER_PLACES <= find::exporter_count(words) {
         return answer::NO_PLACE;
     }
     answer::DONE
@@ -97,38 +91,38 @@ pub fn enter_exporter_step<'a>(
         Stepped (Call.enterExporter (oxid .0) unknown (now (list .entry))) (memory (now (words .entry)) (now (store .entry)))
         (numbered r) (memory (now (words .exit)) (now (store .exit))) ⌝ }
 {
-    let refused = exporter_number(words, oxid.0, unknown, list);
-    if refused != answer::DONE {
-        return refused;
+    let number = exporter_number(words, oxid, unknown, list);
+    if number != answer::DONE {
+        return number;
     }
-    edit::put_exporter(words, store, oxid.0, unknown, list);
+    edit::put_exporter(words, store, oxid, unknown, list);
     answer::DONE
 }
 
 // The number of an entry: 3; 4; 7; 9.
-fn object_number(words: &[u64], oid: u64, oxid: u64, ipid: Guid, public: u32) -> u32
-    requires { ⌜ length (now words) ≡ 8192 ⌝ }
-    ensures { λ r. ⌜ ((s : List ℕ) (iid : Guid) (np : Bool) → r ≡ number (Call.enterObject oid oxid ipid iid public np) (view (memory (now (words .entry)) s))) ⌝ }
+fn object_number(words: &[u64], oid: Oid, oxid: Oxid, ipid: Guid, public: u32) -> u32
+    requires { ⌜ Whole (now words) ⌝ }
+    ensures { λ r. ⌜ ((s : List ℕ) (iid : Guid) (np : Bool) → r ≡ number (Call.enterObject (oid .0) (oxid .0) ipid iid public np) (view (memory (now (words .entry)) s))) ⌝ }
 {
-    if oid == 0 {
+    if oid.0 == 0 {
         return answer::BAD_IDENTIFIER;
     }
-    if find::object_row(words, oid) < layout::object_count(words) {
+    if find::object_row(words, oid) < find::object_count(words) {
         return answer::BAD_IDENTIFIER;
     }
     if find::ipid_taken(words, ipid) {
         return answer::BAD_IDENTIFIER;
     }
-    if layout::exporter_count(words) <= find::exporter_row(words, oxid) {
+    if find::exporter_count(words) <= find::exporter_row(words, oxid) {
         return answer::NO_EXPORTER;
     }
     if public == 0 {
         return answer::NO_REFERENCES;
     }
-    if 128 <= layout::object_count(words) {
+    if layout::OBJECT_PLACES <= find::object_count(words) {
         return answer::NO_PLACE;
     }
-    if 256 <= layout::interface_count(words) {
+    if layout::INTERFACE_PLACES <= find::interface_count(words) {
         return answer::NO_PLACE;
     }
     answer::DONE
@@ -171,37 +165,30 @@ pub fn enter_object_step<'a>(
         Stepped (Call.enterObject (oid .0) (oxid .0) ipid iid public «no_ping») (memory (now (words .entry)) (now (store .entry)))
         (numbered r) (memory (now (words .exit)) (now (store .entry))) ⌝ }
 {
-    let refused = object_number(words, oid.0, oxid.0, ipid, public);
-    if refused != answer::DONE {
-        return refused;
+    let number = object_number(words, oid, oxid, ipid, public);
+    if number != answer::DONE {
+        return number;
     }
-    edit::put_object(words, oid.0, oxid.0, mark(no_ping));
-    edit::put_interface(words, ipid, iid, oid.0, public);
+    edit::put_object(words, oid, oxid, no_ping);
+    edit::put_interface(words, ipid, iid, oid, public);
     answer::DONE
 }
 
-// The word of a no-ping mark.
-fn mark(no_ping: bool) -> u64
-    ensures { λ r. ⌜ not (eqb r 0) ≡ «no_ping» ⌝ }
-{
-    if no_ping { 1 } else { 0 }
-}
-
 // The number of an entry: 3; 5; 7; 9.
-fn interface_number(words: &[u64], oid: u64, ipid: Guid, public: u32) -> u32
-    requires { ⌜ length (now words) ≡ 8192 ⌝ }
-    ensures { λ r. ⌜ ((s : List ℕ) (iid : Guid) → r ≡ number (Call.enterInterface oid ipid iid public) (view (memory (now (words .entry)) s))) ⌝ }
+fn interface_number(words: &[u64], oid: Oid, ipid: Guid, public: u32) -> u32
+    requires { ⌜ Whole (now words) ⌝ }
+    ensures { λ r. ⌜ ((s : List ℕ) (iid : Guid) → r ≡ number (Call.enterInterface (oid .0) ipid iid public) (view (memory (now (words .entry)) s))) ⌝ }
 {
     if find::ipid_taken(words, ipid) {
         return answer::BAD_IDENTIFIER;
     }
-    if layout::object_count(words) <= find::object_row(words, oid) {
+    if find::object_count(words) <= find::object_row(words, oid) {
         return answer::NO_OBJECT;
     }
     if public == 0 {
         return answer::NO_REFERENCES;
     }
-    if 256 <= layout::interface_count(words) {
+    if layout::INTERFACE_PLACES <= find::interface_count(words) {
         return answer::NO_PLACE;
     }
     answer::DONE
@@ -240,10 +227,10 @@ pub fn enter_interface_step<'a>(
         Stepped (Call.enterInterface (oid .0) ipid iid public) (memory (now (words .entry)) (now (store .entry)))
         (numbered r) (memory (now (words .exit)) (now (store .entry))) ⌝ }
 {
-    let refused = interface_number(words, oid.0, ipid, public);
-    if refused != answer::DONE {
-        return refused;
+    let number = interface_number(words, oid, ipid, public);
+    if number != answer::DONE {
+        return number;
     }
-    edit::put_interface(words, ipid, iid, oid.0, public);
+    edit::put_interface(words, ipid, iid, oid, public);
     answer::DONE
 }

@@ -16,7 +16,7 @@ use Rattle.lists.proofs.First.{some-first, first-at}
 use Rattle.lists.proofs.Distinct.{eqb-decides, distinct-none, distinct-at}
 use Rattle.lists.proofs.Elements.{In, map-in, every-in, in-every, in-some, some-in, in-none, keep-in, keep-ext-in, map-ext-in}
 use Rattle.rules.specs.Entries.{Exporter, Object, Interface, PingSet, Entries, fresh, oxids, oids}
-use Rattle.rules.specs.Sound.{sound, held, hasInterface, overdue}
+use Rattle.rules.specs.Sound.{sound, held, hasInterface, heardWithin, pingedWithin}
 use Rattle.rules.specs.Rules.{noExporter, noObject}
 use Rattle.rules.proofs.SoundLaws.{Sound, sound-fields}
 use Rattle.rules.proofs.ByRow.{oids-distinct}
@@ -175,13 +175,13 @@ module _ (e : Entries) (s : sound e ≡ true) where
       ⊎-elim
       (λ t.
       let o : Object = getD (e .objects) k noObject in
-      let r = some-in (λ (i : Interface). eqb (o .oid) (i .object)) (e .interfaces) (every-in (hasInterface e) (object-in k b) (sound-clauses .haveInterfaces)) in
+      let r = some-in (λ (i : Interface). eqb (o .oid) (i .object)) (e .interfaces) (every-in (hasInterface e) (object-in k b) (sound-clauses .objectsHaveInterfaces)) in
       let i = r .0 in
       let l = objects-length in
-      let live = every-in (λ (j : Interface). among (oids e) (j .object)) (r .1) (sound-clauses .objectsNamed) in
+      let live = every-in (λ (j : Interface). among (oids e) (j .object)) (r .1) (sound-clauses .interfaceObjectsLive) in
       let own : eqb k (placeOf (oids e) (i .object)) ≡ true = place-only (oids e) (i .object) live k (oids-distinct e s) (omega arith) ∙ ap (λ (n : ℕ). eqb n (i .object)) (oid-at k b) ∙ r .2 in
       let zero = every-in (λ (p : InterfaceLife). not (eqb (p .object) k) || atZero p) (Memᴰ·map (interfaceHeld e) (r .1)) t in
-      absurd (true≢false (sym zero ∙ both (placeOf (oids e) (i .object)) k (atZero (interfaceHeld e i)) (sym (eqb-true k _ own)) (held-left e i (every-in held (r .1) (sound-clauses .counted))))))
+      absurd (true≢false (sym zero ∙ both (placeOf (oids e) (i .object)) k (atZero (interfaceHeld e i)) (sym (eqb-true k _ own)) (held-left e i (every-in held (r .1) (sound-clauses .interfacesHeld))))))
       (λ f. f)
       (true-or-false (interfacesAtZero (begin e) (objectAt e k)))
     where
@@ -194,7 +194,7 @@ module _ (e : Entries) (s : sound e ≡ true) where
   none-unheard k b =
       let o : Object = getD (e .objects) k noObject in
       heard-lately (o .noping) (leb 360 (e .clock - o .heard))
-      (every-in (λ (p : Object). p .noping || not (overdue (e .clock) (p .heard))) (object-in k b) (sound-clauses .heardLately))
+      (every-in (heardWithin (e .clock)) (object-in k b) (sound-clauses .heardRecently))
 
   none-gone : (k : ℕ) → k < length (e .objects) → objectGone (begin e) (objectAt e k) ≡ false
   none-gone k b = (λ u. some-left k b u || none-removed (objectAt e k) u || none-unheard k b u)
@@ -227,7 +227,7 @@ module _ (e : Entries) (s : sound e ≡ true) where
       entry : (k : ℕ) → k < length (e .objects) → objectEntry (begin e) (objectAt e k) ≡ getD (e .objects) k noObject
       entry k b u =
           let o : Object = getD (e .objects) k noObject in
-          let t = every-in (λ (p : Object). among (oxids e) (p .exporter)) (object-in k b) (sound-clauses .exportersNamed) in
+          let t = every-in (λ (p : Object). among (oxids e) (p .exporter)) (object-in k b) (sound-clauses .objectExportersLive) in
           record {
             oid = o .oid;
             exporter =
@@ -239,7 +239,7 @@ module _ (e : Entries) (s : sound e ≡ true) where
 
   module _ (i : Interface) (m : In i (e .interfaces)) where
     object-live : among (oids e) (i .object) ≡ true
-    object-live = every-in (λ (j : Interface). among (oids e) (j .object)) m (sound-clauses .objectsNamed)
+    object-live = every-in (λ (j : Interface). among (oids e) (j .object)) m (sound-clauses .interfaceObjectsLive)
 
     begin-live : liveInterface (begin e) (interfaceHeld e i) ≡ true
     begin-live =
@@ -247,7 +247,7 @@ module _ (e : Entries) (s : sound e ≡ true) where
         let b = place-below (oids e) (i .object) object-live in
         let l = objects-length in
         and-intro (not (atZero (interfaceHeld e i))) _
-        (ap not (held-left e i (every-in held m (sound-clauses .counted))))
+        (ap not (held-left e i (every-in held m (sound-clauses .interfacesHeld))))
         (rw all-live (in-some (λ (o : ObjectLife). eqb (o .serial) k) (in-tabulate (length (e .objects)) (objectAt e) k (omega arith)) (eq-eqb k k refl)))
 
     begin-interface : interfaceEntry (begin e) (interfaceHeld e i) ≡ i
@@ -291,7 +291,7 @@ module _ (e : Entries) (s : sound e ≡ true) where
       one : (k : ℕ) → k < length (e .objects) → (q : ℕ) → In q (p .members) → eqb k (placeOf (oids e) q) ≡ eqb (objectAt e k .oid) q
       one k b q n =
           let l = objects-length in
-          let t = every-in (among (oids e)) n (every-in (λ (r : PingSet). every (among (oids e)) (r .members)) m (sound-clauses .membersNamed)) in
+          let t = every-in (among (oids e)) n (every-in (λ (r : PingSet). every (among (oids e)) (r .members)) m (sound-clauses .setMembersLive)) in
           place-only (oids e) q t k (oids-distinct e s) (omega arith) ∙ ap (λ (j : ℕ). eqb j q) (oid-at k b)
 
       -- of all
@@ -318,7 +318,7 @@ module _ (e : Entries) (s : sound e ≡ true) where
         ap (map (setEntry (begin e)))
         (keep-all (liveSet (begin e)) (map (setHeld e) (e .sets))
         (in-every (liveSet (begin e)) (map (setHeld e) (e .sets))
-        (λ l m. let r = map-in (setHeld e) (e .sets) m in ap (liveSet (begin e)) (r .2) ∙ every-in (λ (q : PingSet). not (overdue (e .clock) (q .pinged))) (r .1) (sound-clauses .pingedLately))))
+        (λ l m. let r = map-in (setHeld e) (e .sets) m in ap (liveSet (begin e)) (r .2) ∙ every-in (pingedWithin (e .clock)) (r .1) (sound-clauses .pingedRecently))))
         ∙ map-map (setEntry (begin e)) (setHeld e) (e .sets)
         ∙ map-ext-in (λ p. setEntry (begin e) (setHeld e p)) (λ p. p) (e .sets) begin-set
         ∙ map-id (e .sets)
@@ -345,7 +345,7 @@ kept-begin e s ordered =
       objects = object-serials e s;
       exported = λ o m. let r = tabulate-in (length (e .objects)) (objectAt e) m in
           rw (ap (λ (p : ObjectLife). p .exporter) (r .2))
-          (exporter-named e s (getD (e .objects) (r .0) noObject .exporter) (every-in (λ (p : Object). among (oxids e) (p .exporter)) (object-in e s (r .0) (r .1)) (sound-fields e s .exportersNamed)));
+          (exporter-named e s (getD (e .objects) (r .0) noObject .exporter) (every-in (λ (p : Object). among (oxids e) (p .exporter)) (object-in e s (r .0) (r .1)) (sound-fields e s .objectExportersLive)));
       owned = λ l m. let r = map-in (interfaceHeld e) (e .interfaces) m in
           rw (ap (λ (p : InterfaceLife). p .object) (r .2)) (object-named e s (r .0 .object) (object-live e s (r .0) (r .1)));
       bounded = λ l m. let r = map-in (interfaceHeld e) (e .interfaces) m in
@@ -353,7 +353,7 @@ kept-begin e s ordered =
       members = λ l m k n.
           let r = map-in (setHeld e) (e .sets) m in
           let q = map-in (placeOf (oids e)) (r .0 .members) (rw (ap (λ (p : SetLife). p .members) (r .2)) at n) in
-          let t = every-in (among (oids e)) (q .1) (every-in (λ (p : PingSet). every (among (oids e)) (p .members)) (r .1) (sound-fields e s .membersNamed)) in
+          let t = every-in (among (oids e)) (q .1) (every-in (λ (p : PingSet). every (among (oids e)) (p .members)) (r .1) (sound-fields e s .setMembersLive)) in
           let b = place-below (oids e) (q .0) t in
           let z = q .2 in
           let c = objects-length e s in

@@ -44,7 +44,7 @@ module _ (e : Entries) (s : sound e ≡ true) where
   one-object =
       every-mono (λ (i : Interface). among (oids e) (i .object)) (λ i. eqb (length (keep (λ (o : Object). eqb (i .object) (o .oid)) (e .objects))) 1)
       (λ i t. eq-eqb _ 1 (keep-one eqb eqb-decides (λ (o : Object). o .oid) (i .object) (e .objects) (oids-distinct e s) t))
-      (e .interfaces) (sound-fields e s .objectsNamed)
+      (e .interfaces) (sound-fields e s .interfaceObjectsLive)
 
   -- and at least one reference
   pub some-reference : someReference e ≡ true
@@ -52,17 +52,17 @@ module _ (e : Entries) (s : sound e ≡ true) where
   some-reference =
       every-mono held (λ (i : Interface). some (ltb 0) (i .counts))
       (λ i t. some-mono (λ (n : ℕ). not (eqb n 0)) (ltb 0) (λ n d. let w = eqb-false n 0 (not-true (eqb n 0) d) in lt-ltb 0 n (omega arith)) (i .counts) t)
-      (e .interfaces) (sound-fields e s .counted)
+      (e .interfaces) (sound-fields e s .interfacesHeld)
 
   -- each object has a live exporter
   pub objects-exported : objectsExported e ≡ true
   unfolding objectsExported
-  objects-exported = sound-fields e s .exportersNamed
+  objects-exported = sound-fields e s .objectExportersLive
 
   -- each set member is live
   pub members-live : membersLive e ≡ true
   unfolding membersLive
-  members-live = sound-fields e s .membersNamed
+  members-live = sound-fields e s .setMembersLive
 
 -- ---- of a history
 

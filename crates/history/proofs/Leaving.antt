@@ -13,9 +13,9 @@ use Rattle.lists.proofs.Tests.{true-or-false}
 use Rattle.lists.proofs.Lists.{some-map, some-kept-none, keep-map, keep-comm, keep-keep, keep-ext, map-map, map-ext, map-unread}
 use Rattle.rules.specs.Entries.{Exporter, Object, Interface, PingSet, Entries, withClock, withExporters, withSets, withMembers}
 use Rattle.rules.specs.Calls.{removeExporter, clock}
-use Rattle.rules.specs.Sound.{sound}
+use Rattle.rules.specs.Sound.{sound, heardWithin, pingedWithin}
 use Rattle.rules.specs.Rules.{number, next, refusals, withoutObjects}
-use Rattle.rules.proofs.Leaving.{staysAt, setStaysAt, clock-next}
+use Rattle.rules.proofs.Leaving.{clock-next}
 use Rattle.history.specs.History.{ExporterLife, ObjectLife, InterfaceLife, SetLife, History, atZero, interfacesAtZero, exporterRemoved, unheard, objectGone, liveExporters, liveObjects, liveInterface, liveSet, noExporterLife, exporterEntry, objectEntry, interfaceEntry, setEntry, live, atClock, withExporterLives, removedLife, lived}
 use Rattle.lists.proofs.Elements.{In, some-in, keep-in, map-ext-in, keep-ext-in, kept-changed, first-unread, first-sole, some-sole, kept-sole}
 use Rattle.history.proofs.Lives.{serialOfExporter, named-sole, Kept, kept-from, still}
@@ -129,36 +129,36 @@ both-later false after f = refl
 
 module _ (h : History) (k : Kept h) (t : ℕ) (later : h .clock ≤ t) where
   -- the objects that are in time
-  clock-objects : liveObjects (atClock t h) ≡ keep (λ o. staysAt t (objectEntry h o)) (liveObjects h)
+  clock-objects : liveObjects (atClock t h) ≡ keep (λ o. heardWithin t (objectEntry h o)) (liveObjects h)
   clock-objects =
-      keep-ext (λ o. not (objectGone (atClock t h) o)) (λ o. not (objectGone h o) && staysAt t (objectEntry h o))
+      keep-ext (λ o. not (objectGone (atClock t h) o)) (λ o. not (objectGone h o) && heardWithin t (objectEntry h o))
       (λ o. later-gone (interfacesAtZero h o) (exporterRemoved h o) (o .noping) (leb 360 (h .clock - o .heard)) (leb 360 (t - o .heard)) (overdue-later (h .clock) t (o .heard) later))
       (h .objects)
-      ∙ sym (keep-keep (λ o. staysAt t (objectEntry h o)) (λ o. not (objectGone h o)) (h .objects))
+      ∙ sym (keep-keep (λ o. heardWithin t (objectEntry h o)) (λ o. not (objectGone h o)) (h .objects))
 
   -- the sets that are
-  clock-sets : keep (setStaysAt t) (setsOver (h .clock) (liveObjects h) (h .sets)) ≡ setsOver t (liveObjects h) (h .sets)
+  clock-sets : keep (pingedWithin t) (setsOver (h .clock) (liveObjects h) (h .sets)) ≡ setsOver t (liveObjects h) (h .sets)
   clock-sets =
-      keep-map (setStaysAt t) (setEntry h) (keep (liveSet h) (h .sets))
+      keep-map (pingedWithin t) (setEntry h) (keep (liveSet h) (h .sets))
       ∙ ap (map (setEntry h))
-      (keep-keep (λ s. setStaysAt t (setEntry h s)) (liveSet h) (h .sets)
-      ∙ keep-ext (λ s. liveSet h s && setStaysAt t (setEntry h s)) (λ s. setStaysAt t (setEntry h s))
+      (keep-keep (λ s. pingedWithin t (setEntry h s)) (liveSet h) (h .sets)
+      ∙ keep-ext (λ s. liveSet h s && pingedWithin t (setEntry h s)) (λ s. pingedWithin t (setEntry h s))
       (λ s. both-later (leb 360 (h .clock - s .pinged)) (leb 360 (t - s .pinged)) (overdue-later (h .clock) t (s .pinged) later))
       (h .sets))
 
   -- the live entries at the later time
-  clock-entries : live (atClock t h) ≡ withoutObjects (staysAt t) (withClock t (withSets (keep (setStaysAt t) (live h .sets)) (live h)))
+  clock-entries : live (atClock t h) ≡ withoutObjects (heardWithin t) (withClock t (withSets (keep (pingedWithin t) (live h .sets)) (live h)))
   unfolding live
   clock-entries =
       ap (λ (os : List ObjectLife). entriesOver h t (map exporterEntry (liveExporters h)) os (h .interfaces) (h .sets)) clock-objects
-      ∙ sym (goes-along h k (staysAt t) t (map exporterEntry (liveExporters h)) (h .interfaces) (h .sets))
-      ∙ ap (λ (ss : List PingSet). withoutObjects (staysAt t) (withClock t (withSets ss (live h)))) (sym clock-sets)
+      ∙ sym (goes-along h k (heardWithin t) t (map exporterEntry (liveExporters h)) (h .interfaces) (h .sets))
+      ∙ ap (λ (ss : List PingSet). withoutObjects (heardWithin t) (withClock t (withSets ss (live h)))) (sym clock-sets)
 
   -- the history at the later time
   clock-kept : sound (live (atClock t h)) ≡ true → Kept (atClock t h)
   clock-kept s =
       kept-from h (atClock t h) k refl refl refl (k .bounded) (k .members)
-      (λ o m. Memᴰ·map still (keep-in (λ p. staysAt t (objectEntry h p)) (liveObjects h) (rw clock-objects at m) .0)) s
+      (λ o m. Memᴰ·map still (keep-in (λ p. heardWithin t (objectEntry h p)) (liveObjects h) (rw clock-objects at m) .0)) s
 
 -- what its refusal leaves
 pub clock-accepted : (e : Entries) (t : ℕ) → number (clock t) e ≡ 0 → e .clock ≤ t

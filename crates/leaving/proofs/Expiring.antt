@@ -10,14 +10,14 @@ use Rattle.kinds.specs.Refusals.{order}
 use Rattle.lists.proofs.Lists.{every-kept, length-keep}
 use Rattle.rules.specs.Entries.{Entries, oids, withClock}
 use Rattle.rules.specs.Calls.{Call}
-use Rattle.rules.specs.Sound.{proper, membersLive}
+use Rattle.rules.specs.Sound.{proper, setMembersLive, heardWithin, pingedWithin}
 use Rattle.rules.specs.Rules.{refusals, number, next, results, refused, done, clockValues}
 use Rattle.rules.proofs.SoundLaws.{sound-fields}
-use Rattle.rules.proofs.Leaving.{staysAt, setStaysAt, clock-next}
+use Rattle.rules.proofs.Leaving.{clock-next}
 use Rattle.table.specs.View.{objectCount, interfaceCount, setCount, memory, view, SoundTable, Stepped}
 use Rattle.table.specs.Edits.{Became}
 use Rattle.table.proofs.LiveRows.{objects-length, interfaces-length, sets-length}
-use Rattle.settling.specs.Leaving.{settled, setsLeft}
+use Rattle.settling.specs.Leaving.{withoutLeaving, setsLeft}
 use Rattle.leaving.specs.Replies.{clockReply}
 use Rattle.settling.specs.declared.Leaving.the-variants.{Unheard}
 use Rattle.calls.proofs.Calls.{refused-step, accepted-step}
@@ -41,18 +41,18 @@ module _ (ws s : List ℕ) (t : ℕ) (h : SoundTable (memory ws s)) where
     pub ids-proper : proper (oids (view (memory ws₂ s))) ≡ true
     ids-proper = ap (λ (f : Entries). proper (oids f)) (clock-view s) ∙ sound-fields before (h .entries) .objectsProper
 
-    pub members-live : membersLive (view (memory ws₂ s)) ≡ true
+    pub members-live : setMembersLive (view (memory ws₂ s)) ≡ true
     members-live =
-        ap membersLive (clock-view s)
-        ∙ every-kept _ (setStaysAt t) (before .sets) (sound-fields before (h .entries) .membersNamed)
+        ap setMembersLive (clock-view s)
+        ∙ every-kept _ (pingedWithin t) (before .sets) (sound-fields before (h .entries) .setMembersLive)
 
     -- the objects go
-    module _ (ws₃ : List ℕ) (settles : Became (settled (Unheard t)) ws₂ ws₃) where
+    module _ (ws₃ : List ℕ) (settles : Became (withoutLeaving (Unheard t)) ws₂ ws₃) where
       abbrev left : Entries
-      left = settled (Unheard t) (withClock t (setsLeft t before))
+      left = withoutLeaving (Unheard t) (withClock t (setsLeft t before))
 
       expired : view (memory ws₃ s) ≡ left
-      expired = settles s ∙ ap (settled (Unheard t)) (clock-view s)
+      expired = settles s ∙ ap (withoutLeaving (Unheard t)) (clock-view s)
 
       all-gone : view (memory ws₃ s) ≡ next (Call.clock t) before
       all-gone = expired ∙ sym (clock-next before t)
@@ -63,13 +63,13 @@ module _ (ws s : List ℕ) (t : ℕ) (h : SoundTable (memory ws s)) where
       fewer entries c d l = let a = ap (λ (e : Entries). length (entries e)) expired in omega arith
 
       pub fewer-objects : objectCount ws₃ ≤ objectCount ws
-      fewer-objects = fewer (λ e. e .objects) (objects-length ws₃) (objects-length ws) (length-keep (staysAt t) (before .objects))
+      fewer-objects = fewer (λ e. e .objects) (objects-length ws₃) (objects-length ws) (length-keep (heardWithin t) (before .objects))
 
       pub fewer-interfaces : interfaceCount ws₃ ≤ interfaceCount ws
       fewer-interfaces = fewer (λ e. e .interfaces) (interfaces-length ws₃) (interfaces-length ws) (length-keep _ (before .interfaces))
 
       pub fewer-sets : setCount ws₃ ≤ setCount ws
-      fewer-sets = fewer (λ e. e .sets) (sets-length ws₃) (sets-length ws) (rw length-map (length-keep (setStaysAt t) (before .sets)))
+      fewer-sets = fewer (λ e. e .sets) (sets-length ws₃) (sets-length ws) (rw length-map (length-keep (pingedWithin t) (before .sets)))
 
       -- the clock is set, and what went is answered
       pub clock-done : ltb t (getD ws 0 0) ≡ false → (a b c a₃ b₃ c₃ : ℕ)

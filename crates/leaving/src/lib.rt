@@ -5,7 +5,6 @@ use settling::Leaving;
 use table::edit;
 use table::find;
 use table::judge;
-use table::layout;
 ghost use mathlib.Core.Path.{_≡_};
 ghost use Prim.Native.Nat.{_<_};
 ghost use Rattle.rules.specs.Calls.{Call, numbered};
@@ -31,11 +30,11 @@ pub fn remove_exporter_step<'a>(words: &'a mut [u64], store: &'a mut [u8], oxid:
         Stepped (Call.removeExporter (oxid .0)) (memory (now (words .entry)) (now (store .entry)))
         (numbered r) (memory (now (words .exit)) (now (store .exit))) ⌝ }
 {
-    let i = find::exporter_row(words, oxid.0);
-    if layout::exporter_count(words) <= i {
+    let i = find::exporter_row(words, oxid);
+    if find::exporter_count(words) <= i {
         return answer::NO_EXPORTER;
     }
-    settling::settle(words, Leaving::Exported(oxid.0));
+    settling::remove_leaving(words, Leaving::ExporterRemoved(oxid));
     edit::remove_exporter(words, store, i);
     answer::DONE
 }
@@ -81,20 +80,20 @@ pub fn clock_step<'a>(words: &'a mut [u64], store: &'a [u8], time: u64) -> Expir
         Stepped (Call.clock time) (memory (now (words .entry)) (now (store .entry)))
         (clockReply r) (memory (now (words .exit)) (now (store .entry))) ⌝ }
 {
-    if time < words[layout::CLOCK] {
+    if time < find::clock(words) {
         return refused(answer::CLOCK_BACK);
     }
-    let objects = layout::object_count(words);
-    let interfaces = layout::interface_count(words);
-    let sets = layout::set_count(words);
+    let objects = find::object_count(words);
+    let interfaces = find::interface_count(words);
+    let sets = find::set_count(words);
     settling::drop_sets(words, time);
     edit::set_clock(words, time);
-    settling::settle(words, Leaving::Unheard(time));
+    settling::remove_leaving(words, Leaving::Unheard(time));
     Expired {
         answer: answer::DONE,
         exporters: 0,
-        objects: objects - layout::object_count(words),
-        interfaces: interfaces - layout::interface_count(words),
-        sets: sets - layout::set_count(words),
+        objects: objects - find::object_count(words),
+        interfaces: interfaces - find::interface_count(words),
+        sets: sets - find::set_count(words),
     }
 }

@@ -1,8 +1,7 @@
 // Whole lists of adds and releases: items of 24 bytes, an IPID and two counts, as RemAddRef and RemRelease carry them.
 use kinds::answer;
 use table::judge;
-ghost use mathlib.Core.Path.{_≡_};
-ghost use Prim.Native.Nat.{ℕ, _≤_, _<_};
+ghost use Prim.Native.Nat.{_≤_, _<_};
 ghost use Rattle.rules.specs.Calls.{Call, adding, releasing};
 ghost use Rattle.rules.specs.Items.{itemAt};
 ghost use Rattle.table.specs.View.{memory, SoundTable, Stepped, Performed};

@@ -148,12 +148,6 @@ module _ {A : Type 0} (same : A → A → Bool) (dec : Decides same) where
   distinct-at (x ∷ xs) d u (suc j) zero h g e = absurd (some-absent x xs d j (omega arith) (distinct-head same x xs u) (sym e))
   distinct-at (x ∷ xs) d u (suc j) (suc k) h g e = ap suc (distinct-at xs d (distinct-tail same x xs u) j k (omega arith) (omega arith) e)
 
-  -- equal elements stand at one index only, so all are distinct
-  pub distinct-by-at : (d : A) (xs : List A) → ((j k : ℕ) → j < length xs → k < length xs → getD xs j d ≡ getD xs k d → j ≡ k) → distinct same xs ≡ true
-  distinct-by-at d xs h =
-      distinct-from-at same d xs
-      (λ j k b g. same-ne (getD xs j d) (getD xs k d) (λ e. let q = h j k (omega arith) g e in omega arith))
-
   -- of distinct elements, the one at k alone goes with k
   pub among-delete : (xs : List A) (d : A) (k r : ℕ) → distinct same xs ≡ true → k < length xs → r < length xs → some (same (getD xs r d)) (deleteAt k xs) ≡ not (eqb r k)
   among-delete xs d k r u h g =
@@ -187,25 +181,25 @@ distinct-mid same dec x (y ∷ xs) ys u n =
     (distinct-mid same dec x xs ys (distinct-tail same y (xs ++ ys) u) (g .1))
 
 -- ys is a part of xs: it passes the tests of every element that xs passes, and its elements are distinct where those of xs are
-pub record Part {A : Type 0} (ys xs : List A) : Type 0 where
+pub record Sublist {A : Type 0} (ys xs : List A) : Type 0 where
   pub passes : (p : A → Bool) → every p xs ≡ true → every p ys ≡ true
   pub differs : (same : A → A → Bool) → distinct same xs ≡ true → distinct same ys ≡ true
 
 -- a list is a part of itself
-pub part-whole : {A : Type 0} (xs : List A) → Part xs xs
-part-whole xs = record { passes = λ p e. e; differs = λ same e. e }
+pub sublist-whole : {A : Type 0} (xs : List A) → Sublist xs xs
+sublist-whole xs = record { passes = λ p e. e; differs = λ same e. e }
 
 -- the images of the kept elements
-pub part-keep : {A B : Type 0} (f : A → B) (q : A → Bool) (xs : List A) → Part (map f (keep q xs)) (map f xs)
-part-keep f q xs =
+pub sublist-keep : {A B : Type 0} (f : A → B) (q : A → Bool) (xs : List A) → Sublist (map f (keep q xs)) (map f xs)
+sublist-keep f q xs =
     record {
       passes = λ p e. every-map p f (keep q xs) ∙ every-kept (λ x. p (f x)) q xs (sym (every-map p f xs) ∙ e);
       differs = λ same e. distinct-map-keep same f q xs e;
     }
 
 -- parts of two lists one after the other
-pub part-append : {A : Type 0} {zs xs ws ys : List A} → Part zs xs → Part ws ys → Part (zs ++ ws) (xs ++ ys)
-part-append {A} {zs} {xs} {ws} {ys} s t =
+pub sublist-append : {A : Type 0} {zs xs ws ys : List A} → Sublist zs xs → Sublist ws ys → Sublist (zs ++ ws) (xs ++ ys)
+sublist-append {A} {zs} {xs} {ws} {ys} s t =
     record {
       passes = λ p e.
           let h = sym (every-append p xs ys) ∙ e in

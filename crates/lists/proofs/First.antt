@@ -73,12 +73,6 @@ module _ {A : Type 0} (p : A → Bool) where
       (λ f. let z = first-past x xs f in first-before d xs j (omega arith))
       (true-or-false (p x))
 
-  -- where none passes, the index is the length
-  pub first-none : (xs : List A) → some p xs ≡ false → firstIndex p xs ≡ length xs
-  first-none xs e =
-      let l = first-le xs in
-      ⊎-elim (λ b. absurd (true≢false (sym (lt-ltb (firstIndex p xs) (length xs) b) ∙ some-first xs ∙ e))) (λ b. omega arith) (below-or-not (firstIndex p xs) (length xs))
-
   -- the one number with these three properties
   pub first-unique : (d : A) (xs : List A) (n : ℕ) → n ≤ length xs → ((j : ℕ) → j < n → p (getD xs j d) ≡ false) → (n < length xs → p (getD xs n d) ≡ true) → firstIndex p xs ≡ n
   first-unique d xs n h b a =

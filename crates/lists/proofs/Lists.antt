@@ -143,10 +143,6 @@ module _ {A : Type 0} (p q : A → Bool) where
   pub every-mono : ((x : A) → p x ≡ true → q x ≡ true) → (xs : List A) → every p xs ≡ true → every q xs ≡ true
   every-mono f xs h = every-mono-on p p q (λ x t u. f x t) xs h h
 
-  -- two tests at once
-  pub every-both : (xs : List A) → every p xs ≡ true → every q xs ≡ true → every (λ x. p x && q x) xs ≡ true
-  every-both xs h g = every-mono-on p q (λ x. p x && q x) (λ x t u. and-intro (p x) (q x) t u) xs h g
-
   -- what holds of every element holds of every kept one
   pub every-kept : (xs : List A) → every p xs ≡ true → every p (keep q xs) ≡ true
   every-kept xs h =

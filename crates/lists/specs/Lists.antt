@@ -50,6 +50,10 @@ module _ {A : Type 0} where
 abbrev pub among : List ℕ → ℕ → Bool
 among xs x = some (eqb x) xs
 
+-- no number is 0
+abbrev pub nonzero : List ℕ → Bool
+nonzero ns = every (λ (n : ℕ). not (eqb n 0)) ns
+
 -- every clause of a list holds
 unfoldable pub holding : List Bool → Bool
 holding [] = true

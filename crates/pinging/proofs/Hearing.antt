@@ -15,10 +15,10 @@ use Rattle.lists.proofs.Tests.{true-or-false, below-or-not, same-or-not}
 use Rattle.lists.proofs.Lists.{getD-map, getD-tabulate, tabulate-ext, set-tabulate, map-tabulate, tabulate-getD}
 use Rattle.rules.specs.Entries.{Object, Entries, oids, withObjects, heardAt}
 use Rattle.rules.specs.Sound.{proper}
-use Rattle.rules.specs.Rules.{noObject}
-use Rattle.rules.specs.PingRows.{heardNow}
-use Rattle.pinging.specs.Pinging.{memberOids, heardRow}
+use Rattle.rules.specs.Rules.{noObject, heardNow}
+use Rattle.pinging.specs.Pinging.{heardRow}
 use Rattle.pinging.proofs.Memberships.{member-among}
+use Rattle.table.specs.View.{memberValues}
 
 module _ (m : Members) (e : Entries) where
   -- the object at row j, heard now where a test holds
@@ -71,10 +71,10 @@ module _ (m : Members) (e : Entries) where
       unheard f j = ⊎-elim (λ (s : j ≡ i). rw (s, f, and-false (leb i i), and-false (leb n i))) (λ d. other j d) (same-or-not j i)
 
   -- every row
-  pub heard-all : (n : ℕ) → n ≡ 0 → proper (oids e) ≡ true → length (e .objects) ≤ 128 → heardFrom n ≡ heardNow (memberOids m e) e
+  pub heard-all : (n : ℕ) → n ≡ 0 → proper (oids e) ≡ true → length (e .objects) ≤ 128 → heardFrom n ≡ heardNow (memberValues (oids e) m) e
   heard-all n z p l =
       let size : ℕ = length (e .objects) in
-      let ms : List ℕ = memberOids m e in
+      let ms : List ℕ = memberValues (oids e) m in
       let heard : Object → Object = λ o. cond (among ms (o .oid)) (heardAt (e .clock) o) o in
       ap (λ (os : List Object). withObjects os e)
       (tabulate-ext size (λ j. heardIf (leb n j && isMember m j) j) (λ j. heard (getD (e .objects) j noObject))
@@ -84,7 +84,7 @@ module _ (m : Members) (e : Entries) where
       ∙ sym (map-tabulate heard size (λ j. getD (e .objects) j noObject))
       ∙ ap (map heard) (tabulate-getD (e .objects) noObject))
     where
-      member : (j : ℕ) → j < length (e .objects) → isMember m j ≡ among (memberOids m e) (getD (e .objects) j noObject .oid)
+      member : (j : ℕ) → j < length (e .objects) → isMember m j ≡ among (memberValues (oids e) m) (getD (e .objects) j noObject .oid)
       member j b =
           let n = length-map (e .objects) (λ (o : Object). o .oid) in
-          sym (member-among (oids e) p m j (omega arith) (omega arith)) ∙ ap (among (memberOids m e)) (getD-map (λ (o : Object). o .oid) (e .objects) noObject 0 j b)
+          sym (member-among (oids e) p m j (omega arith) (omega arith)) ∙ ap (among (memberValues (oids e) m)) (getD-map (λ (o : Object). o .oid) (e .objects) noObject 0 j b)

@@ -9,30 +9,25 @@ use borrow.Author.Tests.{eqb-true, eq-eqb, ne-eqb, ltb-true, lt-ltb, le-ltb}
 use lib.Dec.{eqb, ltb}
 use lib.ListN.{length, getD, List·getD-eq-default}
 use Rattle.kinds.proofs.Refusing.{true-false}
-use Rattle.lists.specs.Lists.{tabulate, keep, every, some, distinct, firstIndex, among}
-use Rattle.columns.specs.Members.{isMember, memberRows, InWords, Added, Dropped}
+use Rattle.lists.specs.Lists.{tabulate, keep, nonzero, some, distinct, firstIndex, among}
+use Rattle.columns.specs.Members.{isMember, memberRows, InWords, MemberPut}
 use Rattle.columns.specs.declared.members.Members.{Members}
-use Rattle.lists.proofs.Tests.{true-or-false, below-or-not, and-left, and-right}
+use Rattle.lists.proofs.Tests.{true-or-false, below-or-not, and-left}
 use Rattle.lists.proofs.Lists.{every-at, every-tabulate, some-map, some-keep, some-tabulate, none-some, some-one, some-append, keep-map, keep-ext-on, tabulate-getD, map-tabulate}
 use Rattle.lists.proofs.First.{first-at}
 use Rattle.lists.proofs.Distinct.{eqb-decides, distinct-at, first-same}
 use Rattle.columns.proofs.members.Bits.{below-holds, members-below}
 use Rattle.rules.specs.Sound.{proper}
-use Rattle.pinging.specs.Pinging.{Put}
-
--- the values at the members' rows
-abbrev valuesAt : List ℕ → Members → List ℕ
-valuesAt ids m = map (λ j. getD ids j 0) (memberRows m)
+use Rattle.rules.proofs.Groups.{fine-distinct}
+use Rattle.pinging.specs.Pinging.{MembersUpdated}
+use Rattle.table.specs.View.{memberValues}
 
 module _ (ids : List ℕ) (p : proper ids ≡ true) where
-  abbrev nonzero : List ℕ → Bool
-  nonzero ns = every (λ (n : ℕ). not (eqb n 0)) ns
-
   ids-nonzero : nonzero ids ≡ true
   ids-nonzero = and-left (nonzero ids) (distinct eqb ids) p
 
   ids-distinct : distinct eqb ids ≡ true
-  ids-distinct = and-right (nonzero ids) (distinct eqb ids) p
+  ids-distinct = fine-distinct eqb 0 ids p
 
   -- an OID stands in no other row
   one-row : (k j : ℕ) → k < length ids → getD ids k 0 ≡ getD ids j 0 → j ≡ k
@@ -44,7 +39,7 @@ module _ (ids : List ℕ) (p : proper ids ≡ true) where
       (below-or-not j (length ids))
 
   -- the OID of a row is among the members' just where the row is a member
-  pub member-among : (m : Members) (k : ℕ) → k < length ids → length ids ≤ 128 → among (valuesAt ids m) (getD ids k 0) ≡ isMember m k
+  pub member-among : (m : Members) (k : ℕ) → k < length ids → length ids ≤ 128 → among (memberValues ids m) (getD ids k 0) ≡ isMember m k
   unfolding memberRows
   member-among m k h l =
       some-map (eqb (getD ids k 0)) (λ j. getD ids j 0) (memberRows m)
@@ -66,7 +61,7 @@ module _ (ids : List ℕ) (p : proper ids ≡ true) where
 
   -- members below the number of OIDs are the OIDs that a test keeps, where the test says who is a member
   pub members-kept : (m : Members) (q : ℕ → Bool) → length ids ≤ 128 → ((j : ℕ) → length ids ≤ j → isMember m j ≡ false)
-      → ((j : ℕ) → j < length ids → isMember m j ≡ q (getD ids j 0)) → valuesAt ids m ≡ keep q ids
+      → ((j : ℕ) → j < length ids → isMember m j ≡ q (getD ids j 0)) → memberValues ids m ≡ keep q ids
   members-kept m q l none same =
       let n = length ids in
       let value : ℕ → ℕ = λ j. getD ids j 0 in
@@ -105,7 +100,7 @@ module _ (ids : List ℕ) (p : proper ids ≡ true) where
     row = firstIndex (eqb oid) ids
 
     -- an OID that is not live changes nothing
-    pub put-none : (member : Bool) → InWords m → length ids ≤ row → Put member ids (oid ∷ []) m m
+    pub put-none : (member : Bool) → InWords m → length ids ≤ row → MembersUpdated member ids (oid ∷ []) m m
     put-none member w h =
         record {
           words = w;
@@ -127,29 +122,17 @@ module _ (ids : List ℕ) (p : proper ids ≡ true) where
           (λ (f : eqb j row ≡ false). rw f (and-false (ltb j (length ids))))
           (true-or-false (eqb j row))
 
-      pub put-added : length ids ≤ 128 → Added row m r → Put true ids (oid ∷ []) m r
-      put-added l a =
-          record { words = a .words; rows = λ j. a .member j ∙ rw (here-test j, lt-ltb row 128 (omega arith)) (either (eqb j row) (isMember m j)) }
-        where
-          either : (t u : Bool) → (t || u) ≡ cond t true u
-          either true u = refl
-          either false u = refl
-
-      pub put-dropped : Dropped row m r → Put false ids (oid ∷ []) m r
-      put-dropped d = record { words = d .words; rows = λ j. d .member j ∙ rw (here-test j) (both (eqb j row) (isMember m j)) }
-        where
-          both : (t u : Bool) → (not t && u) ≡ cond t false u
-          both true u = refl
-          both false u = refl
+      pub put-one : {member : Bool} → length ids ≤ 128 → MemberPut row member m r → MembersUpdated member ids (oid ∷ []) m r
+      put-one l p = record { words = p .words; rows = λ j. p .rows j ∙ rw (here-test j, lt-ltb row 128 (omega arith)) }
 
   module _ (member : Bool) where
     -- no OID
-    pub put-nil : (m : Members) → InWords m → Put member ids [] m m
+    pub put-nil : (m : Members) → InWords m → MembersUpdated member ids [] m m
     unfolding some
     put-nil m w = record { words = w; rows = λ j. rw (and-false (ltb j (length ids))) }
 
     -- one more
-    pub put-snoc : (listed : List ℕ) (oid : ℕ) {m r r′ : Members} → Put member ids listed m r → Put member ids (oid ∷ []) r r′ → Put member ids (listed ++ (oid ∷ [])) m r′
+    pub put-snoc : (listed : List ℕ) (oid : ℕ) {m r r′ : Members} → MembersUpdated member ids listed m r → MembersUpdated member ids (oid ∷ []) r r′ → MembersUpdated member ids (listed ++ (oid ∷ [])) m r′
     put-snoc listed oid {m} a b =
         record {
           words = b .words;
@@ -169,10 +152,10 @@ module _ (ids : List ℕ) (p : proper ids ≡ true) where
         later true false b w = refl
 
   -- adds, then deletes: the OIDs that stay or join, and are not deleted
-  pub new-members : (adds dels : List ℕ) (m a r : Members) → length ids ≤ 128 → ((j : ℕ) → length ids ≤ j → isMember m j ≡ false) → Put true ids adds m a → Put false ids dels a r
-      → valuesAt ids r ≡ keep (λ (o : ℕ). (among (valuesAt ids m) o || among adds o) && not (among dels o)) ids
+  pub new-members : (adds dels : List ℕ) (m a r : Members) → length ids ≤ 128 → ((j : ℕ) → length ids ≤ j → isMember m j ≡ false) → MembersUpdated true ids adds m a → MembersUpdated false ids dels a r
+      → memberValues ids r ≡ keep (λ (o : ℕ). (among (memberValues ids m) o || among adds o) && not (among dels o)) ids
   new-members adds dels m a r l none p q =
-      members-kept r (λ o. (among (valuesAt ids m) o || among adds o) && not (among dels o)) l
+      members-kept r (λ o. (among (memberValues ids m) o || among adds o) && not (among dels o)) l
       (λ j h. q .rows j ∙ rw (le-ltb j (length ids) h) (p .rows j ∙ rw (le-ltb j (length ids) h) (none j h)))
       (λ j h.
       q .rows j

@@ -2,7 +2,7 @@
 use Prim.Native.Nat.{ℕ, _-_, _^_, _<_, _≤_}
 use mathlib.Core.Path.{_≡_, refl, sym, ap, _∙_}
 use mathlib.Core.Bool.{Bool, true, false, cond, not}
-use mathlib.Core.List.{List, [], _∷_, map}
+use mathlib.Core.List.{List, [], _∷_}
 use mathlib.Core.Logic.{⊎-elim}
 use native.Mathlib.Omega.{arith}
 use borrow.Author.Tests.{eqb-false, eq-eqb, ne-eqb, ltb-true, le-ltb, leb-false, not-false}
@@ -12,27 +12,26 @@ use lib.Seq.{getD-set-same, set-set}
 use Rattle.kinds.specs.Refusals.{Row, order, _gives_}
 use Rattle.kinds.proofs.Refusing.{passed}
 use Rattle.lists.specs.Lists.{every, among}
-use Rattle.columns.specs.Members.{isMember, memberRows}
+use Rattle.columns.specs.Members.{isMember}
 use Rattle.columns.specs.declared.members.Members.{Members}
-use Rattle.lists.proofs.Tests.{true-or-false, and-intro, and-left}
+use Rattle.lists.proofs.Tests.{true-or-false, and-intro}
 use Rattle.lists.proofs.Lists.{every-snoc}
 use Rattle.columns.proofs.members.Bits.{below-none}
-use Rattle.rules.specs.Entries.{PingSet, Entries, oids, withSets, withSequence, withMembers}
+use Rattle.rules.specs.Entries.{PingSet, Entries, oids, withSets, withSequence, withMembers, setRow}
 use Rattle.rules.specs.Calls.{Call}
-use Rattle.rules.specs.Sound.{proper, membersLive, sound}
-use Rattle.rules.specs.Rules.{noSet, setOf, isLiveSet, isLiveObject, tooMany, stale, newMembers, refusals, number, next}
+use Rattle.rules.specs.Sound.{proper, setMembersLive, sound}
+use Rattle.rules.specs.Rules.{noSet, setOf, isLiveSet, isLiveObject, tooMany, staleSequence, newMembers, refusals, number, next, heardNow}
 use Rattle.rules.proofs.SoundLaws.{sound-fields}
 use Rattle.rules.proofs.Pinging.{newSet}
-use Rattle.rules.proofs.ByRow.{setRow, set-live, set-row}
+use Rattle.rules.proofs.ByRow.{set-live, set-row}
 use Rattle.rules.proofs.PingRows.{complex-ping-row, complex-ping-new}
-use Rattle.rules.specs.PingRows.{changeSet, heardNow, pingedRow, updatedRow}
-use Rattle.table.specs.View.{objectCount, setCount, setsOf, memory, view}
+use Rattle.rules.specs.PingRows.{changeSet, pingedRow, updatedRow}
+use Rattle.table.specs.View.{objectCount, setCount, setsOf, memory, view, oidsOf, memberValues}
 use Rattle.table.specs.Edits.{membersAt, Became}
 use Rattle.table.proofs.LiveRows.{sets-length}
-use Rattle.table.proofs.edit.Views.{oidsOf}
 use Rattle.table.proofs.edit.Members.{oids-length, below-at}
-use Rattle.table.proofs.edit.Below.{nonzero, row-members, live-below}
-use Rattle.pinging.specs.Pinging.{memberOids, withSetMeant, rowMeant, Put}
+use Rattle.table.proofs.edit.Below.{row-members, live-below}
+use Rattle.pinging.specs.Pinging.{withPingSet, pingSetRow, MembersUpdated}
 use Rattle.calls.proofs.Calls.{row-passes, two-rows}
 use Rattle.pinging.proofs.Memberships.{new-members}
 
@@ -50,7 +49,7 @@ module _ (s n : ℕ) (adds dels : List ℕ) (e : Entries) where
 
   -- of another set
   abbrev pub liveRows : List Row
-  liveRows = not (isLiveSet e s) gives 11 ∷ stale (setOf e s .sequence) n gives 12 ∷ not (every (isLiveObject e) adds) gives 5 ∷ []
+  liveRows = not (isLiveSet e s) gives 11 ∷ staleSequence (setOf e s .sequence) n gives 12 ∷ not (every (isLiveObject e) adds) gives 5 ∷ []
 
   pub complex-rows : number (Call.complexPing s n adds dels) e ≡ order (tooMany adds gives 10 ∷ tooMany dels gives 10 ∷ cond (eqb s 0) newRows liveRows)
   unfolding number refusals
@@ -68,11 +67,11 @@ module _ (s n : ℕ) (adds dels : List ℕ) (e : Entries) where
     live-rows z = short-rows ∙ ap (λ (t : Bool). order (cond t newRows liveRows)) (ne-eqb s 0 z)
 
 -- the sequence number in the row that was found
-pub stale-tested : (ws st : List ℕ) (s n : ℕ) {r q : ℕ} {b : Bool} → r ≡ setRow (view (memory ws st)) s → q ≡ getD (setsOf ws) r noSet .sequence → b ≡ stale q n
-    → stale (setOf (view (memory ws st)) s .sequence) n ≡ b
+pub stale-tested : (ws st : List ℕ) (s n : ℕ) {r q : ℕ} {b : Bool} → r ≡ setRow (view (memory ws st)) s → q ≡ getD (setsOf ws) r noSet .sequence → b ≡ staleSequence q n
+    → staleSequence (setOf (view (memory ws st)) s .sequence) n ≡ b
 stale-tested ws st s n {r} found held judged =
-    ap (λ (p : PingSet). stale (p .sequence) n) (set-row (view (memory ws st)) s ∙ ap (λ (k : ℕ). getD (setsOf ws) k noSet) (sym found))
-    ∙ ap (λ (k : ℕ). stale k n) (sym held)
+    ap (λ (p : PingSet). staleSequence (p .sequence) n) (set-row (view (memory ws st)) s ∙ ap (λ (k : ℕ). getD (setsOf ws) k noSet) (sym found))
+    ∙ ap (λ (k : ℕ). staleSequence k n) (sym held)
     ∙ sym judged
 
 -- ---- what is left
@@ -86,28 +85,28 @@ change-twice e i f g h =
 
 -- the members of the set at row i, by their rows
 pub row-heard : (ws : List ℕ) (i : ℕ) (m : Members) (s : List ℕ) → i < setCount ws → m ≡ membersAt ws i
-    → heardNow (memberOids m (view (memory ws s))) (view (memory ws s)) ≡ heardNow (getD (setsOf ws) i noSet .members) (view (memory ws s))
+    → heardNow (memberValues (oids (view (memory ws s))) m) (view (memory ws s)) ≡ heardNow (getD (setsOf ws) i noSet .members) (view (memory ws s))
 row-heard ws i m s h held =
-    ap (λ (ms : List ℕ). heardNow ms (view (memory ws s))) (ap (λ (k : Members). memberOids k (view (memory ws s))) held ∙ sym (row-members ws i h))
+    ap (λ (ms : List ℕ). heardNow ms (view (memory ws s))) (ap (λ (k : Members). memberValues (oids (view (memory ws s))) k) held ∙ sym (row-members ws i h))
 
 -- the set at row i with the rows of adds and without those of deletes, and with its sequence number
 pub row-updated : (ws ws₁ ws₂ s : List ℕ) (i n : ℕ) (adds dels : List ℕ) (m a r : Members) → i < setCount ws → m ≡ membersAt ws i
-    → proper (oids (view (memory ws s))) ≡ true → membersLive (view (memory ws s)) ≡ true
-    → Put true (oids (view (memory ws s))) adds m a → Put false (oids (view (memory ws s))) dels a r
-    → Became (changeSet i (withMembers (map (λ j. getD (oidsOf ws) j 0) (memberRows r)))) ws ws₁
+    → proper (oids (view (memory ws s))) ≡ true → setMembersLive (view (memory ws s)) ≡ true
+    → MembersUpdated true (oids (view (memory ws s))) adds m a → MembersUpdated false (oids (view (memory ws s))) dels a r
+    → Became (changeSet i (withMembers (memberValues (oidsOf ws) r))) ws ws₁
     → Became (changeSet i (withSequence n)) ws₁ ws₂ → view (memory ws₂ s) ≡ updatedRow i n adds dels (view (memory ws s))
 row-updated ws ws₁ ws₂ s i n adds dels m a r h held p l joins leaves put count =
     let e : Entries = view (memory ws s) in
     let z = oids-length ws in
     let b = sets-length ws in
-    let below = below-at ws (live-below ws s (and-left (nonzero (oids e)) _ p) l) i h in
+    let below = below-at ws (live-below ws s p l) i h in
     let none : (j : ℕ) → length (oids e) ≤ j → isMember m j ≡ false = λ j g. rw held (below-none (objectCount ws) (membersAt ws i) below j (omega arith)) in
     count s
     ∙ ap (changeSet i (withSequence n)) (put s)
-    ∙ change-twice e i (withSequence n) (withMembers (memberOids r e)) (omega arith)
+    ∙ change-twice e i (withSequence n) (withMembers (memberValues (oids e) r)) (omega arith)
     ∙ ap (λ (ms : List ℕ). withSets (set (e .sets) i (withSequence n (withMembers ms (getD (e .sets) i noSet)))) e)
     (new-members (oids e) p adds dels m a r (omega arith) none joins leaves
-    ∙ ap (newMembers e adds dels) (ap (λ (k : Members). memberOids k e) held ∙ sym (row-members ws i h)))
+    ∙ ap (newMembers e adds dels) (ap (λ (k : Members). memberValues (oids e) k) held ∙ sym (row-members ws i h)))
 
 -- ---- a complex ping that is accepted
 
@@ -131,7 +130,7 @@ module _ (s n : ℕ) (adds dels : List ℕ) (e : Entries) (sd : sound e ≡ true
       ltb-true _ _ (sym (set-live e s) ∙ not-false _ (passed _ 11 _ (omega arith) rows .0))
 
   -- the set's row
-  row-below : rowMeant s e < length (withSetMeant s e .sets)
+  row-below : pingSetRow s e < length (withPingSet s e .sets)
   row-below =
       ⊎-elim
       (λ (t : eqb s 0 ≡ true). rw t (let l = length-append (e .sets) (newSet e ∷ []) in omega arith))
@@ -139,20 +138,20 @@ module _ (s n : ℕ) (adds dels : List ℕ) (e : Entries) (sd : sound e ≡ true
       (true-or-false (eqb s 0))
 
   -- the objects stay as they were
-  meant-oids : oids (withSetMeant s e) ≡ oids e
+  meant-oids : oids (withPingSet s e) ≡ oids e
   meant-oids = ⊎-elim (λ (t : eqb s 0 ≡ true). rw t refl) (λ (f : eqb s 0 ≡ false). rw f refl) (true-or-false (eqb s 0))
 
-  meant-live : membersLive (withSetMeant s e) ≡ true
+  meant-live : setMembersLive (withPingSet s e) ≡ true
   unfolding every
   meant-live =
-      let named = sound-fields e sd .membersNamed in
+      let named = sound-fields e sd .setMembersLive in
       ⊎-elim
       (λ (t : eqb s 0 ≡ true). rw t (every-snoc (λ (p : PingSet). every (among (oids e)) (p .members)) (e .sets) (newSet e) ∙ and-intro _ true named refl))
       (λ (f : eqb s 0 ≡ false). rw f named)
       (true-or-false (eqb s 0))
 
   -- the set is updated and pinged
-  meant-next : pingedRow (rowMeant s e) (updatedRow (rowMeant s e) n adds dels (withSetMeant s e)) ≡ next (Call.complexPing s n adds dels) e
+  meant-next : pingedRow (pingSetRow s e) (updatedRow (pingSetRow s e) n adds dels (withPingSet s e)) ≡ next (Call.complexPing s n adds dels) e
   meant-next =
       ⊎-elim
       (λ (t : eqb s 0 ≡ true). rw t (sym (complex-ping-new e sd s n adds dels t)))
@@ -160,14 +159,14 @@ module _ (s n : ℕ) (adds dels : List ℕ) (e : Entries) (sd : sound e ≡ true
       (true-or-false (eqb s 0))
 
   -- the arrays that the steps leave: the set's row is found or made, the set updated, then pinged
-  module _ (st ws₁ : List ℕ) (i : ℕ) (row : i ≡ rowMeant s e) (meant : view (memory ws₁ st) ≡ withSetMeant s e) where
+  module _ (st ws₁ : List ℕ) (i : ℕ) (row : i ≡ pingSetRow s e) (meant : view (memory ws₁ st) ≡ withPingSet s e) where
     -- what the update asks
-    pub update-asked : (i < setCount ws₁) × (proper (oids (view (memory ws₁ ws₁))) ≡ true) × (membersLive (view (memory ws₁ ws₁)) ≡ true)
+    pub update-asked : (i < setCount ws₁) × (proper (oids (view (memory ws₁ ws₁))) ≡ true) × (setMembersLive (view (memory ws₁ ws₁)) ≡ true)
     update-asked =
         let l = sets-length ws₁ in
         let sets = ap (λ (f : Entries). length (f .sets)) meant in
         let b = row-below in
-        (omega arith, ap (λ (f : Entries). proper (oids f)) meant ∙ ap proper meant-oids ∙ sound-fields e sd .objectsProper, ap membersLive meant ∙ meant-live)
+        (omega arith, ap (λ (f : Entries). proper (oids f)) meant ∙ ap proper meant-oids ∙ sound-fields e sd .objectsProper, ap setMembersLive meant ∙ meant-live)
 
     module _ (ws₂ : List ℕ) (updates : Became (updatedRow i n adds dels) ws₁ ws₂) where
       -- what the ping asks
@@ -184,5 +183,5 @@ module _ (s n : ℕ) (adds dels : List ℕ) (e : Entries) (sd : sound e ≡ true
       pinged-next ws₃ pings =
           pings st
           ∙ ap (pingedRow i) (updates st ∙ ap (updatedRow i n adds dels) meant)
-          ∙ ap (λ (k : ℕ). pingedRow k (updatedRow k n adds dels (withSetMeant s e))) row
+          ∙ ap (λ (k : ℕ). pingedRow k (updatedRow k n adds dels (withPingSet s e))) row
           ∙ meant-next

@@ -2,33 +2,29 @@
 use Prim.Native.Nat.{ℕ}
 use mathlib.Core.Path.{_≡_}
 use mathlib.Core.Bool.{Bool, cond, _&&_}
-use mathlib.Core.List.{List, map}
+use mathlib.Core.List.{List}
 use lib.Dec.{eqb, ltb}
 use lib.ListN.{length, getD}
 use Rattle.lists.specs.Lists.{firstIndex, among}
-use Rattle.columns.specs.Members.{isMember, memberRows, InWords}
+use Rattle.columns.specs.Members.{isMember, InWords}
 use Rattle.columns.specs.declared.members.Members.{Members}
-use Rattle.rules.specs.Entries.{Entries, oids, setNumbers, heardAt}
+use Rattle.rules.specs.Entries.{Entries, setNumbers, heardAt}
 use Rattle.rules.specs.Rules.{makeSet}
 use Rattle.table.specs.Edits.{changeObject}
-
--- the OIDs of the members
-abbrev pub memberOids : Members → Entries → List ℕ
-memberOids m e = map (λ j. getD (oids e) j 0) (memberRows m)
 
 -- the object at row i is heard now, where it is a member
 abbrev pub heardRow : Members → ℕ → Entries → Entries
 heardRow m i e = cond (isMember m i) (changeObject i (heardAt (e .clock)) e) e
 
 -- the rows of objects whose OIDs are in a list became members, or no members any more; the other rows stayed
-pub record Put (member : Bool) (ids listed : List ℕ) (m r : Members) : Type 0 where
+pub record MembersUpdated (member : Bool) (ids listed : List ℕ) (m r : Members) : Type 0 where
   pub words : InWords r
   pub rows : (j : ℕ) → isMember r j ≡ cond (ltb j (length ids) && among listed (getD ids j 0)) member (isMember m j)
 
 -- the entries with the set that a complex ping is about: set 0 stands for the set that it makes
-abbrev pub withSetMeant : ℕ → Entries → Entries
-withSetMeant s e = cond (eqb s 0) (makeSet e) e
+abbrev pub withPingSet : ℕ → Entries → Entries
+withPingSet s e = cond (eqb s 0) (makeSet e) e
 
 -- and its row
-abbrev pub rowMeant : ℕ → Entries → ℕ
-rowMeant s e = cond (eqb s 0) (length (e .sets)) (firstIndex (eqb s) (setNumbers e))
+abbrev pub pingSetRow : ℕ → Entries → ℕ
+pingSetRow s e = cond (eqb s 0) (length (e .sets)) (firstIndex (eqb s) (setNumbers e))

@@ -3,7 +3,6 @@ use kinds::SetId;
 use kinds::answer;
 use table::find;
 use table::judge;
-use table::layout;
 ghost use Rattle.rules.specs.Calls.{Call};
 ghost use Rattle.table.specs.View.{memory, SoundTable, Stepped, Performed};
 ghost use Rattle.reading.specs.Replies.{censusReply, membersReply};
@@ -52,10 +51,10 @@ pub fn census_step<'a>(words: &'a [u64], store: &'a [u8]) -> LiveCounts
 {
     LiveCounts {
         answer: answer::DONE,
-        exporters: layout::exporter_count(words),
-        objects: layout::object_count(words),
-        interfaces: layout::interface_count(words),
-        sets: layout::set_count(words),
+        exporters: find::exporter_count(words),
+        objects: find::object_count(words),
+        interfaces: find::interface_count(words),
+        sets: find::set_count(words),
     }
 }
 
@@ -81,8 +80,8 @@ pub fn members_step<'a>(words: &'a [u64], store: &'a [u8], set: SetId) -> Member
         Stepped (Call.members (set .0)) (memory (now (words .entry)) (now (store .entry))) (membersReply r)
         (memory (now (words .entry)) (now (store .entry))) ⌝ }
 {
-    let i = find::set_row(words, set.0);
-    if layout::set_count(words) <= i {
+    let i = find::set_row(words, set);
+    if find::set_count(words) <= i {
         return MemberCount {
             answer: answer::NO_SET,
             count: 0,

@@ -5,7 +5,6 @@ use kinds::Oxid;
 use kinds::answer;
 use table::find;
 use table::judge;
-use table::layout;
 ghost use mathlib.Core.Path.{_≡_};
 ghost use Rattle.rules.specs.Calls.{Call};
 ghost use Rattle.table.specs.View.{memory, SoundTable, Stepped, Performed};
@@ -54,8 +53,8 @@ pub fn resolve_step<'a>(
         Stepped (Call.resolve (oxid .0) (now (buffer .entry))) (memory (now (words .entry)) (now (store .entry)))
         (resolveReply r (now (buffer .exit))) (memory (now (words .entry)) (now (store .entry))) ⌝ }
 {
-    let i = find::exporter_row(words, oxid.0);
-    if layout::exporter_count(words) <= i {
+    let i = find::exporter_row(words, oxid);
+    if find::exporter_count(words) <= i {
         return refused(answer::NO_EXPORTER);
     }
     let list = find::list(words, store, i);
@@ -105,8 +104,8 @@ pub fn resolve_filtered_step<'a>(
     if 65535 < protocols.len() {
         return refused(answer::TOO_MANY);
     }
-    let i = find::exporter_row(words, oxid.0);
-    if layout::exporter_count(words) <= i {
+    let i = find::exporter_row(words, oxid);
+    if find::exporter_count(words) <= i {
         return refused(answer::NO_EXPORTER);
     }
     let list = find::list(words, store, i);

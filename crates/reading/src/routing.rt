@@ -1,5 +1,6 @@
 // Where to go next with a reference: its exporter's list where that is live, else the reference's own list.
 use bindings::Place;
+use kinds::Oxid;
 use kinds::answer;
 use references::Reference;
 use table::find;
@@ -8,10 +9,9 @@ use table::layout;
 ghost use mathlib.Core.Path.{_≡_};
 ghost use mathlib.Core.Bool.{true};
 ghost use Prim.Native.Nat.{_<_};
-ghost use lib.ListN.{length};
 ghost use Rattle.rules.specs.Calls.{Call};
 ghost use Rattle.rules.specs.Sound.{listsKept};
-ghost use Rattle.rules.specs.Contract.{replyTo};
+ghost use Rattle.rules.specs.Contract.{replyTo, Whole};
 ghost use Rattle.table.specs.View.{exporterCount, memory, view, SoundTable};
 ghost use Rattle.reading.specs.NextStop.{refusedStop, stopInStore, stopInReference, StopFound, StopPart};
 
@@ -38,11 +38,11 @@ fn refused(number: u32) -> StopPlace
 // The list of exporter i, where it keeps the list rules.
 fn in_store<'a>(words: &'a [u64], store: &'a [u8], i: usize) -> StopPlace
     requires { ⌜
-        (length (now store) ≡ 8192) × (i < exporterCount (now words))
+        Whole (now store) × (i < exporterCount (now words))
         × (listsKept (view (memory (now words) (now store))) ≡ true) ⌝ }
     ensures { λ r. ⌜ r ≡ stopInStore (memory (now (words .entry)) (now (store .entry))) i ⌝ }
 {
-    let from = layout::SLOT * i;
+    let from = layout::slot_start(i);
     StopPlace {
         answer: answer::DONE,
         in_store: true,
@@ -85,8 +85,8 @@ pub fn next_stop_step<'a>(words: &'a [u64], store: &'a [u8], reference: &'a [u8]
     if fields::read_u32(reference, 4) == Reference::CUSTOM {
         return refused(answer::LAYOUT);
     }
-    let i = find::exporter_row(words, fields::read_u64(reference, 32));
-    if i < layout::exporter_count(words) {
+    let i = find::exporter_row(words, Oxid(fields::read_u64(reference, 32)));
+    if i < find::exporter_count(words) {
         return in_store(words, store, i);
     }
     in_reference(own)

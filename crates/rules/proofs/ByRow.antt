@@ -1,43 +1,29 @@
 -- The rules speak by identifier, the code by row. For entries whose identifiers are distinct: the entry of an identifier, its change and
 -- its removal by its row; what release leaves and answers by the row of its interface; what the clock answers.
-use Prim.Native.Nat.{ℕ, _-_, _<_, min}
+use Prim.Native.Nat.{ℕ, _<_, min}
 use mathlib.Core.Path.{_≡_, refl, sym, ap, _∙_}
 use mathlib.Core.Bool.{Bool, true, false, not, _&&_, and-true}
 use mathlib.Core.List.{List, [], _∷_, map}
-use native.Mathlib.Omega.{arith}
 use borrow.Author.Tests.{lt-ltb}
-use lib.ListN.{getD, length, set, length-map}
+use lib.ListN.{getD, length, set}
 use lib.Seq.{map-set-same}
 use lib.Dec.{eqb, ltb}
 use Rattle.kinds.specs.declared.Guid.{Guid}
-use Rattle.lists.specs.Lists.{apart, keep, every, some, distinct, firstIndex, deleteAt, among}
+use Rattle.lists.specs.Lists.{apart, keep, every, some, distinct, deleteAt, among}
 use Rattle.lists.specs.Guids.{nil, sameGuid}
 use Rattle.lists.proofs.Tests.{and-left, and-right}
-use Rattle.lists.proofs.Lists.{every-at, every-set, some-map, none-some, every-kept, keep-passes, keep-all, keep-map, keep-set, map-id-on}
+use Rattle.lists.proofs.Lists.{every-at, every-set, some-map, none-some, every-kept, keep-passes, keep-all, keep-set, map-id-on}
 use Rattle.lists.proofs.First.{some-index, entry-index}
 use Rattle.lists.proofs.Distinct.{eqb-decides, distinct-append, some-same-keep-map, entry-change, entry-remove}
 use Rattle.lists.proofs.Guids.{guid-decides}
-use Rattle.rules.specs.Entries.{Exporter, Object, Interface, PingSet, Entries, oxids, oids, setNumbers, interfaceIpids, ipids, withExporters, withObjects, withInterfaces, withSets, withMembers, publicOf, privateOf}
-use Rattle.rules.specs.Calls.{removeExporter, add, release, clock}
+use Rattle.rules.specs.Entries.{Exporter, Object, Interface, PingSet, Entries, oxids, oids, setNumbers, interfaceIpids, ipids, withExporters, withObjects, withInterfaces, withSets, withMembers, publicOf, privateOf, exporterRow, objectRow, interfaceRow, setRow}
+use Rattle.rules.specs.Calls.{removeExporter, add, release}
 use Rattle.rules.specs.Sound.{held, hasInterface, sound}
 use Rattle.rules.specs.Rules.{dropEmpty, isLiveExporter, isLiveObject, isLiveInterface, isLiveSet, noExporter, noInterface, noSet, exporterOf, interfaceOf, setOf, flag, withoutObjects, atInterface, increased, decreased, atSet, next, results, releaseValues}
 use Rattle.rules.proofs.SoundLaws.{sound-fields}
 use Rattle.rules.proofs.Groups.{fine-distinct, grouped, serving-objects}
-use Rattle.rules.proofs.Leaving.{staysAt, setStaysAt}
 
 -- ---- rows
-
-abbrev pub exporterRow : Entries → ℕ → ℕ
-exporterRow e x = firstIndex (eqb x) (oxids e)
-
-abbrev pub objectRow : Entries → ℕ → ℕ
-objectRow e o = firstIndex (eqb o) (oids e)
-
-abbrev pub interfaceRow : Entries → Guid → ℕ
-interfaceRow e i = firstIndex (sameGuid i) (interfaceIpids e)
-
-abbrev pub setRow : Entries → ℕ → ℕ
-setRow e s = firstIndex (eqb s) (setNumbers e)
 
 -- the interface in the row of an IPID, and the set in the row of a number
 abbrev pub interfaceIn : Entries → Guid → Interface
@@ -141,8 +127,8 @@ nothing-goes stays e a b c =
 pub full-kept : (e : Entries) → sound e ≡ true → dropEmpty e ≡ e
 full-kept e s =
     let g = sound-fields e s in
-    ap (λ (is : List Interface). withoutObjects (hasInterface (withInterfaces is e)) (withInterfaces is e)) (keep-all held (e .interfaces) (g .counted))
-    ∙ nothing-goes (hasInterface e) e (g .haveInterfaces) (g .objectsNamed) (g .membersNamed)
+    ap (λ (is : List Interface). withoutObjects (hasInterface (withInterfaces is e)) (withInterfaces is e)) (keep-all held (e .interfaces) (g .interfacesHeld))
+    ∙ nothing-goes (hasInterface e) e (g .objectsHaveInterfaces) (g .interfaceObjectsLive) (g .setMembersLive)
 
 -- ---- release
 
@@ -241,26 +227,3 @@ module _ (e : Entries) (i : Guid) (s : sound e ≡ true) (h : interfaceRow e i <
         ∙ rw object-named (and-true (stillServed e i)))
 
 -- ---- clock
-
--- the numbers of what went: of exporters none, of objects and sets what is overdue, of interfaces those whose object went
-pub clock-values : (e : Entries) (t : ℕ)
-    → results (clock t) e .values
-    ≡ 0
-    ∷ (length (e .objects) - length (keep (staysAt t) (e .objects)))
-    ∷ (length (e .interfaces) - length (keep (λ (i : Interface). among (map (λ (o : Object). o .oid) (keep (staysAt t) (e .objects))) (i .object)) (e .interfaces)))
-    ∷ (length (e .sets) - length (keep (setStaysAt t) (e .sets)))
-    ∷ []
-unfolding results next
-clock-values e t =
-    λ u.
-    (let z : length (e .exporters) - length (e .exporters) ≡ 0 = omega arith in z u)
-    ∷ (length (e .objects) - length (keep (staysAt t) (e .objects)))
-    ∷ (length (e .interfaces) - length (keep (λ (i : Interface). among left (i .object)) (e .interfaces)))
-    ∷ (length (e .sets) - (ap length (keep-map (setStaysAt t) change (e .sets)) ∙ length-map (keep (setStaysAt t) (e .sets)) change) u)
-    ∷ []
-  where
-    left : List ℕ
-    left = map (λ (o : Object). o .oid) (keep (staysAt t) (e .objects))
-
-    change : PingSet → PingSet
-    change s = withMembers (keep (among left) (s .members)) s

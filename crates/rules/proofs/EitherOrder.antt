@@ -322,13 +322,13 @@ module _ (a b : CountCall) (d : Apart a b) (e : Entries) (s : sound e ≡ true) 
   live-same =
       let g = sound-fields e s in
       ap (λ (x : Entries). isLiveInterface x (a .item .ipid)) (done-drop b e s)
-      ∙ changed-live (a .item .ipid) (b .item .ipid) (d .apart) (λ r. r) (changeIf b (accepts b e)) none-plain (change-plain b (accepts b e)) e (g .objectsNamed) (g .counted)
+      ∙ changed-live (a .item .ipid) (b .item .ipid) (d .apart) (λ r. r) (changeIf b (accepts b e)) none-plain (change-plain b (accepts b e)) e (g .interfaceObjectsLive) (g .interfacesHeld)
 
   entry-same : interfaceOf (callDone (callOf b) e) (a .item .ipid) ≡ interfaceOf e (a .item .ipid)
   entry-same =
       let g = sound-fields e s in
       ap (λ (x : Entries). interfaceOf x (a .item .ipid)) (done-drop b e s)
-      ∙ changed-entry (a .item .ipid) (b .item .ipid) (d .apart) (λ r. r) (changeIf b (accepts b e)) none-plain (change-plain b (accepts b e)) e (g .objectsNamed) (g .counted)
+      ∙ changed-entry (a .item .ipid) (b .item .ipid) (d .apart) (λ r. r) (changeIf b (accepts b e)) none-plain (change-plain b (accepts b e)) e (g .interfaceObjectsLive) (g .interfacesHeld)
 
 -- a call's number by what it looks at
 number-from : (w : Counting) (c : ℕ) (t : Item) (e e′ : Entries) → isLiveInterface e′ (t .ipid) ≡ isLiveInterface e (t .ipid) → interfaceOf e′ (t .ipid) ≡ interfaceOf e (t .ipid)
@@ -351,7 +351,7 @@ both-done a b d d′ e s =
     done-drop b (callDone (callOf a) e) (sound-done (callOf a) e s)
     ∙ ap (λ (n : ℕ). dropEmpty (atInterface (b .item .ipid) (changeIf b (eqb n 0)) (callDone (callOf a) e))) (number-same b a d′ e s)
     ∙ ap (λ (x : Entries). dropEmpty (atInterface (b .item .ipid) (changeIf b (accepts b e)) x)) (done-drop a e s)
-    ∙ drop-later (a .item .ipid) (b .item .ipid) (d .apart) (changeIf a (accepts a e)) (changeIf b (accepts b e)) (change-plain a (accepts a e)) (change-plain b (accepts b e)) e (g .objectsNamed) (g .counted)
+    ∙ drop-later (a .item .ipid) (b .item .ipid) (d .apart) (changeIf a (accepts a e)) (changeIf b (accepts b e)) (change-plain a (accepts a e)) (change-plain b (accepts b e)) e (g .interfaceObjectsLive) (g .interfacesHeld)
 
 same-entries : (a b : CountCall) → Apart a b → Apart b a → (e : Entries) → sound e ≡ true → callDone (callOf b) (callDone (callOf a) e) ≡ callDone (callOf a) (callDone (callOf b) e)
 same-entries a b d d′ e s =
@@ -496,7 +496,7 @@ first-passes d p q (x ∷ xs) s t =
 object-live : (e : Entries) → sound e ≡ true → (i : Guid) → isLiveInterface e i ≡ true → isLiveObject e (interfaceOf e i .object) ≡ true
 object-live e s i l =
     first-passes noInterface (λ (r : Interface). sameGuid i (r .ipid)) (λ (r : Interface). among (oids e) (r .object)) (e .interfaces)
-    (sym (some-map (sameGuid i) (λ (r : Interface). r .ipid) (e .interfaces)) ∙ l) (sound-fields e s .objectsNamed)
+    (sym (some-map (sameGuid i) (λ (r : Interface). r .ipid) (e .interfaces)) ∙ l) (sound-fields e s .interfaceObjectsLive)
 
 module _ (a b : CountCall) (d : Apart a b) (d′ : Apart b a) (e : Entries) (s : sound e ≡ true) where
   abbrev afterFirst : Entries
@@ -526,7 +526,7 @@ module _ (b : CountCall) (e : Entries) (s : sound e ≡ true) where
   form =
       done-drop b e s
       ∙ drop-form (atInterface (b .item .ipid) (changeIf b (accepts b e)) e)
-      (named-changed (oids e) changed changed-plain (e .interfaces) (sound-fields e s .objectsNamed))
+      (named-changed (oids e) changed changed-plain (e .interfaces) (sound-fields e s .interfaceObjectsLive))
 
   left-interfaces : callDone (callOf b) e .interfaces ≡ keep held (map changed (e .interfaces))
   left-interfaces = ap (λ (x : Entries). x .interfaces) form
@@ -543,7 +543,7 @@ module _ (b : CountCall) (e : Entries) (s : sound e ≡ true) where
   other-left : (x : Interface) → In x (e .interfaces) → sameGuid (b .item .ipid) (x .ipid) ≡ false → In x (callDone (callOf b) e .interfaces)
   other-left x m t =
       let fix : changed x ≡ x = ap (λ (c : Bool). cond c (changeIf b (accepts b e) x) x) t in
-      rw left-interfaces (in-keep held (rw fix at (Memᴰ·map changed m)) (every-in held m (sound-fields e s .counted)))
+      rw left-interfaces (in-keep held (rw fix at (Memᴰ·map changed m)) (every-in held m (sound-fields e s .interfacesHeld)))
 
 -- the live interface of an IPID is its entry
 sole-entry : (e : Entries) → sound e ≡ true → (i : Guid) (x : Interface) → In x (e .interfaces) → sameGuid i (x .ipid) ≡ true → interfaceOf e i ≡ x
@@ -566,7 +566,7 @@ module _ (a b : CountCall) (d : Apart a b) (d′ : Apart b a) (e : Entries) (s :
 
   -- an interface that is left names an object that is left
   left-names : (y : Interface) → In y (final .interfaces) → (o : ℕ) → y .object ≡ o → isLiveObject final o ≡ true
-  left-names y m o q = ap (among (oids final)) (sym q) ∙ every-in (λ (r : Interface). among (oids final) (r .object)) m (sound-fields final final-sound .objectsNamed)
+  left-names y m o q = ap (among (oids final)) (sym q) ∙ every-in (λ (r : Interface). among (oids final) (r .object)) m (sound-fields final final-sound .interfaceObjectsLive)
 
   module _ (o : ℕ) (own : objectOf a e ≡ o) (there : isLiveObject first o ≡ true) (gone : isLiveObject final o ≡ false) where
     -- an interface of the object is that of the second call
@@ -582,7 +582,7 @@ module _ (a b : CountCall) (d : Apart a b) (d′ : Apart b a) (e : Entries) (s :
     some-interface =
         let r = some-in (eqb o) (oids first) there in
         let w = map-in (λ (p : Object). p .oid) (first .objects) (r .1) in
-        let v = some-in (λ (x : Interface). eqb (w .0 .oid) (x .object)) (first .interfaces) (every-in (hasInterface first) (w .1) (sound-fields first first-sound .haveInterfaces)) in
+        let v = some-in (λ (x : Interface). eqb (w .0 .oid) (x .object)) (first .interfaces) (every-in (hasInterface first) (w .1) (sound-fields first first-sound .objectsHaveInterfaces)) in
         (v .0, v .1, sym (eqb-true (w .0 .oid) (v .0 .object) (v .2)) ∙ sym (w .2) ∙ sym (eqb-true o (r .0) (r .2)))
 
     -- it is of the second call's object

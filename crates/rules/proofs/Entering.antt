@@ -1,7 +1,7 @@
 -- The calls that enter an entry or add references leave sound entries.
 use Prim.Native.Nat.{ℕ, _-_, _≤_}
 use mathlib.Core.Path.{_≡_, refl, _∙_}
-use mathlib.Core.Bool.{Bool, true, false, not, _&&_, _||_, or-true}
+use mathlib.Core.Bool.{Bool, true, false, _&&_, _||_, or-true}
 use mathlib.Core.List.{List, [], _∷_, _++_, map, append-assoc}
 use native.Mathlib.Omega.{arith}
 use borrow.Author.Tests.{eq-eqb, le-leb, lt-leb}
@@ -16,7 +16,7 @@ use Rattle.lists.proofs.Lists.{every-snoc, every-mono, some-snoc, map-append, m
 use Rattle.lists.proofs.Distinct.{eqb-decides}
 use Rattle.lists.proofs.Guids.{guid-decides}
 use Rattle.rules.specs.Entries.{Exporter, Object, Interface, PingSet, Entries, oxids, oids, interfaceIpids, ipids, withExporters, withObjects, withInterfaces}
-use Rattle.rules.specs.Sound.{longestList, properGuids, held, overdue}
+use Rattle.rules.specs.Sound.{longestList, properGuids, held, overdue, heardWithin}
 use Rattle.rules.specs.Rules.{atInterface, increased}
 use Rattle.rules.proofs.Counts.{increased-held}
 use Rattle.rules.proofs.Groups.{fine-mid, fine-snoc, fine-entered, interfaces-replaced, ExportersSound, ObjectsSound, InterfacesSound, SetsSound, Grouped}
@@ -87,7 +87,7 @@ objects-snoc {now} {exporters} o os s n x h =
       named = every-snoc (λ (p : Object). among exporters (p .exporter)) os o ∙ rw (s .named, x);
       byClock = every-snoc (λ (p : Object). leb (p .heard) now) os o ∙ rw (s .byClock, h) (le-leb now now (omega arith));
       lately =
-          every-snoc (λ (p : Object). p .noping || not (overdue now (p .heard))) os o
+          every-snoc (heardWithin now) os o
           ∙ rw (s .lately, h, not-overdue now) (or-true (o .noping));
     }
 

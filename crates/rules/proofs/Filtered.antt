@@ -52,7 +52,7 @@ module _ (e : Entries) (x : ℕ) (protocols buffer : List ℕ) (few : length pro
         ⊎-elim
         (λ n. ap (filtered protocols) n ∙ no-bytes protocols ∙ sym n)
         (λ d. filtered-same protocols (exporterOf e x .bindings) b d all)
-        (first-list (λ (p : Exporter). eqb x (p .oxid)) (e .exporters) (sound-fields e s .bindingsKept))
+        (first-list (λ (p : Exporter). eqb x (p .oxid)) (e .exporters) (sound-fields e s .listsKept))
 
     replies-agree : sound e ≡ true → reply (Call.resolveFiltered x protocols buffer) e ≡ reply (Call.resolve x buffer) e
     replies-agree s = agrees (same-list s)

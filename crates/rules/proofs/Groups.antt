@@ -11,9 +11,9 @@ use Rattle.bindings.specs.Bindings.{listAnswer}
 use Rattle.lists.specs.Lists.{every, some, distinct, among}
 use Rattle.lists.proofs.Tests.{and-intro, and-left, and-right}
 use Rattle.lists.proofs.Lists.{every-map, every-ext, every-append, every-snoc, some-map, map-append}
-use Rattle.lists.proofs.Distinct.{Decides, Part, distinct-mid}
+use Rattle.lists.proofs.Distinct.{Decides, Sublist, distinct-mid}
 use Rattle.rules.specs.Entries.{Exporter, Object, Interface, PingSet, Entries, oxids, oids, ipids, withNext, withInterfaces, withSets}
-use Rattle.rules.specs.Sound.{longestList, proper, properGuids, held, overdue, sound}
+use Rattle.rules.specs.Sound.{longestList, proper, properGuids, held, sound, heardWithin, pingedWithin}
 use Rattle.rules.proofs.SoundLaws.{Sound, sound-fields, sound-made}
 
 -- ---- identifiers of a kind: nonzero and distinct
@@ -28,8 +28,8 @@ module _ {A : Type 0} (same : A → A → Bool) (zero : A) where
   fine-distinct xs h = and-right (every (λ (x : A). not (same x zero)) xs) (distinct same xs) h
 
   -- a part of them
-  pub fine-part : {xs ys : List A} → Part ys xs → fine xs ≡ true → fine ys ≡ true
-  fine-part {xs} {ys} s h =
+  pub fine-sublist : {xs ys : List A} → Sublist ys xs → fine xs ≡ true → fine ys ≡ true
+  fine-sublist {xs} {ys} s h =
       let nonzero : A → Bool = λ x. not (same x zero) in
       and-intro (every nonzero ys) (distinct same ys)
       (s .passes nonzero (and-left (every nonzero xs) (distinct same xs) h))
@@ -70,7 +70,7 @@ pub record ObjectsSound (now : ℕ) (exporters : List ℕ) (os : List Object) : 
   pub ids : proper (map (λ (o : Object). o .oid) os) ≡ true
   pub named : every (λ (o : Object). among exporters (o .exporter)) os ≡ true
   pub byClock : every (λ (o : Object). leb (o .heard) now) os ≡ true
-  pub lately : every (λ (o : Object). o .noping || not (overdue now (o .heard))) os ≡ true
+  pub lately : every (heardWithin now) os ≡ true
 
 -- objects are the live OIDs
 pub record InterfacesSound (objects : List ℕ) (is : List Interface) : Type 0 where
@@ -82,7 +82,7 @@ pub record SetsSound (now next : ℕ) (objects : List ℕ) (ss : List PingSet) :
   pub ids : proper (map (λ (s : PingSet). s .number) ss) ≡ true
   pub named : every (λ (s : PingSet). every (among objects) (s .members)) ss ≡ true
   pub byClock : every (λ (s : PingSet). leb (s .pinged) now) ss ≡ true
-  pub lately : every (λ (s : PingSet). not (overdue now (s .pinged))) ss ≡ true
+  pub lately : every (pingedWithin now) ss ≡ true
   pub nonzero : not (eqb next 0) ≡ true
   pub below : every (λ (n : ℕ). ltb n next) (map (λ (s : PingSet). s .number) ss) ≡ true
 
@@ -115,11 +115,11 @@ serving-objects os is =
 fields-grouped : (e : Entries) → Sound e → Grouped e
 fields-grouped e s =
     record {
-      exporters = record { ids = s .exportersProper; lists = s .bindingsKept };
-      objects = record { ids = s .objectsProper; named = s .exportersNamed; byClock = s .heardByClock; lately = s .heardLately };
+      exporters = record { ids = s .exportersProper; lists = s .listsKept };
+      objects = record { ids = s .objectsProper; named = s .objectExportersLive; byClock = s .heardBefore; lately = s .heardRecently };
       ids = s .ipidsProper;
-      interfaces = record { named = s .objectsNamed; serving = serving-objects (e .objects) (e .interfaces) ∙ s .haveInterfaces; counted = s .counted };
-      sets = record { ids = s .setsProper; named = s .membersNamed; byClock = s .pingedByClock; lately = s .pingedLately; nonzero = s .nextNonzero; below = s .belowNext };
+      interfaces = record { named = s .interfaceObjectsLive; serving = serving-objects (e .objects) (e .interfaces) ∙ s .objectsHaveInterfaces; counted = s .interfacesHeld };
+      sets = record { ids = s .setsProper; named = s .setMembersLive; byClock = s .pingedBefore; lately = s .pingedRecently; nonzero = s .nextNonzero; below = s .setsBelowNext };
     }
 
 -- sound entries by groups
@@ -135,16 +135,16 @@ sound-grouped e g =
       objectsProper = g .objects .ids;
       ipidsProper = g .ids;
       setsProper = g .sets .ids;
-      objectsNamed = g .interfaces .named;
-      exportersNamed = g .objects .named;
-      haveInterfaces = sym (serving-objects (e .objects) (e .interfaces)) ∙ g .interfaces .serving;
-      counted = g .interfaces .counted;
-      membersNamed = g .sets .named;
-      heardByClock = g .objects .byClock;
-      pingedByClock = g .sets .byClock;
-      heardLately = g .objects .lately;
-      pingedLately = g .sets .lately;
+      interfaceObjectsLive = g .interfaces .named;
+      objectExportersLive = g .objects .named;
+      objectsHaveInterfaces = sym (serving-objects (e .objects) (e .interfaces)) ∙ g .interfaces .serving;
+      interfacesHeld = g .interfaces .counted;
+      setMembersLive = g .sets .named;
+      heardBefore = g .objects .byClock;
+      pingedBefore = g .sets .byClock;
+      heardRecently = g .objects .lately;
+      pingedRecently = g .sets .lately;
       nextNonzero = g .sets .nonzero;
-      belowNext = g .sets .below;
-      bindingsKept = g .exporters .lists;
+      setsBelowNext = g .sets .below;
+      listsKept = g .exporters .lists;
     })

@@ -1,7 +1,7 @@
 -- The calls by which objects go leave sound entries: with an object go its interfaces and its place in every set.
 use Prim.Native.Nat.{ℕ, _≤_}
 use mathlib.Core.Path.{_≡_, refl, ap, _∙_}
-use mathlib.Core.Bool.{Bool, true, not, _||_}
+use mathlib.Core.Bool.{Bool, true, not}
 use mathlib.Core.List.{List, map}
 use native.Mathlib.Omega.{arith}
 use borrow.Author.Tests.{leb-true, le-leb}
@@ -10,12 +10,12 @@ use Rattle.kinds.specs.declared.Guid.{Guid}
 use Rattle.lists.specs.Lists.{keep, every, among}
 use Rattle.lists.specs.Guids.{nil, sameGuid}
 use Rattle.lists.proofs.Lists.{every-map, every-mono, every-mono-on, every-from-at, every-kept, keep-map, keep-passes, map-unread, map-unread-at}
-use Rattle.lists.proofs.Distinct.{eqb-decides, some-same, some-same-keep-map, part-whole, part-keep, part-append}
+use Rattle.lists.proofs.Distinct.{eqb-decides, some-same, some-same-keep-map, sublist-whole, sublist-keep, sublist-append}
 use Rattle.rules.specs.Entries.{Exporter, Object, Interface, PingSet, Entries, oxids, ipids, withClock, withExporters, withInterfaces, withSets, withMembers}
 use Rattle.rules.specs.Calls.{clock}
-use Rattle.rules.specs.Sound.{properGuids, held, hasInterface, overdue}
+use Rattle.rules.specs.Sound.{properGuids, held, hasInterface, pingedWithin, heardWithin}
 use Rattle.rules.specs.Rules.{withoutObjects, atInterfaces, dropEmpty, next}
-use Rattle.rules.proofs.Groups.{fine-part, ExportersSound, ObjectsSound, SetsSound, Grouped, serving-objects}
+use Rattle.rules.proofs.Groups.{fine-sublist, ExportersSound, ObjectsSound, SetsSound, Grouped, serving-objects}
 
 -- each number is among the numbers
 pub among-itself : (ns : List ℕ) → every (among ns) ns ≡ true
@@ -26,13 +26,13 @@ among-itself ns = every-from-at (among ns) 0 ns (λ j h. some-same eqb eqb-decid
 -- exporters of which some are kept
 exporters-kept : (p : Exporter → Bool) (xs : List Exporter) → ExportersSound xs → ExportersSound (keep p xs)
 exporters-kept p xs s =
-    record { ids = fine-part eqb 0 (part-keep (λ (x : Exporter). x .oxid) p xs) (s .ids); lists = every-kept _ p xs (s .lists) }
+    record { ids = fine-sublist eqb 0 (sublist-keep (λ (x : Exporter). x .oxid) p xs) (s .ids); lists = every-kept _ p xs (s .lists) }
 
 -- objects of which some are kept
 objects-kept : {now : ℕ} {exporters : List ℕ} (p : Object → Bool) (os : List Object) → ObjectsSound now exporters os → ObjectsSound now exporters (keep p os)
 objects-kept p os s =
     record {
-      ids = fine-part eqb 0 (part-keep (λ (o : Object). o .oid) p os) (s .ids);
+      ids = fine-sublist eqb 0 (sublist-keep (λ (o : Object). o .oid) p os) (s .ids);
       named = every-kept _ p os (s .named);
       byClock = every-kept _ p os (s .byClock);
       lately = every-kept _ p os (s .lately);
@@ -41,8 +41,8 @@ objects-kept p os s =
 -- the IPIDs of what is kept
 ids-kept : (p : Interface → Bool) (e : Entries) → properGuids (ipids e) ≡ true → properGuids (ipids (withInterfaces (keep p (e .interfaces)) e)) ≡ true
 ids-kept p e h =
-    fine-part sameGuid nil
-    (part-append (part-whole (map (λ (x : Exporter). x .unknown) (e .exporters))) (part-keep (λ (i : Interface). i .ipid) p (e .interfaces))) h
+    fine-sublist sameGuid nil
+    (sublist-append (sublist-whole (map (λ (x : Exporter). x .unknown) (e .exporters))) (sublist-keep (λ (i : Interface). i .ipid) p (e .interfaces))) h
 
 -- ---- what goes along with objects
 
@@ -57,7 +57,7 @@ sets-left {now} {next} {before} objects ss s =
           ∙ every-mono (λ (p : PingSet). every (among before) (p .members)) (λ p. every (among objects) (left p .members))
           (λ p h. keep-passes (among objects) (p .members)) ss (s .named);
       byClock = every-map (λ (p : PingSet). leb (p .pinged) now) left ss ∙ s .byClock;
-      lately = every-map (λ (p : PingSet). not (overdue now (p .pinged))) left ss ∙ s .lately;
+      lately = every-map (pingedWithin now) left ss ∙ s .lately;
       nonzero = s .nonzero;
       below = rw (map-unread (λ (p : PingSet). p .number) left (λ p. refl) ss) (s .below);
     }
@@ -97,7 +97,7 @@ objects-left stays e x o i c v {before} s =
 -- every object that stays has an interface
 stay-serving : (stays : Object → Bool) (e : Entries) → Grouped e
     → every (among (map (λ (i : Interface). i .object) (e .interfaces))) (map (λ (o : Object). o .oid) (keep stays (e .objects))) ≡ true
-stay-serving stays e g = part-keep (λ (o : Object). o .oid) stays (e .objects) .passes _ (g .interfaces .serving)
+stay-serving stays e g = sublist-keep (λ (o : Object). o .oid) stays (e .objects) .passes _ (g .interfaces .serving)
 
 -- ---- the calls
 
@@ -117,8 +117,8 @@ exporter-removed e x g =
       byClock = kept .byClock;
       lately = kept .lately;
     })
-    (fine-part sameGuid nil
-    (part-append (part-keep (λ (p : Exporter). p .unknown) other (e .exporters)) (part-whole (map (λ (i : Interface). i .ipid) (e .interfaces)))) (g .ids))
+    (fine-sublist sameGuid nil
+    (sublist-append (sublist-keep (λ (p : Exporter). p .unknown) other (e .exporters)) (sublist-whole (map (λ (i : Interface). i .ipid) (e .interfaces)))) (g .ids))
     (g .interfaces .counted)
     (stay-serving stays e g)
     (g .sets)
@@ -129,52 +129,45 @@ exporter-removed e x g =
     other : Exporter → Bool
     other p = not (eqb x (p .oxid))
 
--- the objects that a time leaves, and the sets
-abbrev pub staysAt : ℕ → Object → Bool
-staysAt t o = o .noping || not (overdue t (o .heard))
-
-abbrev pub setStaysAt : ℕ → PingSet → Bool
-setStaysAt t s = not (overdue t (s .pinged))
-
 -- a time not above the clock is not above a later one
 later : (t now then : ℕ) → now ≤ then → leb t now ≡ true → leb t then ≡ true
 later t now then h b = let l = leb-true t now b in le-leb t then (omega arith)
 
 -- sets may go before objects
-pub clock-next : (e : Entries) (t : ℕ) → next (clock t) e ≡ withoutObjects (staysAt t) (withClock t (withSets (keep (setStaysAt t) (e .sets)) e))
+pub clock-next : (e : Entries) (t : ℕ) → next (clock t) e ≡ withoutObjects (heardWithin t) (withClock t (withSets (keep (pingedWithin t) (e .sets)) e))
 unfolding next
 clock-next e t =
-    ap (λ (l : List PingSet). withClock t (withSets l (withoutObjects (staysAt t) e)))
-    (keep-map (setStaysAt t) (λ (s : PingSet). withMembers (keep (among (map (λ (o : Object). o .oid) (keep (staysAt t) (e .objects)))) (s .members)) s) (e .sets))
+    ap (λ (l : List PingSet). withClock t (withSets l (withoutObjects (heardWithin t) e)))
+    (keep-map (pingedWithin t) (λ (s : PingSet). withMembers (keep (among (map (λ (o : Object). o .oid) (keep (heardWithin t) (e .objects)))) (s .members)) s) (e .sets))
 
 -- the clock set, and what is overdue gone
 pub clock-set : (e : Entries) (t : ℕ) → Grouped e → e .clock ≤ t → Grouped (next (clock t) e)
 clock-set e t g h =
     rw (clock-next e t)
-    (objects-left (staysAt t) (withClock t (withSets (keep (setStaysAt t) (e .sets)) e))
+    (objects-left (heardWithin t) (withClock t (withSets (keep (pingedWithin t) (e .sets)) e))
     (g .exporters)
     (record {
       ids = kept .ids;
       named = kept .named;
-      byClock = every-mono (λ o. leb (o .heard) (e .clock)) (λ o. leb (o .heard) t) (λ o. later (o .heard) (e .clock) t h) (keep (staysAt t) (e .objects)) (kept .byClock);
-      lately = keep-passes (staysAt t) (e .objects);
+      byClock = every-mono (λ o. leb (o .heard) (e .clock)) (λ o. leb (o .heard) t) (λ o. later (o .heard) (e .clock) t h) (keep (heardWithin t) (e .objects)) (kept .byClock);
+      lately = keep-passes (heardWithin t) (e .objects);
     })
     (g .ids)
     (g .interfaces .counted)
-    (stay-serving (staysAt t) e g)
+    (stay-serving (heardWithin t) e g)
     (record {
-      ids = fine-part eqb 0 (part-keep (λ (s : PingSet). s .number) (setStaysAt t) (e .sets)) (g .sets .ids);
-      named = every-kept _ (setStaysAt t) (e .sets) (g .sets .named);
+      ids = fine-sublist eqb 0 (sublist-keep (λ (s : PingSet). s .number) (pingedWithin t) (e .sets)) (g .sets .ids);
+      named = every-kept _ (pingedWithin t) (e .sets) (g .sets .named);
       byClock =
-          every-kept _ (setStaysAt t) (e .sets)
+          every-kept _ (pingedWithin t) (e .sets)
           (every-mono (λ s. leb (s .pinged) (e .clock)) (λ s. leb (s .pinged) t) (λ s. later (s .pinged) (e .clock) t h) (e .sets) (g .sets .byClock));
-      lately = keep-passes (setStaysAt t) (e .sets);
+      lately = keep-passes (pingedWithin t) (e .sets);
       nonzero = g .sets .nonzero;
-      below = part-keep (λ (s : PingSet). s .number) (setStaysAt t) (e .sets) .passes _ (g .sets .below);
+      below = sublist-keep (λ (s : PingSet). s .number) (pingedWithin t) (e .sets) .passes _ (g .sets .below);
     }))
   where
-    kept : ObjectsSound (e .clock) (oxids e) (keep (staysAt t) (e .objects))
-    kept = objects-kept (staysAt t) (e .objects) (g .objects)
+    kept : ObjectsSound (e .clock) (oxids e) (keep (heardWithin t) (e .objects))
+    kept = objects-kept (heardWithin t) (e .objects) (g .objects)
 
 -- the counts of interfaces changed in any way, and what is empty then dropped
 pub counts-taken : (e : Entries) (t : Guid → Bool) (f : Interface → Interface) → ((r : Interface) → f r .ipid ≡ r .ipid) → Grouped e → Grouped (dropEmpty (atInterfaces t f e))

@@ -13,14 +13,14 @@ use Rattle.kinds.proofs.Refusing.{or-false}
 use Rattle.lists.specs.Lists.{distinct, firstIndex, among}
 use Rattle.lists.proofs.Lists.{map-append}
 use Rattle.lists.proofs.First.{first-here, first-right}
-use Rattle.rules.specs.Entries.{PingSet, Entries, setNumbers, pingedAt}
+use Rattle.rules.specs.Entries.{PingSet, Entries, setNumbers, pingedAt, setRow}
 use Rattle.rules.specs.Calls.{simplePing, complexPing}
 use Rattle.rules.specs.Sound.{sound}
-use Rattle.rules.specs.PingRows.{heardNow, changeSet, pingedRow, updatedRow}
-use Rattle.rules.specs.Rules.{noSet, atSet, ping, makeSet, next}
+use Rattle.rules.specs.PingRows.{changeSet, pingedRow, updatedRow}
+use Rattle.rules.specs.Rules.{noSet, atSet, ping, makeSet, next, heardNow}
 use Rattle.rules.proofs.Groups.{fine-distinct, grouped}
 use Rattle.rules.proofs.Pinging.{newSet, next-free, set-made}
-use Rattle.rules.proofs.ByRow.{setRow, setIn, set-row, at-set-row, sets-distinct}
+use Rattle.rules.proofs.ByRow.{setIn, set-row, at-set-row, sets-distinct}
 
 -- a ping of the set in a row
 ping-row : (e : Entries) (s : ℕ) → setRow e s < length (e .sets) → distinct eqb (setNumbers e) ≡ true → ping s e ≡ pingedRow (setRow e s) e

@@ -11,7 +11,7 @@ use Rattle.lists.specs.Lists.{every, among}
 use Rattle.lists.proofs.Lists.{every-nil, every-snoc, every-mono, every-kept, none-some, map-append, map-unread-at, every-changed-at}
 use Rattle.lists.proofs.Distinct.{eqb-decides}
 use Rattle.rules.specs.Entries.{Object, PingSet, Entries, oids, setNumbers, withObjects, heardAt, pingedAt, withSequence, withMembers}
-use Rattle.rules.specs.Sound.{overdue}
+use Rattle.rules.specs.Sound.{overdue, heardWithin, pingedWithin}
 use Rattle.rules.specs.Rules.{setOf, atSet, ping, newMembers, makeSet}
 use Rattle.rules.proofs.Groups.{fine-entered, sets-replaced, ObjectsSound, SetsSound, Grouped}
 use Rattle.rules.proofs.Entering.{not-overdue}
@@ -26,7 +26,7 @@ objects-heard {now} {exporters} t os s =
       named = every-changed-at t (heardAt now) (λ o. among exporters (o .exporter)) (λ o h. h) os (s .named);
       byClock = every-changed-at t (heardAt now) (λ o. leb (o .heard) now) (λ o h. le-leb now now (omega arith)) os (s .byClock);
       lately =
-          every-changed-at t (heardAt now) (λ o. o .noping || not (overdue now (o .heard)))
+          every-changed-at t (heardAt now) (heardWithin now)
           (λ o h. rw (not-overdue now) (or-true (o .noping))) os (s .lately);
     }
 
@@ -44,7 +44,7 @@ sets-changed {now} {next} {objects} t f c ss s =
       ids = rw (map-unread-at t f (λ p. p .number) (c .number) ss) (s .ids);
       named = every-changed-at t f (λ p. every (among objects) (p .members)) (c .named) ss (s .named);
       byClock = every-changed-at t f (λ p. leb (p .pinged) now) (c .pinged (λ n. leb n now) (le-leb now now (omega arith))) ss (s .byClock);
-      lately = every-changed-at t f (λ p. not (overdue now (p .pinged))) (c .pinged (λ n. not (overdue now n)) (ap not (not-overdue now))) ss (s .lately);
+      lately = every-changed-at t f (pingedWithin now) (c .pinged (λ n. not (overdue now n)) (ap not (not-overdue now))) ss (s .lately);
       nonzero = s .nonzero;
       below = rw (map-unread-at t f (λ p. p .number) (c .number) ss) (s .below);
     }
@@ -95,7 +95,7 @@ set-made e g =
       named = every-snoc (λ (s : PingSet). every (among (oids e)) (s .members)) (e .sets) (newSet e) ∙ rw (g .sets .named) (every-nil (among (oids e)));
       byClock = every-snoc (λ (s : PingSet). leb (s .pinged) (e .clock)) (e .sets) (newSet e) ∙ rw (g .sets .byClock) (le-leb (e .clock) (e .clock) (omega arith));
       lately =
-          every-snoc (λ (s : PingSet). not (overdue (e .clock) (s .pinged))) (e .sets) (newSet e)
+          every-snoc (pingedWithin (e .clock)) (e .sets) (newSet e)
           ∙ rw (g .sets .lately) (ap not (not-overdue (e .clock)));
       nonzero = ap not (ne-eqb (e .next + 1) 0 (omega arith));
       below =

@@ -9,7 +9,7 @@ use borrow.Author.Tests.{eq-eqb, eqb-true}
 use Rattle.lists.specs.Lists.{holding}
 use Rattle.lists.proofs.Tests.{and-left, and-right, holding-nil, holding-cons, holding-head, holding-tail}
 use Rattle.rules.specs.Entries.{Entries, oxids, oids, ipids, setNumbers}
-use Rattle.rules.specs.Sound.{proper, properGuids, interfaceObjectsLive, objectExportersLive, objectsHaveInterfaces, interfacesHeld, membersLive, heardBefore, pingedBefore, heardRecently, pingedRecently, setsBelowNext, listsKept, sound}
+use Rattle.rules.specs.Sound.{proper, properGuids, interfaceObjectsLive, objectExportersLive, objectsHaveInterfaces, interfacesHeld, setMembersLive, heardBefore, pingedBefore, heardRecently, pingedRecently, setsBelowNext, listsKept, sound}
 use Rattle.rules.specs.Contract.{Memory, rightLengths, soundMemory, SoundTable}
 
 -- the clause at an index of clauses that hold
@@ -24,18 +24,18 @@ pub record Sound (e : Entries) : Type 0 where
   pub objectsProper : proper (oids e) ≡ true
   pub ipidsProper : properGuids (ipids e) ≡ true
   pub setsProper : proper (setNumbers e) ≡ true
-  pub objectsNamed : interfaceObjectsLive e ≡ true
-  pub exportersNamed : objectExportersLive e ≡ true
-  pub haveInterfaces : objectsHaveInterfaces e ≡ true
-  pub counted : interfacesHeld e ≡ true
-  pub membersNamed : membersLive e ≡ true
-  pub heardByClock : heardBefore e ≡ true
-  pub pingedByClock : pingedBefore e ≡ true
-  pub heardLately : heardRecently e ≡ true
-  pub pingedLately : pingedRecently e ≡ true
+  pub interfaceObjectsLive : interfaceObjectsLive e ≡ true
+  pub objectExportersLive : objectExportersLive e ≡ true
+  pub objectsHaveInterfaces : objectsHaveInterfaces e ≡ true
+  pub interfacesHeld : interfacesHeld e ≡ true
+  pub setMembersLive : setMembersLive e ≡ true
+  pub heardBefore : heardBefore e ≡ true
+  pub pingedBefore : pingedBefore e ≡ true
+  pub heardRecently : heardRecently e ≡ true
+  pub pingedRecently : pingedRecently e ≡ true
   pub nextNonzero : not (eqb (e .next) 0) ≡ true
-  pub belowNext : setsBelowNext e ≡ true
-  pub bindingsKept : listsKept e ≡ true
+  pub setsBelowNext : setsBelowNext e ≡ true
+  pub listsKept : listsKept e ≡ true
 
 pub sound-fields : (e : Entries) → sound e ≡ true → Sound e
 unfolding sound
@@ -45,18 +45,18 @@ sound-fields e h =
       objectsProper = clause-at _ 1 h;
       ipidsProper = clause-at _ 2 h;
       setsProper = clause-at _ 3 h;
-      objectsNamed = clause-at _ 4 h;
-      exportersNamed = clause-at _ 5 h;
-      haveInterfaces = clause-at _ 6 h;
-      counted = clause-at _ 7 h;
-      membersNamed = clause-at _ 8 h;
-      heardByClock = clause-at _ 9 h;
-      pingedByClock = clause-at _ 10 h;
-      heardLately = clause-at _ 11 h;
-      pingedLately = clause-at _ 12 h;
+      interfaceObjectsLive = clause-at _ 4 h;
+      objectExportersLive = clause-at _ 5 h;
+      objectsHaveInterfaces = clause-at _ 6 h;
+      interfacesHeld = clause-at _ 7 h;
+      setMembersLive = clause-at _ 8 h;
+      heardBefore = clause-at _ 9 h;
+      pingedBefore = clause-at _ 10 h;
+      heardRecently = clause-at _ 11 h;
+      pingedRecently = clause-at _ 12 h;
       nextNonzero = clause-at _ 13 h;
-      belowNext = clause-at _ 14 h;
-      bindingsKept = clause-at _ 15 h;
+      setsBelowNext = clause-at _ 14 h;
+      listsKept = clause-at _ 15 h;
     }
 
 -- clauses that hold, one before the others
@@ -77,18 +77,18 @@ sound-made e s =
     and s .objectsProper
     and s .ipidsProper
     and s .setsProper
-    and s .objectsNamed
-    and s .exportersNamed
-    and s .haveInterfaces
-    and s .counted
-    and s .membersNamed
-    and s .heardByClock
-    and s .pingedByClock
-    and s .heardLately
-    and s .pingedLately
+    and s .interfaceObjectsLive
+    and s .objectExportersLive
+    and s .objectsHaveInterfaces
+    and s .interfacesHeld
+    and s .setMembersLive
+    and s .heardBefore
+    and s .pingedBefore
+    and s .heardRecently
+    and s .pingedRecently
     and s .nextNonzero
-    and s .belowNext
-    and s .bindingsKept
+    and s .setsBelowNext
+    and s .listsKept
     and none)
     .together
 

@@ -19,6 +19,10 @@ pub record Memory : Type 0 where
 abbrev pub rightLengths : Memory → Bool
 rightLengths m = eqb (length (m .words)) 8192 && eqb (length (m .store)) 8192
 
+-- as long as the array has words, and the store bytes
+abbrev pub Whole : List ℕ → Type 0
+Whole xs = length xs ≡ 8192
+
 -- a reset looks at lengths only
 abbrev pub lengthsOnly : Call → Bool
 lengthsOnly (reset t) = true
@@ -58,8 +62,8 @@ module _ (view : Memory → Entries) where
 
   -- m is sound: what a step is lent
   pub record SoundTable (m : Memory) : Type 0 where
-    pub words : length (m .words) ≡ 8192
-    pub store : length (m .store) ≡ 8192
+    pub words : Whole (m .words)
+    pub store : Whole (m .store)
     pub entries : sound (view m) ≡ true
 
   -- Of a step, which is a call on a sound memory m that is not judged again, and leaves m′: its number and all that it answers or

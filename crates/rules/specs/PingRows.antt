@@ -1,15 +1,9 @@
 -- What a ping leaves, by the row of its set: for the contracts of steps below the calls. The rule of a ping is in Rules.antt.
 use Prim.Native.Nat.{ℕ}
-use mathlib.Core.Bool.{cond}
-use mathlib.Core.List.{List, map}
+use mathlib.Core.List.{List}
 use lib.ListN.{getD, set}
-use Rattle.lists.specs.Lists.{among}
-use Rattle.rules.specs.Entries.{Object, PingSet, Entries, withObjects, withSets, heardAt, pingedAt, withSequence, withMembers}
-use Rattle.rules.specs.Rules.{noSet, newMembers}
-
--- the objects with these OIDs are heard now
-abbrev pub heardNow : List ℕ → Entries → Entries
-heardNow ms e = withObjects (map (λ (o : Object). cond (among ms (o .oid)) (heardAt (e .clock) o) o) (e .objects)) e
+use Rattle.rules.specs.Entries.{PingSet, Entries, withSets, pingedAt, withSequence, withMembers}
+use Rattle.rules.specs.Rules.{noSet, heardNow, newMembers}
 
 -- the set at a row changed
 abbrev pub changeSet : ℕ → (PingSet → PingSet) → Entries → Entries

@@ -13,10 +13,10 @@ use Rattle.bindings.specs.Filter.{filtered}
 use Rattle.references.specs.References.{referenceAnswer, referenceAt, isCustom, tailOf}
 use Rattle.lists.specs.Lists.{keep, some, every, firstOr, among}
 use Rattle.lists.specs.Guids.{nil, sameGuid}
-use Rattle.rules.specs.Entries.{Exporter, Object, Interface, PingSet, Entries, fresh, oxids, oids, setNumbers, interfaceIpids, ipids, withClock, withNext, withExporters, withObjects, withInterfaces, withSets, heardAt, publicOf, privateOf, atCount, atCounts, pingedAt, withSequence, withMembers}
+use Rattle.rules.specs.Entries.{Exporter, Object, Interface, PingSet, Entries, exporterPlaces, objectPlaces, interfacePlaces, setPlaces, countLimit, sequenceLimit, fresh, oxids, oids, setNumbers, interfaceIpids, ipids, withClock, withNext, withExporters, withObjects, withInterfaces, withSets, heardAt, publicOf, privateOf, atCount, atCounts, pingedAt, withSequence, withMembers, withMembersOf}
 use Rattle.rules.specs.Calls.{Call, Counting, adding, releasing, reset, enterExporter, removeExporter, enterObject, enterInterface, add, release, dropClient, countList, simplePing, complexPing, clock, resolve, resolveFiltered, census, members, nextStop, Reply, Results, only}
 use Rattle.rules.specs.Items.{Item, itemSize, itemCount, itemsOf, itemCall}
-use Rattle.rules.specs.Sound.{longestList, held, hasInterface, overdue}
+use Rattle.rules.specs.Sound.{longestList, held, hasInterface, heardWithin, pingedWithin}
 
 -- ---- tests on the entries
 
@@ -80,19 +80,23 @@ full places xs = leb places (length xs)
 
 -- 4,294,967,295 is the largest count
 abbrev pub passesCount : ℕ → Bool
-passesCount n = leb (2 ^ 32) n
+passesCount n = leb countLimit n
 
 -- clients are 0 to 7
 abbrev pub noClient : ℕ → Bool
 noClient c = ltb 7 c
 
+-- the most identifiers, protocols or items of a list
+abbrev pub mostListed : ℕ
+mostListed = 65535
+
 abbrev pub tooMany : List ℕ → Bool
-tooMany ids = ltb 65535 (length ids)
+tooMany ids = ltb mostListed (length ids)
 
 -- (new - last) modulo 65,536 is 0 or above 32,767
-abbrev pub stale : ℕ → ℕ → Bool
-stale last new =
-    let d : ℕ = (new + 65536 - last) % 65536 in
+abbrev pub staleSequence : ℕ → ℕ → Bool
+staleSequence last new =
+    let d : ℕ = (new + sequenceLimit - last) % sequenceLimit in
     eqb d 0 || ltb 32767 d
 
 -- ---- the refusals of each call, in their order
@@ -103,20 +107,20 @@ refusals (enterExporter x u b) e =
     (badOxid e x || badIpid e u) gives 3
     ∷ passes (listAnswer b)
     ∷ ltb longestList (length b) gives 19
-    ∷ full 16 (e .exporters) gives 9
+    ∷ full exporterPlaces (e .exporters) gives 9
     ∷ []
 refusals (removeExporter x) e = not (isLiveExporter e x) gives 4 ∷ []
 refusals (enterObject o x i iid n np) e =
     (badOid e o || badIpid e i) gives 3
     ∷ not (isLiveExporter e x) gives 4
     ∷ eqb n 0 gives 7
-    ∷ (full 128 (e .objects) || full 256 (e .interfaces)) gives 9
+    ∷ (full objectPlaces (e .objects) || full interfacePlaces (e .interfaces)) gives 9
     ∷ []
 refusals (enterInterface o i iid n) e =
     badIpid e i gives 3
     ∷ not (isLiveObject e o) gives 5
     ∷ eqb n 0 gives 7
-    ∷ full 256 (e .interfaces) gives 9
+    ∷ full interfacePlaces (e .interfaces) gives 9
     ∷ []
 refusals (add c i p q) e =
     noClient c gives 20
@@ -128,7 +132,7 @@ refusals (dropClient c) e = noClient c gives 20 ∷ []
 refusals (countList w c s b) e =
     noClient c gives 20
     ∷ not (eqb (length s % itemSize) 0) gives 13
-    ∷ ltb 65535 (itemCount s) gives 10
+    ∷ ltb mostListed (itemCount s) gives 10
     ∷ ltb (length b) (itemCount s) gives 15
     ∷ []
 refusals (simplePing s) e = (eqb s 0 || not (isLiveSet e s)) gives 11 ∷ []
@@ -136,11 +140,11 @@ refusals (complexPing s n adds dels) e =
     (tooMany adds || tooMany dels) gives 10
     ∷ cond (eqb s 0)
     (not (every (isLiveObject e) adds) gives 5
-    ∷ full 32 (e .sets) gives 9
+    ∷ full setPlaces (e .sets) gives 9
     ∷ eqb (e .next) (2 ^ 64 - 1) gives 18
     ∷ [])
     (not (isLiveSet e s) gives 11
-    ∷ stale (setOf e s .sequence) n gives 12
+    ∷ staleSequence (setOf e s .sequence) n gives 12
     ∷ not (every (isLiveObject e) adds) gives 5
     ∷ [])
 refusals (clock t) e = ltb t (e .clock) gives 2 ∷ []
@@ -166,8 +170,7 @@ number c e = order (refusals c e)
 abbrev pub withoutObjects : (Object → Bool) → Entries → Entries
 withoutObjects stays e =
     let f : Entries = withObjects (keep stays (e .objects)) e in
-    withInterfaces (keep (λ (i : Interface). isLiveObject f (i .object)) (e .interfaces))
-    (withSets (map (λ (s : PingSet). withMembers (keep (isLiveObject f) (s .members)) s) (e .sets)) f)
+    withInterfaces (keep (λ (i : Interface). isLiveObject f (i .object)) (e .interfaces)) (withMembersOf (isLiveObject f) f)
 
 -- the interfaces changed whose IPID passes a test
 abbrev pub atInterfaces : (Guid → Bool) → (Interface → Interface) → Entries → Entries
@@ -191,19 +194,21 @@ dropEmpty e =
     let f : Entries = withInterfaces (keep held (e .interfaces)) e in
     withoutObjects (hasInterface f) f
 
+-- the objects with these OIDs are heard now
+abbrev pub heardNow : List ℕ → Entries → Entries
+heardNow ms e = withObjects (map (λ (o : Object). cond (among ms (o .oid)) (heardAt (e .clock) o) o) (e .objects)) e
+
 -- the set's ping time and every member's heard time become the clock
 abbrev pub ping : ℕ → Entries → Entries
-ping s e =
-    atSet s (pingedAt (e .clock))
-    (withObjects (map (λ (o : Object). cond (among (setOf e s .members) (o .oid)) (heardAt (e .clock) o) o) (e .objects)) e)
+ping s e = atSet s (pingedAt (e .clock)) (heardNow (setOf e s .members) e)
 
 -- adds come before deletes; the members stand in the order of the objects
 abbrev pub newMembers : Entries → List ℕ → List ℕ → List ℕ → List ℕ
 newMembers e adds dels ms = keep (λ (o : ℕ). (among ms o || among adds o) && not (among dels o)) (oids e)
 
 -- the number of the set that a complex ping is about: set 0 stands for the set that it makes
-abbrev pub setMeant : ℕ → ℕ → ℕ
-setMeant s next = cond (eqb s 0) next s
+abbrev pub pingSetNumber : ℕ → ℕ → ℕ
+pingSetNumber s next = cond (eqb s 0) next s
 
 -- a new set with the next number, which grows by one
 abbrev pub makeSet : Entries → Entries
@@ -258,13 +263,13 @@ next (dropClient c) e = dropEmpty (atInterfaces anyIpid (emptied c) e)
 next (countList w c s b) e = itemsDone w c (itemsOf s) e
 next (simplePing s) e = ping s e
 next (complexPing s n adds dels) e =
-    let k : ℕ = setMeant s (e .next) in
+    let k : ℕ = pingSetNumber s (e .next) in
     ping k
     (atSet k (λ (p : PingSet). withSequence n (withMembers (newMembers e adds dels (p .members)) p))
     (cond (eqb s 0) (makeSet e) e))
 next (clock t) e =
-    let f : Entries = withoutObjects (λ (o : Object). o .noping || not (overdue t (o .heard))) e in
-    withClock t (withSets (keep (λ (s : PingSet). not (overdue t (s .pinged))) (f .sets)) f)
+    let f : Entries = withoutObjects (heardWithin t) e in
+    withClock t (withSets (keep (pingedWithin t) (f .sets)) f)
 next (resolve x buffer) e = e
 next (resolveFiltered x protocols buffer) e = e
 next census e = e
@@ -316,7 +321,7 @@ results (dropClient c) e = only []
 results (countList w c s b) e = record { values = []; part = []; front = itemNumbers w c (itemsOf s) e; buffer = b }
 results (simplePing s) e = only []
 -- the set's number, and the backoff factor
-results (complexPing s n adds dels) e = only (setMeant s (e .next) ∷ 0 ∷ [])
+results (complexPing s n adds dels) e = only (pingSetNumber s (e .next) ∷ 0 ∷ [])
 results (clock t) e = only (clockValues e (next (clock t) e))
 -- the list's length and the remote-unknown IPID; the list at the front of the buffer
 results (resolve x buffer) e =

@@ -6,7 +6,7 @@ use lib.ListN.{length}
 use lib.Dec.{eqb, ltb, leb}
 use Rattle.kinds.specs.declared.Guid.{Guid}
 use Rattle.bindings.specs.Bindings.{listAnswer}
-use Rattle.lists.specs.Lists.{every, some, distinct, among, holding}
+use Rattle.lists.specs.Lists.{every, some, nonzero, distinct, among, holding}
 use Rattle.lists.specs.Guids.{nil, sameGuid}
 use Rattle.rules.specs.Entries.{Exporter, Object, Interface, PingSet, Entries, oxids, oids, setNumbers, ipids}
 
@@ -20,7 +20,7 @@ longestList = 512
 
 -- nonzero and distinct
 abbrev pub proper : List ℕ → Bool
-proper ns = every (λ (n : ℕ). not (eqb n 0)) ns && distinct eqb ns
+proper ns = nonzero ns && distinct eqb ns
 
 abbrev pub properGuids : List Guid → Bool
 properGuids gs = every (λ (g : Guid). not (sameGuid g nil)) gs && distinct sameGuid gs
@@ -35,6 +35,13 @@ hasInterface e o = some (λ (i : Interface). eqb (o .oid) (i .object)) (e .inter
 -- t is so far back from the time now that what was last heard at t goes
 abbrev pub overdue : ℕ → ℕ → Bool
 overdue now t = leb timeout (now - t)
+
+-- an object that is not pinged, or not overdue at the time now; a set that is not overdue then
+abbrev pub heardWithin : ℕ → Object → Bool
+heardWithin now o = o .noping || not (overdue now (o .heard))
+
+abbrev pub pingedWithin : ℕ → PingSet → Bool
+pingedWithin now s = not (overdue now (s .pinged))
 
 -- ---- the clauses, in the document's order
 
@@ -53,8 +60,8 @@ abbrev pub interfacesHeld : Entries → Bool
 interfacesHeld e = every held (e .interfaces)
 
 -- members are live objects
-abbrev pub membersLive : Entries → Bool
-membersLive e = every (λ (s : PingSet). every (among (oids e)) (s .members)) (e .sets)
+abbrev pub setMembersLive : Entries → Bool
+setMembersLive e = every (λ (s : PingSet). every (among (oids e)) (s .members)) (e .sets)
 
 -- heard and ping times are not above the clock
 abbrev pub heardBefore : Entries → Bool
@@ -65,10 +72,10 @@ pingedBefore e = every (λ (s : PingSet). leb (s .pinged) (e .clock)) (e .sets)
 
 -- and for sets and pinged objects under 360 below it
 abbrev pub heardRecently : Entries → Bool
-heardRecently e = every (λ (o : Object). o .noping || not (overdue (e .clock) (o .heard))) (e .objects)
+heardRecently e = every (heardWithin (e .clock)) (e .objects)
 
 abbrev pub pingedRecently : Entries → Bool
-pingedRecently e = every (λ (s : PingSet). not (overdue (e .clock) (s .pinged))) (e .sets)
+pingedRecently e = every (pingedWithin (e .clock)) (e .sets)
 
 -- live set numbers are below the next set number
 abbrev pub setsBelowNext : Entries → Bool
@@ -91,7 +98,7 @@ sound e =
     ∷ objectExportersLive e
     ∷ objectsHaveInterfaces e
     ∷ interfacesHeld e
-    ∷ membersLive e
+    ∷ setMembersLive e
     ∷ heardBefore e
     ∷ pingedBefore e
     ∷ heardRecently e

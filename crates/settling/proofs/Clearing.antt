@@ -1,8 +1,8 @@
 -- A client's drop in steps: each interface's count is cleared in its row, interfaces without references go, then objects without interfaces.
 use Prim.Native.Nat.{ℕ, zero, suc}
 use mathlib.Core.Path.{_≡_, refl, sym, ap, _∙_}
-use mathlib.Core.Bool.{Bool, true}
-use mathlib.Core.List.{List, [], _∷_, map}
+use mathlib.Core.Bool.{true}
+use mathlib.Core.List.{List, [], _∷_}
 use borrow.Author.Tests.{eqb-true}
 use lib.ListN.{getD, set}
 use lib.Seq.{set-set, set-getD, map-set-same}
@@ -12,8 +12,8 @@ use Rattle.lists.proofs.Lists.{map-id-on}
 use Rattle.rules.specs.Entries.{Interface, Entries, countOf, withCounts, withInterfaces}
 use Rattle.rules.specs.Calls.{dropClient}
 use Rattle.rules.specs.Rules.{noInterface, emptied, next}
-use Rattle.settling.specs.Leaving.{cleared, heldLeft, settled}
-use Rattle.settling.specs.declared.Leaving.the-variants.{Unserved}
+use Rattle.settling.specs.Leaving.{cleared, heldLeft, withoutLeaving}
+use Rattle.settling.specs.declared.Leaving.the-variants.{NoInterface}
 
 module _ (c : ℕ) where
   -- clearing twice is clearing once
@@ -44,6 +44,6 @@ module _ (c : ℕ) where
       zero-set (x ∷ xs) (suc k) = zero-set xs k
 
   -- the rule of the drop, in these steps
-  pub drop-steps : (e : Entries) → next (dropClient c) e ≡ settled Unserved (heldLeft (cleared c e))
+  pub drop-steps : (e : Entries) → next (dropClient c) e ≡ withoutLeaving NoInterface (heldLeft (cleared c e))
   unfolding next
   drop-steps e = refl

@@ -13,24 +13,22 @@ use Rattle.kinds.proofs.Refusing.{true-false, by-test}
 use Rattle.lists.specs.Lists.{keep, every, some, distinct, deleteAt, among}
 use Rattle.lists.proofs.Tests.{true-or-false, and-intro}
 use Rattle.lists.proofs.Lists.{every-nil, every-from-at, every-map, every-mono, some-none, none-some, keep-all, keep-within, map-map, map-ext, getD-map, map-delete, length-delete}
-use Rattle.lists.proofs.Distinct.{eqb-decides, distinct-delete, among-delete, some-same, part-keep}
+use Rattle.lists.proofs.Distinct.{eqb-decides, distinct-delete, among-delete, some-same, sublist-keep}
 use Rattle.columns.specs.Rows.{rowAt}
 use Rattle.columns.specs.Members.{memberRows}
 use Rattle.lists.specs.Lists.{tabulate}
 use Rattle.rules.specs.Entries.{Object, Interface, PingSet, Entries, countOf, withCount, oids, withObjects, withInterfaces, withSets, withMembers}
-use Rattle.rules.specs.Sound.{held, membersLive}
+use Rattle.rules.specs.Sound.{held, setMembersLive, pingedWithin}
 use Rattle.rules.specs.Rules.{noObject, noInterface, noSet, isLiveObject, emptied}
 use Rattle.rules.proofs.ByRow.{nothing-goes}
-use Rattle.rules.proofs.Leaving.{setStaysAt}
-use Rattle.table.specs.View.{objectCount, setCount, setsOf, memory, view}
+use Rattle.table.specs.View.{objectCount, setCount, setsOf, memory, view, oidsOf}
 use Rattle.table.specs.Edits.{membersAt, membersBelow, dropObject, dropInterface, dropSet, changeInterface}
 use Rattle.table.proofs.LiveRows.{sets-length, set-at}
 use Rattle.table.proofs.edit.Members.{oids-length, below-at}
-use Rattle.table.proofs.edit.Views.{oidsOf}
 use Rattle.settling.specs.Leaving.{stays, objectsLeft, interfacesLeft, setsLeft, leftAt, interfaceLeftAt, setLeftAt, cleared, heldLeft, heldLeftAt}
 use Rattle.settling.proofs.Clearing.{clear-row, clear-all, row-cleared}
 use Rattle.settling.specs.declared.Leaving.{Leaving}
-use Rattle.settling.specs.declared.Leaving.the-variants.{Exported, Unserved, Unheard}
+use Rattle.settling.specs.declared.Leaving.the-variants.{ExporterRemoved, NoInterface, Unheard}
 
 -- ---- one row of a list
 
@@ -156,18 +154,18 @@ module _ (c : ℕ) (before e : Entries) (n : ℕ) (g : Clearing c before n e) wh
 -- ---- sets
 
 abbrev pub SetsGoing : ℕ → Entries → ℕ → Entries → Type 0
-SetsGoing t = Going (λ e. e .sets) (λ e. setStaysAt t) (setsLeft t)
+SetsGoing t = Going (λ e. e .sets) (λ e. pingedWithin t) (setsLeft t)
 
 module _ (t : ℕ) (before e : Entries) (n : ℕ) (g : SetsGoing t before n e) where
   pub sets-row : (i : ℕ) → n ≡ suc i → SetsGoing t before i (setLeftAt t i e)
   sets-row i z =
-      going-row (λ e. e .sets) (λ e. setStaysAt t) (setsLeft t) noSet e before n i (dropSet i e) z refl refl
-      (λ h f. ap (λ (l : List PingSet). withSets l e) (keep-delete (setStaysAt t) noSet i (e .sets) h f)) g
+      going-row (λ e. e .sets) (λ e. pingedWithin t) (setsLeft t) noSet e before n i (dropSet i e) z refl refl
+      (λ h f. ap (λ (l : List PingSet). withSets l e) (keep-delete (pingedWithin t) noSet i (e .sets) h f)) g
 
   pub sets-all : n ≡ 0 → e ≡ setsLeft t before
   sets-all z =
-      going-all (λ e. e .sets) (λ e. setStaysAt t) (setsLeft t) noSet e before n z
-      (λ h. ap (λ (l : List PingSet). withSets l e) (keep-all (setStaysAt t) (e .sets) h)) g
+      going-all (λ e. e .sets) (λ e. pingedWithin t) (setsLeft t) noSet e before n z
+      (λ h. ap (λ (l : List PingSet). withSets l e) (keep-all (pingedWithin t) (e .sets) h)) g
 
 -- ---- objects
 
@@ -187,7 +185,7 @@ module _ (p : Object → Bool) (e : Entries) (u : distinct eqb (oids e) ≡ true
   oid-gone =
       let b : i < length (oids e) = rw (length-map (e .objects) oidOf) h in
       none-some (eqb gone) left
-      (part-keep oidOf p (deleteAt i (e .objects)) .passes (λ n. not (eqb gone n))
+      (sublist-keep oidOf p (deleteAt i (e .objects)) .passes (λ n. not (eqb gone n))
       (some-none (eqb gone) (map oidOf (deleteAt i (e .objects)))
       (ap (some (eqb gone)) (map-delete oidOf i (e .objects))
       ∙ ap (λ (n : ℕ). some (eqb n) (deleteAt i (oids e))) (sym (getD-map oidOf (e .objects) noObject 0 i h))
@@ -215,8 +213,8 @@ module _ (p : Object → Bool) (e : Entries) (u : distinct eqb (oids e) ≡ true
 
 -- whether an object stays does not depend on other objects
 stays-kept : (w : Leaving) (i : ℕ) (e : Entries) → stays w (dropObject i e) ≡ stays w e
-stays-kept (Exported x) i e = refl
-stays-kept Unserved i e = refl
+stays-kept (ExporterRemoved x) i e = refl
+stays-kept NoInterface i e = refl
 stays-kept (Unheard t) i e = refl
 
 abbrev pub ObjectsGoing : Leaving → Entries → ℕ → Entries → Type 0
@@ -228,7 +226,7 @@ module _ (w : Leaving) (before e : Entries) (n : ℕ) (g : ObjectsGoing w before
       going-row (λ e. e .objects) (stays w) (λ e. objectsLeft (stays w e) e) noObject e before n i (dropObject i e) z refl (stays-kept w i e)
       (λ h f. ap (λ (p : Object → Bool). objectsLeft p (dropObject i e)) (stays-kept w i e) ∙ object-gone (stays w e) e u i h f) g
 
-  pub objects-all : n ≡ 0 → membersLive e ≡ true → e ≡ objectsLeft (stays w before) before
+  pub objects-all : n ≡ 0 → setMembersLive e ≡ true → e ≡ objectsLeft (stays w before) before
   objects-all z l =
       going-all (λ e. e .objects) (stays w) (λ e. objectsLeft (stays w e) e) noObject e before n z
       (λ h. ap (withInterfaces (e .interfaces)) (nothing-goes (stays w e) (withInterfaces [] e) h (every-nil _) l)) g
@@ -241,7 +239,7 @@ distinct-left w i e u =
     (λ t. rw (map-delete oidOf i (e .objects)) (distinct-delete eqb i (oids e) u))
 
 -- members whose bits stand at live objects' rows are live objects
-pub below-live : (ws s : List ℕ) → membersBelow ws ≡ true → membersLive (view (memory ws s)) ≡ true
+pub below-live : (ws s : List ℕ) → membersBelow ws ≡ true → setMembersLive (view (memory ws s)) ≡ true
 unfolding rowAt tabulate
 below-live ws s h =
     every-from-at (λ (p : PingSet). every (among (oidsOf ws)) (p .members)) noSet (setsOf ws)

@@ -1,32 +1,30 @@
 -- What goes along when objects go.
 use Prim.Native.Nat.{ℕ}
-use mathlib.Core.Bool.{Bool, cond, not, _||_}
-use mathlib.Core.List.{map}
+use mathlib.Core.Bool.{Bool, cond, not}
 use lib.Dec.{eqb}
 use lib.ListN.{getD}
 use Rattle.lists.specs.Lists.{keep}
-use Rattle.rules.specs.Entries.{Object, Interface, PingSet, Entries, withObjects, withInterfaces, withSets, withMembers}
-use Rattle.rules.specs.Sound.{held, hasInterface, overdue}
+use Rattle.rules.specs.Entries.{Object, Interface, Entries, withObjects, withInterfaces, withSets, withMembersOf}
+use Rattle.rules.specs.Sound.{held, hasInterface, heardWithin, pingedWithin}
 use Rattle.rules.specs.Rules.{noObject, noInterface, noSet, isLiveObject, withoutObjects, atInterfaces, anyIpid, emptied}
 use Rattle.table.specs.Edits.{dropObject, dropInterface, dropSet}
 use Rattle.settling.specs.declared.Leaving.{Leaving}
-use Rattle.settling.specs.declared.Leaving.the-variants.{Exported, Unserved, Unheard}
+use Rattle.settling.specs.declared.Leaving.the-variants.{ExporterRemoved, NoInterface, Unheard}
 
 -- an object stays: it is of another exporter; it has an interface; it is not pinged, or not overdue at the time
 abbrev pub stays : Leaving → Entries → Object → Bool
-stays (Exported x) e o = not (eqb x (o .exporter))
-stays Unserved e o = hasInterface e o
-stays (Unheard t) e o = o .noping || not (overdue t (o .heard))
+stays (ExporterRemoved x) e o = not (eqb (x .0) (o .exporter))
+stays NoInterface e o = hasInterface e o
+stays (Unheard t) e o = heardWithin t o
 
 -- objects that do not stay go, with their interfaces and memberships
-abbrev pub settled : Leaving → Entries → Entries
-settled w e = withoutObjects (stays w e) e
+abbrev pub withoutLeaving : Leaving → Entries → Entries
+withoutLeaving w e = withoutObjects (stays w e) e
 
 -- the objects that stay, and of members those that stay
 abbrev pub objectsLeft : (Object → Bool) → Entries → Entries
 objectsLeft p e =
-    let f : Entries = withObjects (keep p (e .objects)) e in
-    withSets (map (λ (s : PingSet). withMembers (keep (isLiveObject f) (s .members)) s) (e .sets)) f
+    let f : Entries = withObjects (keep p (e .objects)) e in withMembersOf (isLiveObject f) f
 
 -- the interfaces whose object is live
 abbrev pub interfacesLeft : Entries → Entries
@@ -34,7 +32,7 @@ interfacesLeft e = withInterfaces (keep (λ (i : Interface). isLiveObject e (i .
 
 -- the sets that are not overdue at a time
 abbrev pub setsLeft : ℕ → Entries → Entries
-setsLeft t e = withSets (keep (λ (s : PingSet). not (overdue t (s .pinged))) (e .sets)) e
+setsLeft t e = withSets (keep (pingedWithin t) (e .sets)) e
 
 -- the object at row i goes, unless it stays
 abbrev pub leftAt : Leaving → ℕ → Entries → Entries
@@ -46,7 +44,7 @@ interfaceLeftAt i e = cond (isLiveObject e (getD (e .interfaces) i noInterface .
 
 -- the set at row i goes, unless it is not overdue at a time
 abbrev pub setLeftAt : ℕ → ℕ → Entries → Entries
-setLeftAt t i e = cond (not (overdue t (getD (e .sets) i noSet .pinged))) e (dropSet i e)
+setLeftAt t i e = cond (pingedWithin t (getD (e .sets) i noSet)) e (dropSet i e)
 
 -- a client's private references taken off every interface
 abbrev pub cleared : ℕ → Entries → Entries

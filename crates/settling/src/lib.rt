@@ -1,51 +1,43 @@
 // Rows that go: objects that do not stay, with their interfaces and memberships, and sets.
+use kinds::Oxid;
 use table::edit;
 use table::find;
-use table::judge;
-use table::layout;
 ghost use mathlib.Core.Path.{_≡_};
 ghost use mathlib.Core.Bool.{true};
-ghost use mathlib.Core.List.{List};
-ghost use Prim.Native.Nat.{ℕ, _<_};
-ghost use lib.ListN.{length, getD};
+ghost use Prim.Native.Nat.{_<_};
+ghost use lib.ListN.{getD};
 ghost use lib.Dec.{eqb};
 ghost use Rattle.lists.specs.Lists.{distinct};
-ghost use Rattle.rules.specs.Entries.{oids};
 ghost use Rattle.rules.specs.Rules.{noObject};
-ghost use Rattle.table.specs.View.{objectCount, interfaceCount, setCount, memory, view};
+ghost use Rattle.table.specs.View.{objectCount, interfaceCount, setCount, Holds, oidsOf};
 ghost use Rattle.table.specs.Edits.{membersBelow, Became};
-ghost use Rattle.settling.specs.Leaving.{stays, settled, objectsLeft, interfacesLeft, setsLeft, leftAt, interfaceLeftAt, setLeftAt, cleared, heldLeft, heldLeftAt};
+ghost use Rattle.settling.specs.Leaving.{stays, withoutLeaving, objectsLeft, interfacesLeft, setsLeft, leftAt, interfaceLeftAt, setLeftAt, cleared, heldLeft, heldLeftAt};
+ghost use Rattle.rules.specs.Contract.{Whole};
 
 // Why objects go: their exporter is removed, they have no interface, or they were not heard for too long at a time.
 pub enum Leaving {
-    Exported(u64),
-    Unserved,
+    ExporterRemoved(Oxid),
+    NoInterface,
     Unheard(u64),
 }
 
 // Whether object i stays.
 fn is_staying(words: &[u64], i: usize, why: Leaving) -> bool
-    requires { ⌜ (length (now words) ≡ 8192) × (i < objectCount (now words)) ⌝ }
-    ensures { λ r. ⌜ ((s : List ℕ) → r ≡ stays why (view (memory (now (words .entry)) s)) (getD (view (memory (now (words .entry)) s) .objects) i noObject)) ⌝ }
+    requires { ⌜ Whole (now words) × (i < objectCount (now words)) ⌝ }
+    ensures { λ r. ⌜ Holds (λ e. r ≡ stays why e (getD (e .objects) i noObject)) (now (words .entry)) ⌝ }
 {
     match why {
-        Leaving::Exported(x) => words[layout::OBJECT_EXPORTERS + i] != x,
-        Leaving::Unserved => find::is_served(words, words[layout::OIDS + i]),
-        Leaving::Unheard(t) => {
-            if words[layout::NO_PING_MARKS + i] != 0 {
-                true
-            } else {
-                columns::is_within(words[layout::HEARD_TIMES + i], t, layout::TIMEOUT)
-            }
-        }
+        Leaving::ExporterRemoved(x) => find::object_exporter(words, i).0 != x.0,
+        Leaving::NoInterface => find::is_served(words, find::oid(words, i)),
+        Leaving::Unheard(t) => find::is_heard_within(words, i, t),
     }
 }
 
 // Takes object i out, unless it stays.
 fn leave(words: &mut [u64], i: usize, why: Leaving)
     requires { ⌜
-        (length (now words) ≡ 8192) × (i < objectCount (now words)) × (membersBelow (now words) ≡ true)
-        × (distinct eqb (oids (view (memory (now words) (now words)))) ≡ true) ⌝ }
+        Whole (now words) × (i < objectCount (now words)) × (membersBelow (now words) ≡ true)
+        × (distinct eqb (oidsOf (now words)) ≡ true) ⌝ }
     ensures { λ _. ⌜ Became (leftAt why i) (now (words .entry)) (now (words .exit)) × (membersBelow (now (words .exit)) ≡ true) ⌝ }
 {
     if is_staying(words, i, why) {
@@ -57,13 +49,13 @@ fn leave(words: &mut [u64], i: usize, why: Leaving)
 // Takes the objects out that do not stay.
 fn drop_objects(words: &mut [u64], why: Leaving)
     requires { ⌜
-        (length (now words) ≡ 8192) × (membersBelow (now words) ≡ true)
-        × (distinct eqb (oids (view (memory (now words) (now words)))) ≡ true) ⌝ }
+        Whole (now words) × (membersBelow (now words) ≡ true)
+        × (distinct eqb (oidsOf (now words)) ≡ true) ⌝ }
     ensures { λ _. ⌜
-        ((s : List ℕ) → view (memory (now (words .exit)) s) ≡ objectsLeft (stays why (view (memory (now (words .entry)) s))) (view (memory (now (words .entry)) s)))
+        Became (λ e. objectsLeft (stays why e) e) (now (words .entry)) (now (words .exit))
         × (membersBelow (now (words .exit)) ≡ true) ⌝ }
 {
-    let mut i = layout::object_count(words);
+    let mut i = find::object_count(words);
     while 0 < i {
         i -= 1;
         leave(words, i, why);
@@ -72,11 +64,11 @@ fn drop_objects(words: &mut [u64], why: Leaving)
 
 // Takes interface i out, unless its object is live.
 fn leave_interface(words: &mut [u64], i: usize)
-    requires { ⌜ (length (now words) ≡ 8192) × (i < interfaceCount (now words)) ⌝ }
+    requires { ⌜ Whole (now words) × (i < interfaceCount (now words)) ⌝ }
     ensures { λ _. ⌜ Became (interfaceLeftAt i) (now (words .entry)) (now (words .exit)) ⌝ }
 {
-    let object = words[layout::INTERFACE_OBJECTS + i];
-    if find::object_row(words, object) < layout::object_count(words) {
+    let object = find::interface_object(words, i);
+    if find::object_row(words, object) < find::object_count(words) {
         return;
     }
     edit::remove_interface(words, i);
@@ -84,10 +76,10 @@ fn leave_interface(words: &mut [u64], i: usize)
 
 // Takes the interfaces out whose object is not live.
 fn drop_interfaces(words: &mut [u64])
-    requires { ⌜ length (now words) ≡ 8192 ⌝ }
+    requires { ⌜ Whole (now words) ⌝ }
     ensures { λ _. ⌜ Became interfacesLeft (now (words .entry)) (now (words .exit)) ⌝ }
 {
-    let mut i = layout::interface_count(words);
+    let mut i = find::interface_count(words);
     while 0 < i {
         i -= 1;
         leave_interface(words, i);
@@ -95,11 +87,11 @@ fn drop_interfaces(words: &mut [u64])
 }
 
 // Objects that do not stay go, with their interfaces and memberships.
-pub fn settle(words: &mut [u64], why: Leaving)
+pub fn remove_leaving(words: &mut [u64], why: Leaving)
     requires { ⌜
-        (length (now words) ≡ 8192) × (membersBelow (now words) ≡ true)
-        × (distinct eqb (oids (view (memory (now words) (now words)))) ≡ true) ⌝ }
-    ensures { λ _. ⌜ Became (settled why) (now (words .entry)) (now (words .exit)) ⌝ }
+        Whole (now words) × (membersBelow (now words) ≡ true)
+        × (distinct eqb (oidsOf (now words)) ≡ true) ⌝ }
+    ensures { λ _. ⌜ Became (withoutLeaving why) (now (words .entry)) (now (words .exit)) ⌝ }
 {
     drop_objects(words, why);
     drop_interfaces(words);
@@ -107,10 +99,10 @@ pub fn settle(words: &mut [u64], why: Leaving)
 
 // Takes set i out where it was not pinged for too long at a time.
 fn leave_set(words: &mut [u64], i: usize, time: u64)
-    requires { ⌜ (length (now words) ≡ 8192) × (i < setCount (now words)) ⌝ }
+    requires { ⌜ Whole (now words) × (i < setCount (now words)) ⌝ }
     ensures { λ _. ⌜ Became (setLeftAt time i) (now (words .entry)) (now (words .exit)) ⌝ }
 {
-    if columns::is_within(words[layout::PING_TIMES + i], time, layout::TIMEOUT) {
+    if find::is_pinged_within(words, i, time) {
         return;
     }
     edit::remove_set(words, i);
@@ -118,10 +110,10 @@ fn leave_set(words: &mut [u64], i: usize, time: u64)
 
 // Takes the sets out that were not pinged for too long at a time.
 pub fn drop_sets(words: &mut [u64], time: u64)
-    requires { ⌜ length (now words) ≡ 8192 ⌝ }
+    requires { ⌜ Whole (now words) ⌝ }
     ensures { λ _. ⌜ Became (setsLeft time) (now (words .entry)) (now (words .exit)) ⌝ }
 {
-    let mut i = layout::set_count(words);
+    let mut i = find::set_count(words);
     while 0 < i {
         i -= 1;
         leave_set(words, i, time);
@@ -130,22 +122,22 @@ pub fn drop_sets(words: &mut [u64], time: u64)
 
 // Takes the private references of a client off every interface.
 pub fn clear_counts(words: &mut [u64], client: usize)
-    requires { ⌜ (length (now words) ≡ 8192) × (client < 8) ⌝ }
+    requires { ⌜ Whole (now words) × (client < 8) ⌝ }
     ensures { λ _. ⌜ Became (cleared client) (now (words .entry)) (now (words .exit)) ⌝ }
 {
-    let mut i = layout::interface_count(words);
+    let mut i = find::interface_count(words);
     while 0 < i {
         i -= 1;
-        edit::set_count(words, i, client + 1, 0);
+        edit::put_count(words, i, client + 1, 0);
     }
 }
 
 // Takes interface i out, unless a reference to it is held.
 fn leave_unheld(words: &mut [u64], i: usize)
-    requires { ⌜ (length (now words) ≡ 8192) × (i < interfaceCount (now words)) ⌝ }
+    requires { ⌜ Whole (now words) × (i < interfaceCount (now words)) ⌝ }
     ensures { λ _. ⌜ Became (heldLeftAt i) (now (words .entry)) (now (words .exit)) ⌝ }
 {
-    if judge::is_held(words, i) {
+    if find::is_held(words, i) {
         return;
     }
     edit::remove_interface(words, i);
@@ -153,10 +145,10 @@ fn leave_unheld(words: &mut [u64], i: usize)
 
 // Takes the interfaces out to which no reference is held.
 pub fn drop_unheld(words: &mut [u64])
-    requires { ⌜ length (now words) ≡ 8192 ⌝ }
+    requires { ⌜ Whole (now words) ⌝ }
     ensures { λ _. ⌜ Became heldLeft (now (words .entry)) (now (words .exit)) ⌝ }
 {
-    let mut i = layout::interface_count(words);
+    let mut i = find::interface_count(words);
     while 0 < i {
         i -= 1;
         leave_unheld(words, i);

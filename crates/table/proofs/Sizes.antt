@@ -10,20 +10,18 @@ use lib.Dec.{eqb, ltb}
 use Rattle.lists.specs.Lists.{keep, every, distinct, tabulate}
 use Rattle.columns.specs.Members.{isMember, memberRows}
 use Rattle.lists.proofs.Lists.{every-at, every-at-or, map-tabulate, tabulate-getD}
-use Rattle.lists.proofs.Distinct.{part-keep}
+use Rattle.lists.proofs.Distinct.{sublist-keep}
 use Rattle.columns.proofs.members.Bits.{members-below}
 use Rattle.columns.proofs.members.Ones.{members-ones}
-use Rattle.lists.proofs.Tests.{and-left}
-use Rattle.rules.specs.Entries.{PingSet}
+use Rattle.rules.specs.Entries.{PingSet, setRow}
 use Rattle.rules.specs.Rules.{noSet, setOf}
 use Rattle.rules.specs.Contract.{Memory}
 use Rattle.rules.proofs.SoundLaws.{Sound, sound-fields, table-fields}
-use Rattle.rules.proofs.ByRow.{setRow, set-live, set-row, oids-distinct}
-use Rattle.table.specs.View.{objectCount, setCount, setsOf, view}
+use Rattle.rules.proofs.ByRow.{set-live, set-row, oids-distinct}
+use Rattle.table.specs.View.{objectCount, setCount, setsOf, view, oidsOf, memberValues}
 use Rattle.table.specs.Edits.{membersAt}
 use Rattle.table.specs.Sizes.{wordsFit, SetsSized}
 use Rattle.table.proofs.LiveRows.{sets-length}
-use Rattle.table.proofs.edit.Views.{oidsOf}
 use Rattle.table.proofs.edit.Members.{oids-length, below-at}
 use Rattle.table.proofs.edit.Below.{row-members, live-below}
 
@@ -38,19 +36,19 @@ word-fits m h x = ltb-true (getD (m .words) x 0) (2 ^ 64) (every-at-or (λ (w : 
 -- distinct OIDs at distinct rows
 rows-differ : (ids : List ℕ) (p : ℕ → Bool) → distinct eqb ids ≡ true → distinct eqb (map (λ j. getD ids j 0) (keep p (tabulate (length ids) (λ j. j)))) ≡ true
 rows-differ ids p h =
-    part-keep (λ (j : ℕ). getD ids j 0) p (tabulate (length ids) (λ j. j)) .differs eqb
+    sublist-keep (λ (j : ℕ). getD ids j 0) p (tabulate (length ids) (λ j. j)) .differs eqb
     (ap (distinct eqb) (map-tabulate (λ (j : ℕ). getD ids j 0) (length ids) (λ j. j) ∙ tabulate-getD ids 0) ∙ h)
 
 pub sets-sized : SetsSized
 sets-sized m fits t s l =
     record {
       sum = sym (ap length here ∙ length-map (memberRows (membersAt ws r)) (λ j. getD (oidsOf ws) j 0) ∙ members-ones (membersAt ws r) (word-fits m fits _, word-fits m fits _));
-      live = ap (every _) (ap (λ (p : PingSet). p .members) (set-row (view m) s)) ∙ every-at (λ (p : PingSet). every _ (p .members)) (setsOf ws) noSet r inside (f .membersNamed);
+      live = ap (every _) (ap (λ (p : PingSet). p .members) (set-row (view m) s)) ∙ every-at (λ (p : PingSet). every _ (p .members)) (setsOf ws) noSet r inside (f .setMembersLive);
       once =
           ap (distinct eqb)
           (here
           ∙ ap (map (λ j. getD (oidsOf ws) j 0))
-          (members-below (length (oidsOf ws)) (membersAt ws r) (rw (oids-length ws) (below-at ws (live-below ws (m .store) (and-left _ _ (f .objectsProper)) (f .membersNamed)) r row)) (let q = oids-length ws in let b = places ws in omega arith)))
+          (members-below (length (oidsOf ws)) (membersAt ws r) (rw (oids-length ws) (below-at ws (live-below ws (m .store) (f .objectsProper) (f .setMembersLive)) r row)) (let q = oids-length ws in let b = places ws in omega arith)))
           ∙ rows-differ (oidsOf ws) (isMember (membersAt ws r)) (oids-distinct (view m) (table-fields view m t .entries));
     }
   where
@@ -69,5 +67,5 @@ sets-sized m fits t s l =
     row : r < setCount ws
     row = let q = sets-length ws in let h = inside in omega arith
 
-    here : setOf (view m) s .members ≡ map (λ j. getD (oidsOf ws) j 0) (memberRows (membersAt ws r))
+    here : setOf (view m) s .members ≡ memberValues (oidsOf ws) (membersAt ws r)
     here = ap (λ (p : PingSet). p .members) (set-row (view m) s) ∙ row-members ws r row

@@ -1,17 +1,17 @@
 -- What the edits of array and store do to the live entries.
-use Prim.Native.Nat.{ℕ, suc, _+_, _-_, _<_, _≤_}
+use Prim.Native.Nat.{ℕ, suc, _-_, _<_, _≤_}
 use mathlib.Core.Path.{_≡_}
 use mathlib.Core.Bool.{Bool, not}
-use mathlib.Core.List.{List, [], _∷_, _++_, map}
+use mathlib.Core.List.{List, [], _∷_, _++_}
 use mathlib.Core.Logic.{_⊎_}
 use lib.ListN.{length, getD, set}
 use lib.Dec.{eqb, ltb}
-use Rattle.lists.specs.Lists.{every, keep, deleteAt}
-use Rattle.columns.specs.Rows.{rows, after}
+use Rattle.lists.specs.Lists.{every, deleteAt}
+use Rattle.columns.specs.Rows.{cell, rows, after}
 use Rattle.columns.specs.Members.{memberRows, Cut}
 use Rattle.columns.specs.declared.members.Members.{Members}
 use Rattle.columns.specs.declared.rows.Kind.{Kind}
-use Rattle.rules.specs.Entries.{Exporter, Object, Interface, PingSet, Entries, withExporters, withObjects, withInterfaces, withSets, withMembers}
+use Rattle.rules.specs.Entries.{Exporter, Object, Interface, PingSet, Entries, withExporters, withObjects, withInterfaces, withSets, withMembersOf}
 use Rattle.rules.specs.Rules.{noObject, noInterface}
 use Rattle.table.specs.View.{objectCount, setCount, setKind, memory, view}
 
@@ -35,7 +35,7 @@ pub record Pulled (k : Kind) (at n i : ℕ) (ws ws′ : List ℕ) : Type 0 where
 
 -- the members of the set at row r
 abbrev pub membersAt : List ℕ → ℕ → Members
-membersAt ws r = record { low = getD ws (160 + r) 0; high = getD ws (192 + r) 0 }
+membersAt ws r = record { low = getD ws (cell setKind 3 r) 0; high = getD ws (cell setKind 4 r) 0 }
 
 -- every member bit stands at a live object's row
 unfoldable pub membersBelow : List ℕ → Bool
@@ -46,7 +46,7 @@ membersBelow ws =
 pub record MembersCut (i : ℕ) (ws ws′ : List ℕ) : Type 0 where
   pub size : length ws′ ≡ length ws
   pub cut : (r : ℕ) → r < setCount ws → Cut i (membersAt ws r) (membersAt ws′ r)
-  pub others : (x : ℕ) → (x < 160) ⊎ (224 ≤ x) → getD ws′ x 0 ≡ getD ws x 0
+  pub others : (x : ℕ) → (x < cell setKind 3 0) ⊎ (after setKind ≤ x) → getD ws′ x 0 ≡ getD ws x 0
 
 -- the live entries of the array became those that f makes of them, whatever the store holds
 abbrev pub Became : (Entries → Entries) → List ℕ → List ℕ → Type 0
@@ -78,8 +78,7 @@ dropSet i e = withSets (deleteAt i (e .sets)) e
 -- the object at a row leaves its sets too
 abbrev pub dropObject : ℕ → Entries → Entries
 dropObject i e =
-    withSets (map (λ (s : PingSet). withMembers (keep (λ (o : ℕ). not (eqb o (getD (e .objects) i noObject .oid))) (s .members)) s) (e .sets))
-    (withObjects (deleteAt i (e .objects)) e)
+    withMembersOf (λ (o : ℕ). not (eqb o (getD (e .objects) i noObject .oid))) (withObjects (deleteAt i (e .objects)) e)
 
 -- the entry at a row changed (of a set: `changeSet` of the rules)
 abbrev pub changeObject : ℕ → (Object → Object) → Entries → Entries

@@ -1,6 +1,6 @@
 pub mod View
 pub mod Clauses
 pub mod Edits
-pub mod Found
+pub mod Counts
 pub mod Sizes
 pub mod FreePlaces

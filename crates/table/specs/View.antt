@@ -1,16 +1,18 @@
 -- Which word and byte holds what, and the live entries that table and store hold. Every array of words and bytes decodes to some
 -- entries, so that nothing but document 01's own rules makes a table unsound.
-use Prim.Native.Nat.{ℕ, _*_, _^_, _%_, min}
+use Prim.Native.Nat.{ℕ, _*_, _%_, min}
 use mathlib.Core.Bool.{Bool, not}
 use mathlib.Core.List.{List, map}
 use lib.ListN.{getD, take, drop}
 use lib.Dec.{eqb}
 use Rattle.bindings.specs.Bindings.{listLength}
-use Rattle.lists.specs.Lists.{tabulate}
+use Rattle.lists.specs.Lists.{tabulate, every, among}
 use Rattle.columns.specs.Rows.{rowAt, rows}
 use Rattle.columns.specs.Members.{memberRows}
+use Rattle.columns.specs.declared.members.Members.{Members}
 use Rattle.columns.specs.declared.rows.Kind.{Kind}
-use Rattle.rules.specs.Entries.{Exporter, Object, Interface, PingSet, Entries}
+use Rattle.rules.specs.Entries.{Exporter, Object, Interface, PingSet, Entries, exporterPlaces, objectPlaces, interfacePlaces, setPlaces, countLimit, sequenceLimit}
+use Rattle.rules.specs.Sound.{longestList}
 use Rattle.rules.specs.Calls.{Call, Reply}
 use Rattle.rules.specs.Contract as contract
 use Rattle.rules.specs.Contract.{Memory}
@@ -20,19 +22,25 @@ use Rattle.rules.specs.Contract.{Memory}
 
 -- OXID, remote-unknown IPID (low, high)
 abbrev pub exporterKind : Kind
-exporterKind = record { base = 16; places = 16; width = 3 }
+exporterKind = record { base = 16; places = exporterPlaces; width = 3 }
 
 -- number, sequence number, ping time, members (low, high)
 abbrev pub setKind : Kind
-setKind = record { base = 64; places = 32; width = 5 }
+setKind = record { base = 64; places = setPlaces; width = 5 }
 
 -- OID, OXID, no-ping mark, time last heard
 abbrev pub objectKind : Kind
-objectKind = record { base = 256; places = 128; width = 4 }
+objectKind = record { base = 256; places = objectPlaces; width = 4 }
 
 -- IPID (low, high), IID (low, high), OID, public count, the private counts of clients 0 to 7
 abbrev pub interfaceKind : Kind
-interfaceKind = record { base = 768; places = 256; width = 14 }
+interfaceKind = record { base = 768; places = interfacePlaces; width = 14 }
+
+abbrev pub clockOf : List ℕ → ℕ
+clockOf ws = getD ws 0 0
+
+abbrev pub nextOf : List ℕ → ℕ
+nextOf ws = getD ws 1 0
 
 -- the number of live rows of a kind, whose count is the word at
 abbrev pub liveRows : ℕ → Kind → List ℕ → ℕ
@@ -50,11 +58,15 @@ interfaceCount ws = liveRows 4 interfaceKind ws
 abbrev pub setCount : List ℕ → ℕ
 setCount ws = liveRows 5 setKind ws
 
--- ---- the store: 512 bytes for each exporter
+-- ---- the store: a slot of 512 bytes for each exporter
 
--- the bytes of exporter i
+-- where slot i begins
+abbrev pub slotStart : ℕ → ℕ
+slotStart i = longestList * i
+
+-- its bytes
 abbrev pub slot : List ℕ → ℕ → List ℕ
-slot store i = take 512 (drop (512 * i) store)
+slot store i = take longestList (drop (slotStart i) store)
 
 -- the list at their front, as long as its own N says
 abbrev pub listAt : List ℕ → ℕ → List ℕ
@@ -74,17 +86,21 @@ asInterface r =
       ipid = record { low = getD r 0 0; high = getD r 1 0 };
       iid = record { low = getD r 2 0; high = getD r 3 0 };
       object = getD r 4 0;
-      counts = map (λ (w : ℕ). w % 2 ^ 32) (drop 5 r);
+      counts = map (λ (w : ℕ). w % countLimit) (drop 5 r);
     }
+
+-- the values that stand at the members' rows
+abbrev pub memberValues : List ℕ → Members → List ℕ
+memberValues ids m = map (λ j. getD ids j 0) (memberRows m)
 
 -- a member is a bit at an object's row; the bit of a row that is not live stands for OID 0, which no live object has
 abbrev pub asSet : List ℕ → List ℕ → PingSet
 asSet ids r =
     record {
       number = getD r 0 0;
-      sequence = getD r 1 0 % 65536;
+      sequence = getD r 1 0 % sequenceLimit;
       pinged = getD r 2 0;
-      members = map (λ j. getD ids j 0) (memberRows (record { low = getD r 3 0; high = getD r 4 0 }));
+      members = memberValues ids (record { low = getD r 3 0; high = getD r 4 0 });
     }
 
 -- ---- the live entries
@@ -98,24 +114,36 @@ objectsOf ws = map asObject (rows objectKind ws (objectCount ws))
 unfoldable pub interfacesOf : List ℕ → List Interface
 interfacesOf ws = map asInterface (rows interfaceKind ws (interfaceCount ws))
 
+-- the OIDs of the objects
+abbrev pub oidsOf : List ℕ → List ℕ
+oidsOf ws = map (λ (o : Object). o .oid) (objectsOf ws)
+
 unfoldable pub setsOf : List ℕ → List PingSet
-setsOf ws = map (asSet (map (λ (o : Object). o .oid) (objectsOf ws))) (rows setKind ws (setCount ws))
+setsOf ws = map (asSet (oidsOf ws)) (rows setKind ws (setCount ws))
+
+-- the members of every set are live
+abbrev pub membersLiveIn : List ℕ → Bool
+membersLiveIn ws = every (λ (s : PingSet). every (among (oidsOf ws)) (s .members)) (setsOf ws)
 
 abbrev pub view : Memory → Entries
 view m =
     record {
-      clock = getD (m .words) 0 0;
-      next = getD (m .words) 1 0;
+      clock = clockOf (m .words);
+      next = nextOf (m .words);
       exporters = exportersOf (m .words) (m .store);
       objects = objectsOf (m .words);
       interfaces = interfacesOf (m .words);
       sets = setsOf (m .words);
     }
 
--- ---- the contract of every call, over this view
-
 abbrev pub memory : List ℕ → List ℕ → Memory
 memory ws store = record { words = ws; store = store }
+
+-- of the live entries of an array, whatever the store holds
+abbrev pub Holds : (Entries → Type 0) → List ℕ → Type 0
+Holds P ws = (s : List ℕ) → P (view (memory ws s))
+
+-- ---- the contract of every call, over this view
 
 -- document 01's sound, of what is lent
 abbrev pub soundMemory : Memory → Bool

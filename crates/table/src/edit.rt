@@ -1,24 +1,27 @@
 // Edits of array and store, by what they do to the live entries. Each leaves every other entry as it was.
+use crate::find;
 use crate::layout;
 use columns::members::Members;
 use columns::rows;
 use columns::rows::Kind;
 use kinds::Guid;
+use kinds::Oid;
+use kinds::Oxid;
 ghost use mathlib.Core.Path.{_≡_};
 ghost use mathlib.Core.Bool.{true, not};
-ghost use mathlib.Core.List.{List, map};
 ghost use Prim.Native.Nat.{_-_, _^_, _<_, _≤_};
-ghost use lib.ListN.{length, getD};
+ghost use lib.ListN.{length};
 ghost use lib.Dec.{eqb};
 ghost use Rattle.lists.specs.Lists.{distinct};
 ghost use Rattle.columns.specs.Rows.{after};
-ghost use Rattle.columns.specs.Members.{memberRows};
 ghost use Rattle.bindings.specs.Bindings.{listAnswer};
-ghost use Rattle.rules.specs.Entries.{oids, heardAt, withCount, pingedAt, withSequence, withMembers, withClock};
 ghost use Rattle.rules.specs.Rules.{makeSet, enteredCounts};
-ghost use Rattle.table.specs.View.{exporterCount, objectCount, interfaceCount, setCount, memory, view};
+ghost use Rattle.table.specs.View.{exporterCount, objectCount, interfaceCount, setCount, memory, view, oidsOf, clockOf, nextOf, memberValues};
 ghost use Rattle.rules.specs.PingRows.{changeSet};
-ghost use Rattle.table.specs.Edits.{Pushed, Pulled, membersBelow, Became, addExporter, addObject, addInterface, addSet, dropExporter, dropObject, dropInterface, dropSet, changeObject, changeInterface, MembersCut};
+ghost use Rattle.table.specs.Edits.{Pushed, Pulled, membersBelow, Became, addExporter, addObject, addInterface, dropExporter, dropObject, dropInterface, dropSet, changeObject, changeInterface, MembersCut};
+ghost use Rattle.rules.specs.Contract.{Whole};
+ghost use Rattle.rules.specs.Entries.{objectPlaces, interfacePlaces, setPlaces, exporterPlaces, heardAt, withCount, pingedAt, withSequence, withMembers, withClock, fresh};
+ghost use Rattle.rules.specs.Sound.{longestList};
 
 // Enters a row after the n live ones of a kind, whose count is the word at.
 fn push_row(words: &mut [u64], k: Kind, at: usize, n: usize, row: &[u64])
@@ -38,33 +41,40 @@ fn pull_row(words: &mut [u64], k: Kind, at: usize, n: usize, i: usize)
     words[at] = (n - 1) as u64;
 }
 
+// The word of a no-ping mark.
+fn mark(no_ping: bool) -> u64
+    ensures { λ r. ⌜ not (eqb r 0) ≡ «no_ping» ⌝ }
+{
+    if no_ping { 1 } else { 0 }
+}
+
 // An object, heard now.
-pub fn put_object(words: &mut [u64], oid: u64, oxid: u64, mark: u64)
-    requires { ⌜ (length (now words) ≡ 8192) × (objectCount (now words) < 128) × (membersBelow (now words) ≡ true) ⌝ }
+pub fn put_object(words: &mut [u64], oid: Oid, oxid: Oxid, no_ping: bool)
+    requires { ⌜ Whole (now words) × (objectCount (now words) < objectPlaces) × (membersBelow (now words) ≡ true) ⌝ }
     ensures { λ _. ⌜
         Became
-        (addObject (record { oid = oid; exporter = oxid; noping = not (eqb mark 0); heard = getD (now (words .entry)) 0 0 }))
+        (addObject (record { oid = oid .0; exporter = oxid .0; noping = «no_ping»; heard = clockOf (now (words .entry)) }))
         (now (words .entry)) (now (words .exit)) ⌝ }
 {
-    let n = layout::object_count(words);
-    let row = [oid, oxid, mark, words[layout::CLOCK]];
+    let n = find::object_count(words);
+    let row = [oid.0, oxid.0, mark(no_ping), words[layout::CLOCK]];
     push_row(words, layout::object_kind(), layout::OBJECTS, n, &row);
 }
 
-pub fn put_interface(words: &mut [u64], ipid: Guid, iid: Guid, oid: u64, public: u32)
-    requires { ⌜ (length (now words) ≡ 8192) × (interfaceCount (now words) < 256) ⌝ }
+pub fn put_interface(words: &mut [u64], ipid: Guid, iid: Guid, oid: Oid, public: u32)
+    requires { ⌜ Whole (now words) × (interfaceCount (now words) < interfacePlaces) ⌝ }
     ensures { λ _. ⌜
         Became
-        (addInterface (record { ipid = ipid; iid = iid; object = oid; counts = enteredCounts public }))
+        (addInterface (record { ipid = ipid; iid = iid; object = oid .0; counts = enteredCounts public }))
         (now (words .entry)) (now (words .exit)) ⌝ }
 {
-    let n = layout::interface_count(words);
+    let n = find::interface_count(words);
     let row = [
         ipid.low,
         ipid.high,
         iid.low,
         iid.high,
-        oid,
+        oid.0,
         public as u64,
         0,
         0,
@@ -80,10 +90,10 @@ pub fn put_interface(words: &mut [u64], ipid: Guid, iid: Guid, oid: u64, public:
 
 // A set with the next number, which grows by one: pinged now, with sequence number 0 and no member.
 pub fn put_set(words: &mut [u64])
-    requires { ⌜ (length (now words) ≡ 8192) × (setCount (now words) < 32) × (getD (now words) 1 0 < 2 ^ 64 - 1) ⌝ }
+    requires { ⌜ Whole (now words) × (setCount (now words) < setPlaces) × (nextOf (now words) < 2 ^ 64 - 1) ⌝ }
     ensures { λ _. ⌜ Became makeSet (now (words .entry)) (now (words .exit)) ⌝ }
 {
-    let n = layout::set_count(words);
+    let n = find::set_count(words);
     let next = words[layout::NEXT_SET];
     let row = [next, 0, words[layout::CLOCK], 0, 0];
     push_row(words, layout::set_kind(), layout::SETS, n, &row);
@@ -94,67 +104,63 @@ pub fn put_set(words: &mut [u64])
 pub fn put_exporter<'a>(
     words: &'a mut [u64],
     store: &'a mut [u8],
-    oxid: u64,
+    oxid: Oxid,
     unknown: Guid,
     list: &'a [u8],
 )
     requires { ⌜
-        (length (now words) ≡ 8192) × (length (now store) ≡ 8192) × (exporterCount (now words) < 16)
-        × (listAnswer (now list) ≡ 0) × (length (now list) ≤ 512) ⌝ }
+        Whole (now words) × Whole (now store) × (exporterCount (now words) < exporterPlaces)
+        × (listAnswer (now list) ≡ 0) × (length (now list) ≤ longestList) ⌝ }
     ensures { λ _. ⌜
         view (memory (now (words .exit)) (now (store .exit)))
-        ≡ addExporter (record { oxid = oxid; unknown = unknown; bindings = now (list .entry) }) (view (memory (now (words .entry)) (now (store .entry)))) ⌝ }
+        ≡ addExporter (record { oxid = oxid .0; unknown = unknown; bindings = now (list .entry) }) (view (memory (now (words .entry)) (now (store .entry)))) ⌝ }
 {
-    let n = layout::exporter_count(words);
-    let from = n * layout::SLOT;
+    let n = find::exporter_count(words);
+    let from = layout::slot_start(n);
     fields::copy(&mut store[from..], 0, list);
-    let row = [oxid, unknown.low, unknown.high];
+    let row = [oxid.0, unknown.low, unknown.high];
     push_row(words, layout::exporter_kind(), layout::EXPORTERS, n, &row);
 }
 
 // Takes exporter i out; the later lists move down by one slot.
 pub fn remove_exporter<'a>(words: &'a mut [u64], store: &'a mut [u8], i: usize)
-    requires { ⌜ (length (now words) ≡ 8192) × (length (now store) ≡ 8192) × (i < exporterCount (now words)) ⌝ }
+    requires { ⌜ Whole (now words) × Whole (now store) × (i < exporterCount (now words)) ⌝ }
     ensures { λ _. ⌜
         view (memory (now (words .exit)) (now (store .exit))) ≡ dropExporter i (view (memory (now (words .entry)) (now (store .entry)))) ⌝ }
 {
-    let n = layout::exporter_count(words);
-    let to = i * layout::SLOT;
-    let from = to + layout::SLOT;
-    let left = n * layout::SLOT - from;
+    let n = find::exporter_count(words);
+    let to = layout::slot_start(i);
+    let from = layout::slot_start(i + 1);
+    let left = layout::slot_start(n) - from;
     columns::copy_down(store, from, to, left);
     pull_row(words, layout::exporter_kind(), layout::EXPORTERS, n, i);
 }
 
 pub fn remove_interface(words: &mut [u64], i: usize)
-    requires { ⌜ (length (now words) ≡ 8192) × (i < interfaceCount (now words)) ⌝ }
+    requires { ⌜ Whole (now words) × (i < interfaceCount (now words)) ⌝ }
     ensures { λ _. ⌜ Became (dropInterface i) (now (words .entry)) (now (words .exit)) ⌝ }
 {
-    let n = layout::interface_count(words);
+    let n = find::interface_count(words);
     pull_row(words, layout::interface_kind(), layout::INTERFACES, n, i);
 }
 
 pub fn remove_set(words: &mut [u64], i: usize)
-    requires { ⌜ (length (now words) ≡ 8192) × (i < setCount (now words)) ⌝ }
+    requires { ⌜ Whole (now words) × (i < setCount (now words)) ⌝ }
     ensures { λ _. ⌜ Became (dropSet i) (now (words .entry)) (now (words .exit)) ⌝ }
 {
-    let n = layout::set_count(words);
+    let n = find::set_count(words);
     pull_row(words, layout::set_kind(), layout::SETS, n, i);
 }
 
 // Takes bit i out of the members of every live set; the higher bits move down by one.
 fn cut_members(words: &mut [u64], i: usize)
-    requires { ⌜ length (now words) ≡ 8192 ⌝ }
+    requires { ⌜ Whole (now words) ⌝ }
     ensures { λ _. ⌜ MembersCut i (now (words .entry)) (now (words .exit)) ⌝ }
 {
-    let n = layout::set_count(words);
+    let n = find::set_count(words);
     let mut r = 0;
     while r < n {
-        let members = Members {
-            low: words[layout::MEMBER_LOWS + r],
-            high: words[layout::MEMBER_HIGHS + r],
-        };
-        let left = members.cut(i);
+        let left = find::members(words, r).cut(i);
         words[layout::MEMBER_LOWS + r] = left.low;
         words[layout::MEMBER_HIGHS + r] = left.high;
         r += 1;
@@ -164,27 +170,27 @@ fn cut_members(words: &mut [u64], i: usize)
 // Takes object i out, and out of its sets.
 pub fn remove_object(words: &mut [u64], i: usize)
     requires { ⌜
-        (length (now words) ≡ 8192) × (i < objectCount (now words)) × (membersBelow (now words) ≡ true)
-        × (distinct eqb (oids (view (memory (now words) (now words)))) ≡ true) ⌝ }
+        Whole (now words) × (i < objectCount (now words)) × (membersBelow (now words) ≡ true)
+        × (distinct eqb (oidsOf (now words)) ≡ true) ⌝ }
     ensures { λ _. ⌜
         Became (dropObject i) (now (words .entry)) (now (words .exit)) × (membersBelow (now (words .exit)) ≡ true) ⌝ }
 {
-    let n = layout::object_count(words);
+    let n = find::object_count(words);
     pull_row(words, layout::object_kind(), layout::OBJECTS, n, i);
     cut_members(words, i);
 }
 
 // Count k of interface i.
-pub fn set_count(words: &mut [u64], i: usize, k: usize, n: u32)
-    requires { ⌜ (length (now words) ≡ 8192) × (i < interfaceCount (now words)) × (k < 9) ⌝ }
+pub fn put_count(words: &mut [u64], i: usize, k: usize, n: u32)
+    requires { ⌜ Whole (now words) × (i < interfaceCount (now words)) × (k < 9) ⌝ }
     ensures { λ _. ⌜ Became (changeInterface i (withCount k n)) (now (words .entry)) (now (words .exit)) ⌝ }
 {
-    words[layout::COUNTS + 256 * k + i] = n as u64;
+    words[layout::COUNTS + layout::INTERFACE_PLACES * k + i] = n as u64;
 }
 
 // The time at which object i was last heard.
 pub fn set_heard(words: &mut [u64], i: usize, time: u64)
-    requires { ⌜ (length (now words) ≡ 8192) × (i < objectCount (now words)) ⌝ }
+    requires { ⌜ Whole (now words) × (i < objectCount (now words)) ⌝ }
     ensures { λ _. ⌜ Became (changeObject i (heardAt time)) (now (words .entry)) (now (words .exit)) ⌝ }
 {
     words[layout::HEARD_TIMES + i] = time;
@@ -192,7 +198,7 @@ pub fn set_heard(words: &mut [u64], i: usize, time: u64)
 
 // The time of set i's last ping.
 pub fn set_pinged(words: &mut [u64], i: usize, time: u64)
-    requires { ⌜ (length (now words) ≡ 8192) × (i < setCount (now words)) ⌝ }
+    requires { ⌜ Whole (now words) × (i < setCount (now words)) ⌝ }
     ensures { λ _. ⌜ Became (changeSet i (pingedAt time)) (now (words .entry)) (now (words .exit)) ⌝ }
 {
     words[layout::PING_TIMES + i] = time;
@@ -200,7 +206,7 @@ pub fn set_pinged(words: &mut [u64], i: usize, time: u64)
 
 // The sequence number of set i.
 pub fn set_sequence(words: &mut [u64], i: usize, sequence: u16)
-    requires { ⌜ (length (now words) ≡ 8192) × (i < setCount (now words)) ⌝ }
+    requires { ⌜ Whole (now words) × (i < setCount (now words)) ⌝ }
     ensures { λ _. ⌜ Became (changeSet i (withSequence sequence)) (now (words .entry)) (now (words .exit)) ⌝ }
 {
     words[layout::SEQUENCES + i] = sequence as u64;
@@ -208,10 +214,10 @@ pub fn set_sequence(words: &mut [u64], i: usize, sequence: u16)
 
 // The members of set i, by the objects' rows.
 pub fn set_members(words: &mut [u64], i: usize, members: Members)
-    requires { ⌜ (length (now words) ≡ 8192) × (i < setCount (now words)) ⌝ }
+    requires { ⌜ Whole (now words) × (i < setCount (now words)) ⌝ }
     ensures { λ _. ⌜
         Became
-        (changeSet i (withMembers (map (λ j. getD (oids (view (memory (now (words .entry)) (now (words .entry))))) j 0) (memberRows members))))
+        (changeSet i (withMembers (memberValues (oidsOf (now (words .entry))) members)))
         (now (words .entry)) (now (words .exit)) ⌝ }
 {
     words[layout::MEMBER_LOWS + i] = members.low;
@@ -219,8 +225,21 @@ pub fn set_members(words: &mut [u64], i: usize, members: Members)
 }
 
 pub fn set_clock(words: &mut [u64], time: u64)
-    requires { ⌜ length (now words) ≡ 8192 ⌝ }
+    requires { ⌜ Whole (now words) ⌝ }
     ensures { λ _. ⌜ Became (withClock time) (now (words .entry)) (now (words .exit)) ⌝ }
 {
     words[layout::CLOCK] = time;
+}
+
+// No entries, at a time.
+pub fn clear(words: &mut [u64], time: u64)
+    requires { ⌜ Whole (now words) ⌝ }
+    ensures { λ _. ⌜ Became (λ _. fresh time) (now (words .entry)) (now (words .exit)) ⌝ }
+{
+    words[layout::CLOCK] = time;
+    words[layout::NEXT_SET] = 1;
+    words[layout::EXPORTERS] = 0;
+    words[layout::OBJECTS] = 0;
+    words[layout::INTERFACES] = 0;
+    words[layout::SETS] = 0;
 }

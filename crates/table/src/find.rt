@@ -2,60 +2,117 @@
 use crate::layout;
 use columns::members::Members;
 use kinds::Guid;
+use kinds::Oid;
+use kinds::Oxid;
+use kinds::SetId;
 ghost use mathlib.Core.Path.{_≡_};
 ghost use mathlib.Core.Bool.{true, _||_};
 ghost use mathlib.Core.List.{List};
-ghost use Prim.Native.Nat.{ℕ, _<_};
-ghost use lib.ListN.{length, getD};
+ghost use lib.ListN.{getD};
 ghost use lib.Dec.{eqb};
-ghost use Rattle.lists.specs.Lists.{some, firstIndex};
 ghost use Rattle.lists.specs.Guids.{nil, sameGuid};
-ghost use Rattle.rules.specs.Entries.{Interface, countOf, oxids, oids, setNumbers, interfaceIpids, ipids};
-ghost use Rattle.rules.specs.Sound.{listsKept};
-ghost use Rattle.rules.specs.Rules.{noExporter, noInterface, noSet};
-ghost use Rattle.table.specs.View.{exporterCount, interfaceCount, setCount, exportersOf, interfacesOf, setsOf, memory, view};
 ghost use Rattle.table.specs.Edits.{membersAt};
-ghost use Rattle.table.specs.Found.{heldAt};
+ghost use Rattle.rules.specs.Contract.{Whole};
+ghost use Prim.Native.Nat.{ℕ, _<_, _≤_, min};
+ghost use Rattle.lists.specs.Lists.{some, every};
+ghost use Rattle.rules.specs.Entries.{Interface, countOf, exporterRow, objectRow, interfaceRow, setRow, ipids, exporterPlaces, objectPlaces, interfacePlaces, setPlaces};
+ghost use Rattle.rules.specs.Sound.{listsKept, held, heardWithin, pingedWithin};
+ghost use Rattle.rules.specs.Rules.{noExporter, noObject, noInterface, noSet, isLiveObject};
+ghost use Rattle.table.specs.View.{exporterCount, objectCount, interfaceCount, setCount, clockOf, nextOf, exportersOf, objectsOf, interfacesOf, setsOf, memory, view, Holds};
+ghost use Rattle.table.specs.Counts.{countsAt};
+
+// The time of the table.
+pub fn clock(words: &[u64]) -> u64
+    requires { ⌜ Whole (now words) ⌝ }
+    ensures { λ r. ⌜ r ≡ clockOf (now (words .entry)) ⌝ }
+{
+    words[layout::CLOCK]
+}
+
+// The next set number.
+pub fn next_set(words: &[u64]) -> u64
+    requires { ⌜ Whole (now words) ⌝ }
+    ensures { λ r. ⌜ r ≡ nextOf (now (words .entry)) ⌝ }
+{
+    words[layout::NEXT_SET]
+}
+
+// A count word, read as no more than the places.
+fn capped(word: u64, places: usize) -> usize
+    ensures { λ r. ⌜ (r ≡ min word places) × (r ≤ places) ⌝ }
+{
+    let n = word as usize;
+    if n < places { n } else { places }
+}
+
+// The numbers of live rows.
+pub fn exporter_count(words: &[u64]) -> usize
+    requires { ⌜ Whole (now words) ⌝ }
+    ensures { λ r. ⌜ (r ≡ exporterCount (now (words .entry))) × (r ≤ exporterPlaces) ⌝ }
+{
+    capped(words[layout::EXPORTERS], layout::EXPORTER_PLACES)
+}
+
+pub fn object_count(words: &[u64]) -> usize
+    requires { ⌜ Whole (now words) ⌝ }
+    ensures { λ r. ⌜ (r ≡ objectCount (now (words .entry))) × (r ≤ objectPlaces) ⌝ }
+{
+    capped(words[layout::OBJECTS], layout::OBJECT_PLACES)
+}
+
+pub fn interface_count(words: &[u64]) -> usize
+    requires { ⌜ Whole (now words) ⌝ }
+    ensures { λ r. ⌜ (r ≡ interfaceCount (now (words .entry))) × (r ≤ interfacePlaces) ⌝ }
+{
+    capped(words[layout::INTERFACES], layout::INTERFACE_PLACES)
+}
+
+pub fn set_count(words: &[u64]) -> usize
+    requires { ⌜ Whole (now words) ⌝ }
+    ensures { λ r. ⌜ (r ≡ setCount (now (words .entry))) × (r ≤ setPlaces) ⌝ }
+{
+    capped(words[layout::SETS], layout::SET_PLACES)
+}
 
 // The row of the exporter with an OXID; the number of live exporters where there is none.
-pub fn exporter_row(words: &[u64], oxid: u64) -> usize
-    requires { ⌜ length (now words) ≡ 8192 ⌝ }
-    ensures { λ r. ⌜ ((s : List ℕ) → r ≡ firstIndex (eqb oxid) (oxids (view (memory (now (words .entry)) s)))) ⌝ }
+pub fn exporter_row(words: &[u64], oxid: Oxid) -> usize
+    requires { ⌜ Whole (now words) ⌝ }
+    ensures { λ r. ⌜ Holds (λ e. r ≡ exporterRow e (oxid .0)) (now (words .entry)) ⌝ }
 {
     columns::index_of(
-        layout::column(words, layout::OXIDS, layout::exporter_count(words)),
-        oxid,
+        layout::column(words, layout::OXIDS, exporter_count(words)),
+        oxid.0,
     )
 }
 
 // The row of the object with an OID; the number of live objects where there is none.
-pub fn object_row(words: &[u64], oid: u64) -> usize
-    requires { ⌜ length (now words) ≡ 8192 ⌝ }
-    ensures { λ r. ⌜ ((s : List ℕ) → r ≡ firstIndex (eqb oid) (oids (view (memory (now (words .entry)) s)))) ⌝ }
+pub fn object_row(words: &[u64], oid: Oid) -> usize
+    requires { ⌜ Whole (now words) ⌝ }
+    ensures { λ r. ⌜ Holds (λ e. r ≡ objectRow e (oid .0)) (now (words .entry)) ⌝ }
 {
     columns::index_of(
-        layout::column(words, layout::OIDS, layout::object_count(words)),
-        oid,
+        layout::column(words, layout::OIDS, object_count(words)),
+        oid.0,
     )
 }
 
 // The row of the set with a number; the number of live sets where there is none.
-pub fn set_row(words: &[u64], number: u64) -> usize
-    requires { ⌜ length (now words) ≡ 8192 ⌝ }
-    ensures { λ r. ⌜ ((s : List ℕ) → r ≡ firstIndex (eqb number) (setNumbers (view (memory (now (words .entry)) s)))) ⌝ }
+pub fn set_row(words: &[u64], set: SetId) -> usize
+    requires { ⌜ Whole (now words) ⌝ }
+    ensures { λ r. ⌜ Holds (λ e. r ≡ setRow e (set .0)) (now (words .entry)) ⌝ }
 {
     columns::index_of(
-        layout::column(words, layout::SET_NUMBERS, layout::set_count(words)),
-        number,
+        layout::column(words, layout::SET_NUMBERS, set_count(words)),
+        set.0,
     )
 }
 
 // The row of the interface with an IPID; the number of live interfaces where there is none.
 pub fn interface_row(words: &[u64], ipid: Guid) -> usize
-    requires { ⌜ length (now words) ≡ 8192 ⌝ }
-    ensures { λ r. ⌜ ((s : List ℕ) → r ≡ firstIndex (sameGuid ipid) (interfaceIpids (view (memory (now (words .entry)) s)))) ⌝ }
+    requires { ⌜ Whole (now words) ⌝ }
+    ensures { λ r. ⌜ Holds (λ e. r ≡ interfaceRow e ipid) (now (words .entry)) ⌝ }
 {
-    let n = layout::interface_count(words);
+    let n = interface_count(words);
     let lows = layout::column(words, layout::IPID_LOWS, n);
     let highs = layout::column(words, layout::IPID_HIGHS, n);
     columns::guid_index_of(lows, highs, ipid)
@@ -63,11 +120,11 @@ pub fn interface_row(words: &[u64], ipid: Guid) -> usize
 
 // An IPID can't be entered: it is nil, or that of a remote-unknown or other interface.
 pub fn ipid_taken(words: &[u64], ipid: Guid) -> bool
-    requires { ⌜ length (now words) ≡ 8192 ⌝ }
-    ensures { λ r. ⌜ ((s : List ℕ) → r ≡ (sameGuid ipid nil || some (sameGuid ipid) (ipids (view (memory (now (words .entry)) s))))) ⌝ }
+    requires { ⌜ Whole (now words) ⌝ }
+    ensures { λ r. ⌜ Holds (λ e. r ≡ (sameGuid ipid nil || some (sameGuid ipid) (ipids e))) (now (words .entry)) ⌝ }
 {
-    let n = layout::exporter_count(words);
-    let m = layout::interface_count(words);
+    let n = exporter_count(words);
+    let m = interface_count(words);
     if columns::is_nil(ipid) {
         return true;
     }
@@ -81,59 +138,131 @@ pub fn ipid_taken(words: &[u64], ipid: Guid) -> bool
     columns::has_guid(interface_lows, interface_highs, ipid)
 }
 
-// The object and the counts of an interface.
-pub struct Held {
-    pub object: u64,
+// Count k of interface i: the public one is 0, that of client c is 1 + c.
+pub fn count(words: &[u64], i: usize, k: usize) -> u32
+    requires { ⌜ Whole (now words) × (i < interfaceCount (now words)) × (k < 9) ⌝ }
+    ensures { λ r. ⌜ r ≡ countOf k (getD (interfacesOf (now (words .entry))) i noInterface) ⌝ }
+{
+    (words[layout::COUNTS + layout::INTERFACE_PLACES * k + i] % layout::COUNT_LIMIT) as u32
+}
+
+// The object of interface i.
+pub fn interface_object(words: &[u64], i: usize) -> Oid
+    requires { ⌜ Whole (now words) × (i < interfaceCount (now words)) ⌝ }
+    ensures { λ r. ⌜ r .0 ≡ getD (interfacesOf (now (words .entry))) i noInterface .object ⌝ }
+{
+    Oid(words[layout::INTERFACE_OBJECTS + i])
+}
+
+// The object of an interface, its public count and the private one of a client.
+pub struct InterfaceCounts {
+    pub object: Oid,
     pub public: u32,
     pub private: u32,
 }
 
-// Count k of interface i: the public one is 0, that of client c is 1 + c.
-pub fn count(words: &[u64], i: usize, k: usize) -> u32
-    requires { ⌜ (length (now words) ≡ 8192) × (i < interfaceCount (now words)) × (k < 9) ⌝ }
-    ensures { λ r. ⌜ r ≡ countOf k (getD (interfacesOf (now (words .entry))) i noInterface) ⌝ }
+pub fn interface_counts(words: &[u64], i: usize, client: usize) -> InterfaceCounts
+    requires { ⌜ Whole (now words) × (i < interfaceCount (now words)) × (client < 8) ⌝ }
+    ensures { λ r. ⌜ r ≡ countsAt (now (words .entry)) i client ⌝ }
 {
-    (words[layout::COUNTS + 256 * k + i] % 4294967296) as u32
-}
-
-// What interface i holds, of private references those of a client.
-pub fn interface_held(words: &[u64], i: usize, client: usize) -> Held
-    requires { ⌜ (length (now words) ≡ 8192) × (i < interfaceCount (now words)) × (client < 8) ⌝ }
-    ensures { λ r. ⌜ r ≡ heldAt (now (words .entry)) i client ⌝ }
-{
-    Held {
-        object: words[layout::INTERFACE_OBJECTS + i],
+    InterfaceCounts {
+        object: interface_object(words, i),
         public: count(words, i, 0),
         private: count(words, i, client + 1),
     }
 }
 
+// Whether count k of interface i is zero.
+fn is_zero(words: &[u64], i: usize, k: usize) -> bool
+    requires { ⌜ Whole (now words) × (i < interfaceCount (now words)) × (k < 9) ⌝ }
+    ensures { λ r. ⌜ r ≡ eqb (countOf k (getD (interfacesOf (now (words .entry))) i noInterface)) 0 ⌝ }
+{
+    count(words, i, k) == 0
+}
+
+// Whether a reference to interface i is held. The public count is looked at first.
+pub fn is_held(words: &[u64], i: usize) -> bool
+    requires { ⌜ Whole (now words) × (i < interfaceCount (now words)) ⌝ }
+    ensures { λ r. ⌜ r ≡ held (getD (interfacesOf (now (words .entry))) i noInterface) ⌝ }
+{
+    let mut k = 0;
+    while k < 9 {
+        if !is_zero(words, i, k) {
+            return true;
+        }
+        k += 1;
+    }
+    false
+}
+
 // Whether an interface names an object.
-pub fn is_served(words: &[u64], oid: u64) -> bool
-    requires { ⌜ length (now words) ≡ 8192 ⌝ }
-    ensures { λ r. ⌜ ((s : List ℕ) → r ≡ some (λ (i : Interface). eqb oid (i .object)) (view (memory (now (words .entry)) s) .interfaces)) ⌝ }
+pub fn is_served(words: &[u64], oid: Oid) -> bool
+    requires { ⌜ Whole (now words) ⌝ }
+    ensures { λ r. ⌜ Holds (λ e. r ≡ some (λ (i : Interface). eqb (oid .0) (i .object)) (e .interfaces)) (now (words .entry)) ⌝ }
 {
     columns::has(
-        layout::column(
-            words,
-            layout::INTERFACE_OBJECTS,
-            layout::interface_count(words),
-        ),
-        oid,
+        layout::column(words, layout::INTERFACE_OBJECTS, interface_count(words)),
+        oid.0,
+    )
+}
+
+// The OID of object i.
+pub fn oid(words: &[u64], i: usize) -> Oid
+    requires { ⌜ Whole (now words) × (i < objectCount (now words)) ⌝ }
+    ensures { λ r. ⌜ r .0 ≡ getD (objectsOf (now (words .entry))) i noObject .oid ⌝ }
+{
+    Oid(words[layout::OIDS + i])
+}
+
+// The OXID of object i's exporter.
+pub fn object_exporter(words: &[u64], i: usize) -> Oxid
+    requires { ⌜ Whole (now words) × (i < objectCount (now words)) ⌝ }
+    ensures { λ r. ⌜ r .0 ≡ getD (objectsOf (now (words .entry))) i noObject .exporter ⌝ }
+{
+    Oxid(words[layout::OBJECT_EXPORTERS + i])
+}
+
+// Object i is not pinged, or was heard under 360 seconds before a time.
+pub fn is_heard_within(words: &[u64], i: usize, time: u64) -> bool
+    requires { ⌜ Whole (now words) × (i < objectCount (now words)) ⌝ }
+    ensures { λ r. ⌜ r ≡ heardWithin time (getD (objectsOf (now (words .entry))) i noObject) ⌝ }
+{
+    if words[layout::NO_PING_MARKS + i] != 0 {
+        return true;
+    }
+    columns::is_within(words[layout::HEARD_TIMES + i], time, layout::TIMEOUT)
+}
+
+// Set i was pinged under 360 seconds before a time.
+pub fn is_pinged_within(words: &[u64], i: usize, time: u64) -> bool
+    requires { ⌜ Whole (now words) × (i < setCount (now words)) ⌝ }
+    ensures { λ r. ⌜ r ≡ pingedWithin time (getD (setsOf (now (words .entry))) i noSet) ⌝ }
+{
+    columns::is_within(words[layout::PING_TIMES + i], time, layout::TIMEOUT)
+}
+
+// Every identifier is that of a live object.
+pub fn are_live<'a>(words: &'a [u64], ids: &'a [u64]) -> bool
+    requires { ⌜ Whole (now words) ⌝ }
+    ensures { λ r. ⌜ Holds (λ e. r ≡ every (isLiveObject e) (now (ids .entry))) (now (words .entry)) ⌝ }
+{
+    columns::all_in(
+        ids,
+        layout::column(words, layout::OIDS, object_count(words)),
     )
 }
 
 // The sequence number of set i.
 pub fn sequence(words: &[u64], i: usize) -> u16
-    requires { ⌜ (length (now words) ≡ 8192) × (i < setCount (now words)) ⌝ }
+    requires { ⌜ Whole (now words) × (i < setCount (now words)) ⌝ }
     ensures { λ r. ⌜ r ≡ getD (setsOf (now (words .entry))) i noSet .sequence ⌝ }
 {
-    (words[layout::SEQUENCES + i] % 65536) as u16
+    (words[layout::SEQUENCES + i] % layout::SEQUENCE_LIMIT) as u16
 }
 
 // The members of set i, by the objects' rows.
 pub fn members(words: &[u64], i: usize) -> Members
-    requires { ⌜ (length (now words) ≡ 8192) × (i < setCount (now words)) ⌝ }
+    requires { ⌜ Whole (now words) × (i < setCount (now words)) ⌝ }
     ensures { λ r. ⌜ r ≡ membersAt (now (words .entry)) i ⌝ }
 {
     Members {
@@ -144,7 +273,7 @@ pub fn members(words: &[u64], i: usize) -> Members
 
 // The remote-unknown IPID of exporter i.
 pub fn unknown(words: &[u64], i: usize) -> Guid
-    requires { ⌜ (length (now words) ≡ 8192) × (i < exporterCount (now words)) ⌝ }
+    requires { ⌜ Whole (now words) × (i < exporterCount (now words)) ⌝ }
     ensures { λ r. ⌜ ((s : List ℕ) → r ≡ getD (exportersOf (now (words .entry)) s) i noExporter .unknown) ⌝ }
 {
     Guid {
@@ -156,12 +285,11 @@ pub fn unknown(words: &[u64], i: usize) -> Guid
 // The binding list of exporter i, where it keeps the list rules.
 pub fn list<'a>(words: &'a [u64], store: &'a [u8], i: usize) -> &'a [u8]
     requires { ⌜
-        (length (now store) ≡ 8192) × (i < exporterCount (now words))
+        Whole (now store) × (i < exporterCount (now words))
         × (listsKept (view (memory (now words) (now store))) ≡ true) ⌝ }
     ensures { λ r. ⌜ now r ≡ getD (exportersOf (now (words .entry)) (now (store .entry))) i noExporter .bindings ⌝ }
 {
-    let from = layout::SLOT * i;
-    let end = from + layout::SLOT;
-    let to = from + bindings::list_length(&store[from..end]);
-    &store[from..to]
+    let slot = layout::slot(store, i);
+    let n = bindings::list_length(slot);
+    &slot[..n]
 }

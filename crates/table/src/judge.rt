@@ -1,19 +1,15 @@
 // Whether a lent table is sound: the clauses of document 01's "sound", each over the columns that it speaks of.
 use crate::find;
 use crate::layout;
-use columns::members::Members;
 ghost use mathlib.Core.Path.{_≡_};
 ghost use mathlib.Core.Bool.{true};
-ghost use mathlib.Core.List.{List};
-ghost use Prim.Native.Nat.{ℕ, _<_};
-ghost use lib.ListN.{length, getD};
-ghost use lib.Dec.{eqb};
+ghost use Prim.Native.Nat.{_<_};
 ghost use Rattle.lists.specs.Lists.{holding};
-ghost use Rattle.rules.specs.Entries.{countOf, oids, ipids};
-ghost use Rattle.rules.specs.Rules.{noInterface};
-ghost use Rattle.rules.specs.Sound.{proper, properGuids, held, interfacesHeld, membersLive, heardRecently, listsKept};
-ghost use Rattle.table.specs.View.{interfaceCount, interfacesOf, memory, view, soundMemory};
-ghost use Rattle.table.specs.Clauses.{exporterClauses, objectClauses, interfaceClauses, setClauses, recent};
+ghost use Rattle.rules.specs.Entries.{oids, ipids};
+ghost use Rattle.table.specs.View.{memory, view, soundMemory, Holds, oidsOf};
+ghost use Rattle.rules.specs.Contract.{Whole};
+ghost use Rattle.rules.specs.Sound.{proper, properGuids, interfacesHeld, setMembersLive, heardRecently, listsKept};
+ghost use Rattle.table.specs.Clauses.{exporterClauses, objectClauses, interfaceClauses, setClauses};
 
 // Nonzero and distinct.
 fn are_proper(col: &[u64]) -> bool
@@ -27,15 +23,13 @@ fn are_proper(col: &[u64]) -> bool
 
 // Each exporter's list keeps the list rules; it ends within the exporter's slot.
 fn lists_kept<'a>(words: &'a [u64], store: &'a [u8]) -> bool
-    requires { ⌜ (length (now words) ≡ 8192) × (length (now store) ≡ 8192) ⌝ }
+    requires { ⌜ Whole (now words) × Whole (now store) ⌝ }
     ensures { λ r. ⌜ r ≡ listsKept (view (memory (now (words .entry)) (now (store .entry)))) ⌝ }
 {
-    let n = layout::exporter_count(words);
+    let n = find::exporter_count(words);
     let mut i = 0;
     while i < n {
-        let from = layout::SLOT * i;
-        let to = from + layout::SLOT;
-        if bindings::front_answer(&store[from..to]) != 0 {
+        if bindings::front_answer(layout::slot(store, i)) != 0 {
             return false;
         }
         i += 1;
@@ -44,40 +38,26 @@ fn lists_kept<'a>(words: &'a [u64], store: &'a [u8]) -> bool
 }
 
 fn exporters_sound<'a>(words: &'a [u64], store: &'a [u8]) -> bool
-    requires { ⌜ (length (now words) ≡ 8192) × (length (now store) ≡ 8192) ⌝ }
+    requires { ⌜ Whole (now words) × Whole (now store) ⌝ }
     ensures { λ r. ⌜ r ≡ holding (exporterClauses (view (memory (now (words .entry)) (now (store .entry))))) ⌝ }
 {
-    let n = layout::exporter_count(words);
+    let n = find::exporter_count(words);
     if !are_proper(layout::column(words, layout::OXIDS, n)) {
         return false;
     }
     lists_kept(words, store)
 }
 
-// An object with this no-ping mark, heard at this time, does not go at the clock.
-fn is_recent(clock: u64, mark: u64, heard: u64) -> bool
-    ensures { λ r. ⌜ r ≡ recent clock mark heard ⌝ }
-{
-    if mark != 0 {
-        return true;
-    }
-    columns::is_within(heard, clock, layout::TIMEOUT)
-}
-
 // Pinged objects were heard under 360 seconds before the clock.
 fn heard_recently(words: &[u64]) -> bool
-    requires { ⌜ length (now words) ≡ 8192 ⌝ }
-    ensures { λ r. ⌜ ((s : List ℕ) → r ≡ heardRecently (view (memory (now (words .entry)) s))) ⌝ }
+    requires { ⌜ Whole (now words) ⌝ }
+    ensures { λ r. ⌜ Holds (λ e. r ≡ heardRecently e) (now (words .entry)) ⌝ }
 {
-    let n = layout::object_count(words);
+    let n = find::object_count(words);
     let clock = words[layout::CLOCK];
     let mut i = 0;
     while i < n {
-        if !is_recent(
-            clock,
-            words[layout::NO_PING_MARKS + i],
-            words[layout::HEARD_TIMES + i],
-        ) {
+        if !find::is_heard_within(words, i, clock) {
             return false;
         }
         i += 1;
@@ -86,12 +66,12 @@ fn heard_recently(words: &[u64]) -> bool
 }
 
 fn objects_sound(words: &[u64]) -> bool
-    requires { ⌜ length (now words) ≡ 8192 ⌝ }
-    ensures { λ r. ⌜ ((s : List ℕ) → r ≡ holding (objectClauses (view (memory (now (words .entry)) s)))) ⌝ }
+    requires { ⌜ Whole (now words) ⌝ }
+    ensures { λ r. ⌜ Holds (λ e. r ≡ holding (objectClauses e)) (now (words .entry)) ⌝ }
 {
-    let exporters = layout::exporter_count(words);
-    let objects = layout::object_count(words);
-    let interfaces = layout::interface_count(words);
+    let exporters = find::exporter_count(words);
+    let objects = find::object_count(words);
+    let interfaces = find::interface_count(words);
     let oxids = layout::column(words, layout::OXIDS, exporters);
     let oids = layout::column(words, layout::OIDS, objects);
     let owners = layout::column(words, layout::OBJECT_EXPORTERS, objects);
@@ -113,38 +93,15 @@ fn objects_sound(words: &[u64]) -> bool
     heard_recently(words)
 }
 
-// Whether count k of interface i is zero.
-fn is_zero(words: &[u64], i: usize, k: usize) -> bool
-    requires { ⌜ (length (now words) ≡ 8192) × (i < interfaceCount (now words)) × (k < 9) ⌝ }
-    ensures { λ r. ⌜ r ≡ eqb (countOf k (getD (interfacesOf (now (words .entry))) i noInterface)) 0 ⌝ }
-{
-    find::count(words, i, k) == 0
-}
-
-// Whether a reference to interface i is held. The public count is looked at first.
-pub fn is_held(words: &[u64], i: usize) -> bool
-    requires { ⌜ (length (now words) ≡ 8192) × (i < interfaceCount (now words)) ⌝ }
-    ensures { λ r. ⌜ r ≡ held (getD (interfacesOf (now (words .entry))) i noInterface) ⌝ }
-{
-    let mut k = 0;
-    while k < 9 {
-        if !is_zero(words, i, k) {
-            return true;
-        }
-        k += 1;
-    }
-    false
-}
-
 // Each interface has a nonzero count.
 fn interfaces_held(words: &[u64]) -> bool
-    requires { ⌜ length (now words) ≡ 8192 ⌝ }
-    ensures { λ r. ⌜ ((s : List ℕ) → r ≡ interfacesHeld (view (memory (now (words .entry)) s))) ⌝ }
+    requires { ⌜ Whole (now words) ⌝ }
+    ensures { λ r. ⌜ Holds (λ e. r ≡ interfacesHeld e) (now (words .entry)) ⌝ }
 {
-    let n = layout::interface_count(words);
+    let n = find::interface_count(words);
     let mut i = 0;
     while i < n {
-        if !is_held(words, i) {
+        if !find::is_held(words, i) {
             return false;
         }
         i += 1;
@@ -154,11 +111,11 @@ fn interfaces_held(words: &[u64]) -> bool
 
 // Remote-unknown and interface IPIDs are one kind: none is nil, and no two are the same.
 fn ipids_proper(words: &[u64]) -> bool
-    requires { ⌜ length (now words) ≡ 8192 ⌝ }
-    ensures { λ r. ⌜ ((s : List ℕ) → r ≡ properGuids (ipids (view (memory (now (words .entry)) s)))) ⌝ }
+    requires { ⌜ Whole (now words) ⌝ }
+    ensures { λ r. ⌜ Holds (λ e. r ≡ properGuids (ipids e)) (now (words .entry)) ⌝ }
 {
-    let n = layout::exporter_count(words);
-    let m = layout::interface_count(words);
+    let n = find::exporter_count(words);
+    let m = find::interface_count(words);
     let unknown_lows = layout::column(words, layout::UNKNOWN_LOWS, n);
     let unknown_highs = layout::column(words, layout::UNKNOWN_HIGHS, n);
     let lows = layout::column(words, layout::IPID_LOWS, m);
@@ -179,11 +136,11 @@ fn ipids_proper(words: &[u64]) -> bool
 }
 
 fn interfaces_sound(words: &[u64]) -> bool
-    requires { ⌜ length (now words) ≡ 8192 ⌝ }
-    ensures { λ r. ⌜ ((s : List ℕ) → r ≡ holding (interfaceClauses (view (memory (now (words .entry)) s)))) ⌝ }
+    requires { ⌜ Whole (now words) ⌝ }
+    ensures { λ r. ⌜ Holds (λ e. r ≡ holding (interfaceClauses e)) (now (words .entry)) ⌝ }
 {
-    let objects = layout::object_count(words);
-    let interfaces = layout::interface_count(words);
+    let objects = find::object_count(words);
+    let interfaces = find::interface_count(words);
     let oids = layout::column(words, layout::OIDS, objects);
     let owners = layout::column(words, layout::INTERFACE_OBJECTS, interfaces);
     if !ipids_proper(words) {
@@ -197,18 +154,14 @@ fn interfaces_sound(words: &[u64]) -> bool
 
 // The members of each set are live objects, where no live object has OID 0.
 fn members_live(words: &[u64]) -> bool
-    requires { ⌜ (length (now words) ≡ 8192) × (proper (oids (view (memory (now words) (now words)))) ≡ true) ⌝ }
-    ensures { λ r. ⌜ ((s : List ℕ) → r ≡ membersLive (view (memory (now (words .entry)) s))) ⌝ }
+    requires { ⌜ Whole (now words) × (proper (oidsOf (now words)) ≡ true) ⌝ }
+    ensures { λ r. ⌜ Holds (λ e. r ≡ setMembersLive e) (now (words .entry)) ⌝ }
 {
-    let n = layout::set_count(words);
-    let objects = layout::object_count(words);
+    let n = find::set_count(words);
+    let objects = find::object_count(words);
     let mut i = 0;
     while i < n {
-        let members = Members {
-            low: words[layout::MEMBER_LOWS + i],
-            high: words[layout::MEMBER_HIGHS + i],
-        };
-        if !members.below(objects) {
+        if !find::members(words, i).below(objects) {
             return false;
         }
         i += 1;
@@ -217,10 +170,10 @@ fn members_live(words: &[u64]) -> bool
 }
 
 fn sets_sound(words: &[u64]) -> bool
-    requires { ⌜ (length (now words) ≡ 8192) × (proper (oids (view (memory (now words) (now words)))) ≡ true) ⌝ }
-    ensures { λ r. ⌜ ((s : List ℕ) → r ≡ holding (setClauses (view (memory (now (words .entry)) s)))) ⌝ }
+    requires { ⌜ Whole (now words) × (proper (oidsOf (now words)) ≡ true) ⌝ }
+    ensures { λ r. ⌜ Holds (λ e. r ≡ holding (setClauses e)) (now (words .entry)) ⌝ }
 {
-    let n = layout::set_count(words);
+    let n = find::set_count(words);
     let clock = words[layout::CLOCK];
     let next = words[layout::NEXT_SET];
     let numbers = layout::column(words, layout::SET_NUMBERS, n);

@@ -1,17 +1,33 @@
 // Which word and byte holds what.
 use columns::rows::Kind;
 ghost use mathlib.Core.Path.{_≡_};
-ghost use Prim.Native.Nat.{_+_, _≤_, min};
+ghost use Prim.Native.Nat.{_+_, _≤_, _<_};
 ghost use lib.ListN.{length, take, drop};
-ghost use Rattle.table.specs.View.{exporterKind, objectKind, interfaceKind, setKind, exporterCount, objectCount, interfaceCount, setCount};
+ghost use Rattle.rules.specs.Entries.{exporterPlaces};
+ghost use Rattle.table.specs.View.{exporterKind, objectKind, interfaceKind, setKind, slotStart, slot};
+ghost use Rattle.rules.specs.Contract.{Whole};
 
 // The lengths of the array and of the store.
 pub const WORDS: usize = 8192;
 
 pub const BYTES: usize = 8192;
 
-// The bytes of the store for each exporter's binding list.
+// The places of each kind.
+pub const EXPORTER_PLACES: usize = 16;
+
+pub const OBJECT_PLACES: usize = 128;
+
+pub const INTERFACE_PLACES: usize = 256;
+
+pub const SET_PLACES: usize = 32;
+
+// The bytes of the store for each exporter's binding list, which is no longer.
 pub const SLOT: usize = 512;
+
+// What counts and sequence numbers are below.
+pub const COUNT_LIMIT: u64 = 4294967296;
+
+pub const SEQUENCE_LIMIT: u64 = 65536;
 
 // The seconds after which what was not heard goes: three ping periods.
 pub const TIMEOUT: u64 = 360;
@@ -32,43 +48,43 @@ pub const SETS: usize = 5;
 // Columns, by their first words.
 pub const OXIDS: usize = 16;
 
-pub const UNKNOWN_LOWS: usize = 32;
+pub const UNKNOWN_LOWS: usize = OXIDS + EXPORTER_PLACES;
 
-pub const UNKNOWN_HIGHS: usize = 48;
+pub const UNKNOWN_HIGHS: usize = UNKNOWN_LOWS + EXPORTER_PLACES;
 
 pub const SET_NUMBERS: usize = 64;
 
-pub const SEQUENCES: usize = 96;
+pub const SEQUENCES: usize = SET_NUMBERS + SET_PLACES;
 
-pub const PING_TIMES: usize = 128;
+pub const PING_TIMES: usize = SEQUENCES + SET_PLACES;
 
-pub const MEMBER_LOWS: usize = 160;
+pub const MEMBER_LOWS: usize = PING_TIMES + SET_PLACES;
 
-pub const MEMBER_HIGHS: usize = 192;
+pub const MEMBER_HIGHS: usize = MEMBER_LOWS + SET_PLACES;
 
 pub const OIDS: usize = 256;
 
-pub const OBJECT_EXPORTERS: usize = 384;
+pub const OBJECT_EXPORTERS: usize = OIDS + OBJECT_PLACES;
 
-pub const NO_PING_MARKS: usize = 512;
+pub const NO_PING_MARKS: usize = OBJECT_EXPORTERS + OBJECT_PLACES;
 
-pub const HEARD_TIMES: usize = 640;
+pub const HEARD_TIMES: usize = NO_PING_MARKS + OBJECT_PLACES;
 
 pub const IPID_LOWS: usize = 768;
 
-pub const IPID_HIGHS: usize = 1024;
+pub const IPID_HIGHS: usize = IPID_LOWS + INTERFACE_PLACES;
 
-pub const INTERFACE_OBJECTS: usize = 1792;
+pub const INTERFACE_OBJECTS: usize = IPID_LOWS + 4 * INTERFACE_PLACES;
 
 // The public counts; the private ones of clients 0 to 7 follow, a column for each.
-pub const COUNTS: usize = 2048;
+pub const COUNTS: usize = INTERFACE_OBJECTS + INTERFACE_PLACES;
 
 pub fn exporter_kind() -> Kind
     ensures { λ r. ⌜ r ≡ exporterKind ⌝ }
 {
     Kind {
-        base: 16,
-        places: 16,
+        base: OXIDS,
+        places: EXPORTER_PLACES,
         width: 3,
     }
 }
@@ -77,8 +93,8 @@ pub fn set_kind() -> Kind
     ensures { λ r. ⌜ r ≡ setKind ⌝ }
 {
     Kind {
-        base: 64,
-        places: 32,
+        base: SET_NUMBERS,
+        places: SET_PLACES,
         width: 5,
     }
 }
@@ -87,8 +103,8 @@ pub fn object_kind() -> Kind
     ensures { λ r. ⌜ r ≡ objectKind ⌝ }
 {
     Kind {
-        base: 256,
-        places: 128,
+        base: OIDS,
+        places: OBJECT_PLACES,
         width: 4,
     }
 }
@@ -97,47 +113,10 @@ pub fn interface_kind() -> Kind
     ensures { λ r. ⌜ r ≡ interfaceKind ⌝ }
 {
     Kind {
-        base: 768,
-        places: 256,
+        base: IPID_LOWS,
+        places: INTERFACE_PLACES,
         width: 14,
     }
-}
-
-// A count word, read as no more than the places.
-fn capped(word: u64, places: usize) -> usize
-    ensures { λ r. ⌜ (r ≡ min word places) × (r ≤ places) ⌝ }
-{
-    let n = word as usize;
-    if n < places { n } else { places }
-}
-
-// The numbers of live rows.
-pub fn exporter_count(words: &[u64]) -> usize
-    requires { ⌜ length (now words) ≡ 8192 ⌝ }
-    ensures { λ r. ⌜ (r ≡ exporterCount (now (words .entry))) × (r ≤ 16) ⌝ }
-{
-    capped(words[EXPORTERS], 16)
-}
-
-pub fn object_count(words: &[u64]) -> usize
-    requires { ⌜ length (now words) ≡ 8192 ⌝ }
-    ensures { λ r. ⌜ (r ≡ objectCount (now (words .entry))) × (r ≤ 128) ⌝ }
-{
-    capped(words[OBJECTS], 128)
-}
-
-pub fn interface_count(words: &[u64]) -> usize
-    requires { ⌜ length (now words) ≡ 8192 ⌝ }
-    ensures { λ r. ⌜ (r ≡ interfaceCount (now (words .entry))) × (r ≤ 256) ⌝ }
-{
-    capped(words[INTERFACES], 256)
-}
-
-pub fn set_count(words: &[u64]) -> usize
-    requires { ⌜ length (now words) ≡ 8192 ⌝ }
-    ensures { λ r. ⌜ (r ≡ setCount (now (words .entry))) × (r ≤ 32) ⌝ }
-{
-    capped(words[SETS], 32)
 }
 
 // The first n words of a column.
@@ -147,4 +126,22 @@ pub fn column(words: &[u64], first: usize, n: usize) -> &[u64]
 {
     let end = first + n;
     &words[first..end]
+}
+
+// Where the slot of exporter i begins.
+pub fn slot_start(i: usize) -> usize
+    requires { ⌜ i ≤ exporterPlaces ⌝ }
+    ensures { λ r. ⌜ r ≡ slotStart i ⌝ }
+{
+    SLOT * i
+}
+
+// The slot of exporter i.
+pub fn slot(store: &[u8], i: usize) -> &[u8]
+    requires { ⌜ Whole (now store) × (i < exporterPlaces) ⌝ }
+    ensures { λ r. ⌜ now r ≡ slot (now (store .entry)) i ⌝ }
+{
+    let from = slot_start(i);
+    let end = from + SLOT;
+    &store[from..end]
 }

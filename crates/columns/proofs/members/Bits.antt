@@ -1,7 +1,7 @@
 -- Laws of members, and of the rows that are members.
 use Prim.Native.Nat.{ℕ, zero, suc, _+_, _-_, _^_, _<_, _≤_}
 use mathlib.Core.Path.{_≡_, refl, sym, ap, _∙_}
-use mathlib.Core.Bool.{Bool, true, false, not, _&&_, _||_, or-true, or-false, and-false, true≢false}
+use mathlib.Core.Bool.{Bool, true, false, not, _||_, or-true, or-false, true≢false}
 use mathlib.Core.List.{List, [], _∷_, _++_, map, append-nil}
 use mathlib.Core.Logic.{⊎-elim}
 use native.Mathlib.Omega.{arith}
@@ -11,10 +11,10 @@ use lib.ListN.{getD}
 use lib.Pow.{high, low}
 use lib.Dec.{eqb, ltb}
 use Rattle.lists.specs.Lists.{keep, every, tabulate, deleteAt, skip}
-use Rattle.columns.specs.Members.{bitOf, isMember, memberRows, Added, Dropped, Cut}
+use Rattle.columns.specs.Members.{bitOf, isMember, memberRows, Cut}
 use Rattle.columns.specs.declared.members.Members.{Members}
 use Rattle.lists.proofs.Tests.{true-or-false, below-or-not}
-use Rattle.lists.proofs.Lists.{every-keep, keep-ext, keep-nil, keep-no, keep-append, keep-map, keep-keep, keep-comm, map-ext, map-map, length-tabulate, getD-tabulate, tabulate-snoc, map-tabulate, every-tabulate, every-tabulate-at, skip-from, getD-delete, delete-tabulate, delete-keep}
+use Rattle.lists.proofs.Lists.{every-keep, keep-ext, keep-nil, keep-no, keep-append, keep-map, keep-comm, map-ext, map-map, length-tabulate, getD-tabulate, tabulate-snoc, map-tabulate, every-tabulate, every-tabulate-at, skip-from, getD-delete, delete-tabulate, delete-keep}
 use Rattle.columns.proofs.members.WordBits.{bit-past}
 
 module _ (m : Members) where
@@ -54,11 +54,6 @@ member-same m r i f g =
     (below-or-not i 64)
 
 -- ---- the rows that are members
-
--- the same members are the same rows
-pub members-same : (m r : Members) → ((i : ℕ) → isMember r i ≡ isMember m i) → memberRows r ≡ memberRows m
-unfolding memberRows
-members-same m r h = keep-ext (isMember r) (isMember m) h (tabulate 128 (λ j. j))
 
 -- what is kept of n numbers and one more
 pub keep-next : (p : ℕ → Bool) (n : ℕ) → keep p (tabulate (n + 1) (λ j. j)) ≡ keep p (tabulate n (λ j. j)) ++ keep p (n ∷ [])
@@ -125,29 +120,6 @@ module _ (n : ℕ) (m : Members) where
   below-past h = sym (below-holds (λ j b. member-past m j (omega arith)))
 
 -- ---- members that change
-
--- a row below n joins members below n
-pub below-added : (n j : ℕ) (m r : Members) → Added j m r → j < n → every (λ i. ltb i n) (memberRows m) ≡ true → every (λ i. ltb i n) (memberRows r) ≡ true
-below-added n j m r a h b =
-    below-holds n r (λ i c. a .member i ∙ rw (ne-eqb i j (omega arith), below-none n m b i c) (or-false (ltb j 128 && false) ∙ and-false (ltb j 128)))
-
--- row j joins the members below n
-pub members-added : (n j : ℕ) (m r : Members) → Added j m r → j < n → n ≤ 128 → every (λ i. ltb i n) (memberRows m) ≡ true → memberRows r ≡ keep (λ i. eqb i j || isMember m i) (tabulate n (λ i. i))
-members-added n j m r a h g b =
-    members-below n r (below-added n j m r a h b) g
-    ∙ keep-ext (isMember r) (λ i. eqb i j || isMember m i) (λ i. a .member i ∙ rw (lt-ltb j 128 (omega arith))) (tabulate n (λ i. i))
-
--- row j is no member any more
-pub members-dropped : (j : ℕ) (m r : Members) → Dropped j m r → memberRows r ≡ keep (λ i. not (eqb i j)) (memberRows m)
-unfolding memberRows
-members-dropped j m r d =
-    keep-ext (isMember r) (λ i. not (eqb i j) && isMember m i) (d .member) (tabulate 128 (λ i. i))
-    ∙ sym (keep-keep (isMember m) (λ i. not (eqb i j)) (tabulate 128 (λ i. i)))
-    ∙ keep-comm (isMember m) (λ i. not (eqb i j)) (tabulate 128 (λ i. i))
-
--- members below n stay below n
-pub below-dropped : (n j : ℕ) (m r : Members) → Dropped j m r → every (λ i. ltb i n) (memberRows m) ≡ true → every (λ i. ltb i n) (memberRows r) ≡ true
-below-dropped n j m r d b = below-holds n r (λ i c. d .member i ∙ rw (below-none n m b i c) (and-false (not (eqb i j))))
 
 module _ (k : ℕ) (m r : Members) (c : Cut k m r) where
   -- members below n are below n - 1 once a row is taken out

@@ -1,7 +1,7 @@
 -- What the functions over members make and test.
 use Prim.Native.Nat.{ℕ, suc, _+_, _-_, _*_, _/_, _%_, _^_, _<_, _≤_}
-use mathlib.Core.Path.{_≡_, refl, sym, ap, _∙_}
-use mathlib.Core.Bool.{Bool, true, false, not, cond, _&&_, _||_}
+use mathlib.Core.Path.{_≡_, sym, ap, _∙_}
+use mathlib.Core.Bool.{Bool, false}
 use mathlib.Core.Logic.{⊎-elim}
 use native.Mathlib.Omega.{arith}
 use native.Mathlib.Nat.{lt-of-le-of-lt}
@@ -9,7 +9,7 @@ use borrow.Author.Tests.{lt-ltb, le-ltb, eq-eqb, ne-eqb}
 use lib.Pow.{high, low, shr-le}
 use lib.Dec.{eqb, ltb}
 use Rattle.lists.specs.Lists.{every, skip}
-use Rattle.columns.specs.Members.{bitOf, isMember, memberRows, putBit, cutBit, InWords, BitPut, Added, Dropped, Cut}
+use Rattle.columns.specs.Members.{bitOf, isMember, memberRows, putBit, cutBit, InWords, MemberPut, Cut}
 use Rattle.columns.specs.declared.members.Members.{Members}
 use Rattle.lists.proofs.Tests.{same-or-not, below-or-not}
 use Rattle.lists.proofs.Lists.{skip-below, skip-from}
@@ -28,13 +28,13 @@ zero-member m e g i =
 
 -- ---- a bit is put
 
-module _ (j b : ℕ) (one : b < 2) (m r : Members) (fits : InWords m) where
+module _ (j b : ℕ) (member : Bool) (is : (b < 2) × (eqb b 1 ≡ member)) (m r : Members) (fits : InWords m) where
   -- row j is put, and the other rows are as they were
-  put-made : InWords r → j < 128 → isMember r j ≡ eqb b 1 → ((i : ℕ) → (i ≡ j → ⊥) → isMember r i ≡ isMember m i) → BitPut j b m r
+  put-made : InWords r → j < 128 → isMember r j ≡ member → ((i : ℕ) → (i ≡ j → ⊥) → isMember r i ≡ isMember m i) → MemberPut j member m r
   put-made w h e f =
       record {
         words = w;
-        member = λ i.
+        rows = λ i.
             ⊎-elim
             (λ (q : i ≡ j). ap (isMember r) q ∙ e ∙ sym (rw (lt-ltb j 128 h, eq-eqb i j q)))
             (λ (q : i ≡ j → ⊥). f i q ∙ sym (rw (lt-ltb j 128 h, ne-eqb i j q)))
@@ -42,51 +42,22 @@ module _ (j b : ℕ) (one : b < 2) (m r : Members) (fits : InWords m) where
       }
 
   -- a bit of the low word is put
-  pub put-low : j < 64 → r .low ≡ putBit (m .low) j b → r .high ≡ m .high → BitPut j b m r
+  pub put-low : j < 64 → r .low ≡ putBit (m .low) j b → r .high ≡ m .high → MemberPut j member m r
   put-low h e g =
-      put-made (rw e (put-lt (m .low) j b one (fits .0) h), rw g (fits .1)) (omega arith)
-      (member-low r j h ∙ ap (λ (w : ℕ). bitOf w j) e ∙ put-here (m .low) j b one)
-      (λ i d. member-same m r i (λ c. ap (λ (w : ℕ). bitOf w i) e ∙ put-other (m .low) j b one i d) (λ c. ap (λ (w : ℕ). bitOf w (i - 64)) g))
+      put-made (rw e (put-lt (m .low) j b (is .0) (fits .0) h), rw g (fits .1)) (omega arith)
+      (member-low r j h ∙ ap (λ (w : ℕ). bitOf w j) e ∙ put-here (m .low) j b (is .0) ∙ is .1)
+      (λ i d. member-same m r i (λ c. ap (λ (w : ℕ). bitOf w i) e ∙ put-other (m .low) j b (is .0) i d) (λ c. ap (λ (w : ℕ). bitOf w (i - 64)) g))
 
   -- a bit of the high word is put
-  pub put-high : 64 ≤ j → j < 128 → r .low ≡ m .low → r .high ≡ putBit (m .high) (j - 64) b → BitPut j b m r
+  pub put-high : 64 ≤ j → j < 128 → r .low ≡ m .low → r .high ≡ putBit (m .high) (j - 64) b → MemberPut j member m r
   put-high h c g e =
-      put-made (rw g (fits .0), rw e (put-lt (m .high) (j - 64) b one (fits .1) (omega arith))) c
-      (member-high r j h c ∙ ap (λ (w : ℕ). bitOf w (j - 64)) e ∙ put-here (m .high) (j - 64) b one)
-      (λ i d. member-same m r i (λ c. ap (λ (w : ℕ). bitOf w i) g) (λ c. ap (λ (w : ℕ). bitOf w (i - 64)) e ∙ put-other (m .high) (j - 64) b one (i - 64) (λ q. d (omega arith))))
+      put-made (rw g (fits .0), rw e (put-lt (m .high) (j - 64) b (is .0) (fits .1) (omega arith))) c
+      (member-high r j h c ∙ ap (λ (w : ℕ). bitOf w (j - 64)) e ∙ put-here (m .high) (j - 64) b (is .0) ∙ is .1)
+      (λ i d. member-same m r i (λ c. ap (λ (w : ℕ). bitOf w i) g) (λ c. ap (λ (w : ℕ). bitOf w (i - 64)) e ∙ put-other (m .high) (j - 64) b (is .0) (i - 64) (λ q. d (omega arith))))
 
 -- a row of 128 or more puts nothing
-pub put-none : (j b : ℕ) (m : Members) → InWords m → 128 ≤ j → BitPut j b m m
-put-none j b m f h = record { words = f; member = λ i. rw (le-ltb j 128 h) }
-
--- a bit put to 1 adds a row
-pub put-added : (j : ℕ) (m r : Members) → BitPut j 1 m r → Added j m r
-put-added j m r p = record { words = p .words; member = λ i. p .member i ∙ go (ltb j 128 && eqb i j) (isMember m i) }
-  where
-    go : (t u : Bool) → cond t true u ≡ (t || u)
-    go true u = refl
-    go false u = refl
-
--- a bit put to 0 drops a row
-pub put-dropped : (j : ℕ) (m r : Members) → BitPut j 0 m r → Dropped j m r
-put-dropped j m r p =
-    record {
-      words = p .words;
-      member = λ i.
-          ⊎-elim
-          (λ (h : j < 128). p .member i ∙ rw (lt-ltb j 128 h) (go (eqb i j) (isMember m i)))
-          (λ (h : 128 ≤ j).
-          p .member i ∙ rw (le-ltb j 128 h)
-          (⊎-elim
-          (λ (q : i ≡ j). member-past m i (omega arith) ∙ sym (rw (eq-eqb i j q)))
-          (λ (q : i ≡ j → ⊥). sym (rw (ne-eqb i j q)))
-          (same-or-not i j)))
-          (below-or-not j 128);
-    }
-  where
-    go : (t u : Bool) → cond t false u ≡ (not t && u)
-    go true u = refl
-    go false u = refl
+pub put-none : (j : ℕ) (member : Bool) (m : Members) → InWords m → 128 ≤ j → MemberPut j member m m
+put-none j member m f h = record { words = f; rows = λ i. rw (le-ltb j 128 h) }
 
 -- ---- a bit is taken out
 

@@ -2,13 +2,13 @@
 use Prim.Native.Nat.{ℕ, zero, suc, _+_, _-_, _*_, _<_, _≤_}
 use mathlib.Core.Path.{_≡_, sym, ap, _∙_}
 use mathlib.Core.List.{List, [], _∷_, _++_, map}
-use mathlib.Core.Logic.{_⊎_, inl, inr, ⊎-elim}
+use mathlib.Core.Logic.{_⊎_, ⊎-elim}
 use native.Mathlib.Omega.{arith}
 use native.Mathlib.Nat.{mul-le-mul-right, suc-mul}
 use lib.ListN.{length, getD, take, drop, set}
 use lib.Seq.{getD-set-same, getD-set-other}
 use Rattle.lists.specs.Lists.{tabulate, deleteAt}
-use Rattle.columns.specs.Rows.{cell, rowAt, rows, after, Outside, RowPut, RowRemoved}
+use Rattle.columns.specs.Rows.{cell, rowAt, rows, after, RowPut, RowRemoved}
 use Rattle.columns.specs.declared.rows.Kind.{Kind}
 use Rattle.lists.proofs.Tests.{below-or-not}
 use Rattle.lists.proofs.Lists.{length-tabulate, getD-tabulate, tabulate-ext, tabulate-snoc, tabulate-part, map-tabulate, set-tabulate, delete-tabulate}
@@ -124,9 +124,3 @@ module _ (k : Kind) where
       map-tabulate (λ r. getD r j 0) n (rowAt k ws)
       ∙ tabulate-ext n _ _ (λ i c. rowAt-getD ws i j h)
       ∙ sym (tabulate-part ws 0 (k .base + j * k .places) n (omega arith))
-
--- what changes a kind's columns alone leaves the rows of a kind apart from it
-pub rows-apart : (k k′ : Kind) (ws ws′ : List ℕ) (n : ℕ) → (after k ≤ k′ .base) ⊎ (after k′ ≤ k .base) → n ≤ k′ .places → Outside k ws ws′ → rows k′ ws′ n ≡ rows k′ ws n
-rows-apart k k′ ws ws′ n a b o =
-    rows-within k′ ws ws′ n b
-    (λ x c d. o x (⊎-elim (λ (h : after k ≤ k′ .base). inr (omega arith)) (λ (h : after k′ ≤ k .base). inl (omega arith)) a))

@@ -1,5 +1,5 @@
 -- `counting::add_step`: a client that is none is refused, an interface that is not live, then a sum that is too large; else the counts are stored.
-use Prim.Native.Nat.{ℕ, suc, _+_, _^_, _<_, _≤_}
+use Prim.Native.Nat.{ℕ, _+_, _^_, _<_, _≤_}
 use mathlib.Core.Path.{_≡_, refl, sym, ap, _∙_}
 use mathlib.Core.Bool.{true, false}
 use mathlib.Core.List.{List, [], _∷_}
@@ -8,15 +8,15 @@ use borrow.Author.Tests.{le-leb, lt-leb}
 use lib.ListN.{length, getD, set}
 use Rattle.kinds.specs.Refusals.{order, _gives_}
 use Rattle.kinds.specs.declared.Guid.{Guid}
-use Rattle.rules.specs.Entries.{Interface, publicOf, privateOf, withInterfaces, atCounts}
+use Rattle.rules.specs.Entries.{Interface, publicOf, privateOf, withInterfaces, atCounts, interfaceRow}
 use Rattle.rules.specs.Calls.{Call}
 use Rattle.rules.specs.Sound.{sound}
 use Rattle.rules.specs.Rules.{noInterface, interfaceOf, passesCount, refusals, number, next, results, refused, done}
-use Rattle.rules.proofs.ByRow.{interfaceRow, interfaceIn, interface-row, add-row}
+use Rattle.rules.proofs.ByRow.{interfaceIn, interface-row, add-row}
 use Rattle.table.specs.View.{interfaceCount, interfacesOf, memory, view}
-use Rattle.table.specs.Found.{heldAt}
+use Rattle.table.specs.Counts.{countsAt}
 use Rattle.table.specs.Edits.{changeInterface}
-use Rattle.table.specs.declared.find.Held.{Held}
+use Rattle.table.specs.declared.find.InterfaceCounts.{InterfaceCounts}
 use Rattle.table.proofs.LiveRows.{interfaces-length}
 use Rattle.calls.proofs.Calls.{refused-step, accepted-step, row-gives, row-passes, gone-gives, live-passes, rows-end, two-rows, interface-tested}
 use Rattle.counting.proofs.Counts.{counts-as}
@@ -37,7 +37,7 @@ module _ (ws s : List ℕ) (c : ℕ) (i : Guid) (p q : ℕ) {r n : ℕ} (client 
   unfolding number refusals
   gone h = gone-gives (interface-tested ws s i found counted) _ _ (row-passes _ _ _ refl (client-here c client)) h
 
-  module _ {h : Held} (held : h ≡ heldAt ws r c) (live : r < n) where
+  module _ {h : InterfaceCounts} (held : h ≡ countsAt ws r c) (live : r < n) where
     -- the rows of the sums are left
     sums : number (Call.add c i p q) (view (memory ws s)) ≡ order (passesCount (h .public + p) gives 8 ∷ passesCount (h .private + q) gives 8 ∷ [])
     unfolding number refusals
@@ -46,7 +46,7 @@ module _ (ws s : List ℕ) (c : ℕ) (i : Guid) (p q : ℕ) {r n : ℕ} (client 
         ∙ two-rows (passesCount (publicOf (interfaceOf (view (memory ws s)) i) + p)) (passesCount (privateOf c (interfaceOf (view (memory ws s)) i) + q)) 8 []
         ∙ ap (λ (x : Interface). order (passesCount (publicOf x + p) gives 8 ∷ passesCount (privateOf c x + q) gives 8 ∷ []))
         (interface-row (view (memory ws s)) i ∙ ap (λ (k : ℕ). getD (interfacesOf ws) k noInterface) (sym found))
-        ∙ ap (λ (x : Held). order (passesCount (x .public + p) gives 8 ∷ passesCount (x .private + q) gives 8 ∷ [])) (sym held)
+        ∙ ap (λ (x : InterfaceCounts). order (passesCount (x .public + p) gives 8 ∷ passesCount (x .private + q) gives 8 ∷ [])) (sym held)
 
     -- the sums in the row are the entries that the rules say
     added : sound (view (memory ws s)) ≡ true
@@ -56,7 +56,7 @@ module _ (ws s : List ℕ) (c : ℕ) (i : Guid) (p q : ℕ) {r n : ℕ} (client 
         let b : interfaceRow (view (memory ws s)) i < length (interfacesOf ws) = omega arith in
         let x : Interface = getD (interfacesOf ws) r noInterface in
         let y : x ≡ interfaceIn (view (memory ws s)) i = ap (λ (k : ℕ). getD (interfacesOf ws) k noInterface) found in
-        let z = counts-as c (h .public + p) (h .private + q) x (λ (m : ℕ). m + p) (λ (m : ℕ). m + q) (ap (λ (k : Held). k .public + p) held) (ap (λ (k : Held). k .private + q) held) in
+        let z = counts-as c (h .public + p) (h .private + q) x (λ (m : ℕ). m + p) (λ (m : ℕ). m + q) (ap (λ (k : InterfaceCounts). k .public + p) held) (ap (λ (k : InterfaceCounts). k .private + q) held) in
         (λ u. withInterfaces (set (interfacesOf ws) (found u) ((z ∙ ap (atCounts c (λ (m : ℕ). m + p) (λ (m : ℕ). m + q)) y) u)) (view (memory ws s)))
         ∙ sym (add-row (view (memory ws s)) t c i p q b)
 
@@ -68,13 +68,13 @@ within-count : (n : ℕ) → n ≤ 4294967295 → passesCount n ≡ false
 within-count n h = lt-leb (2 ^ 32) n (omega arith)
 
 -- the rows of the sums, where the interface was found
-sums-left : (c : tie.After-interface-held) → let a = c .before .before .before .before .before .before .before .before .before .before .args in let h = c .interface-held .result in
+sums-left : (c : tie.After-interface-counts) → let a = c .before .before .before .before .before .before .before .before .before .before .args in let h = c .interface-counts .result in
     number (Call.add (a .client) (a .ipid) (a .public) (a .private)) (view (memory (a .words .now) (a .store .now)))
     ≡ order (passesCount (h .public + a .public) gives 8 ∷ passesCount (h .private + a .private) gives 8 ∷ [])
 sums-left c =
     let a = c .before .before .before .before .before .before .before .before .before .before .args in
     sums (a .words .now) (a .store .now) (a .client) (a .ipid) (a .public) (a .private) (c .before .before .before .before .before .before .before .if1 .left) (c .before .before .before .before .before .interface-row .ensures (a .store .now)) (c .before .before .before .interface-count .ensures .0)
-    (c .interface-held .ensures) (c .before .before .if2 .left)
+    (c .interface-counts .ensures) (c .before .before .if2 .left)
 
 returns : tie.Need-returns
 unfolding refused results
@@ -99,8 +99,8 @@ returns-2 c =
     (gone (a .words .now) (a .store .now) (a .client) (a .ipid) (a .public) (a .private) (c .before .before .before .before .before .if1 .left) (c .before .before .before .interface-row .ensures (a .store .now)) (c .before .interface-count .ensures .0) (c .if2 .taken))
     (λ z. omega arith)
 
-interface-held-requires : tie.Need-interface-held-requires
-interface-held-requires c κs = search needs
+interface-counts-requires : tie.Need-interface-counts-requires
+interface-counts-requires c κs = search needs
 
 cast-more-public : tie.Need-cast-more-public
 cast-more-public c = search needs
@@ -156,7 +156,7 @@ returns-5 c =
     refl _
     (c .before .before .set-counts .ensures (a .store .now)
     ∙ added (a .words .now) (a .store .now) (a .client) (a .ipid) (a .public) (a .private) (c .before .before .before .before .before .before .before .before .before .before .before .before .before .before .before .if1 .left) (c .before .before .before .before .before .before .before .before .before .before .before .before .before .interface-row .ensures (a .store .now)) (c .before .before .before .before .before .before .before .before .before .before .before .interface-count .ensures .0)
-    (c .before .before .before .before .before .before .before .before .interface-held .ensures) (c .before .before .before .before .before .before .before .before .before .before .if2 .left) (t .entries))
+    (c .before .before .before .before .before .before .before .before .interface-counts .ensures) (c .before .before .before .before .before .before .before .before .before .before .if2 .left) (t .entries))
 
 pub add-step-spec : {M : Type 1} → statement M
 add-step-spec =
@@ -167,7 +167,7 @@ add-step-spec =
     interface-count-requires
     same-length
     returns-2
-    interface-held-requires
+    interface-counts-requires
     cast-more-public
     add-more-public
     cast-more-private

@@ -1,16 +1,15 @@
 -- `counting::drop_client_step`: a client that is none is refused; else its counts are cleared, and what has no reference then goes.
 use mathlib.Core.Path.{_≡_, refl, sym, ap, _∙_}
-use mathlib.Core.List.{List}
 use native.Mathlib.Omega.{arith}
 use Prim.Native.Nat.{ℕ, _<_, _≤_}
 use Rattle.rules.specs.Entries.{Entries, oids}
 use Rattle.rules.specs.Calls.{Call}
-use Rattle.rules.specs.Sound.{proper, membersLive}
+use Rattle.rules.specs.Sound.{proper, setMembersLive}
 use Rattle.rules.specs.Rules.{refusals, number, results, refused, done}
 use Rattle.rules.proofs.SoundLaws.{sound-fields}
 use Rattle.table.specs.View.{memory, view}
-use Rattle.settling.specs.Leaving.{settled, cleared, heldLeft}
-use Rattle.settling.specs.declared.Leaving.the-variants.{Unserved}
+use Rattle.settling.specs.Leaving.{withoutLeaving, heldLeft}
+use Rattle.settling.specs.declared.Leaving.the-variants.{NoInterface}
 use Rattle.settling.proofs.Settling.{asked}
 use Rattle.settling.proofs.Clearing.{drop-steps}
 use Rattle.calls.proofs.Calls.{refused-step, accepted-step, row-gives, row-passes, rows-end}
@@ -40,12 +39,12 @@ clear-counts-requires c κs = search needs
 drop-unheld-requires : tie.Need-drop-unheld-requires
 drop-unheld-requires c κs = search needs
 
-settle-requires : tie.Need-settle-requires
-settle-requires c κs =
+remove-leaving-requires : tie.Need-remove-leaving-requires
+remove-leaving-requires c κs =
     let f = sound-fields _ (c .before .before .before .before .before .before .before .before .before .before .before .before .pre .entries) in
     let s = c .before .before .before .before .before .before .before .before .before .before .before .before .args .store .now in
     let e = c .before .before .before .drop-unheld .ensures s ∙ ap heldLeft (c .before .before .before .before .before .before .before .clear-counts .ensures s) in
-    let a = asked _ s (ap (λ (x : Entries). proper (oids x)) e ∙ f .objectsProper) (ap membersLive e ∙ f .membersNamed) in
+    let a = asked _ s (ap (λ (x : Entries). proper (oids x)) e ∙ f .objectsProper) (ap setMembersLive e ∙ f .setMembersLive) in
     (search needs, a .0, a .1)
 
 same-length : tie.Need-same-length
@@ -57,8 +56,8 @@ returns-2 c =
     let a = c .before .before .before .before .before .before .before .before .before .before .before .before .before .before .before .args in
     let e : Entries = view (memory (a .words .now) (a .store .now)) in
     accepted-step 0 (here e (a .client) (c .before .before .before .before .before .before .before .before .before .before .before .before .if1 .left)) refl _
-    (c .before .before .settle .ensures (a .store .now)
-    ∙ ap (settled Unserved) (c .before .before .before .before .before .before .drop-unheld .ensures (a .store .now) ∙ ap heldLeft (c .before .before .before .before .before .before .before .before .before .before .clear-counts .ensures (a .store .now)))
+    (c .before .before .remove-leaving .ensures (a .store .now)
+    ∙ ap (withoutLeaving NoInterface) (c .before .before .before .before .before .before .drop-unheld .ensures (a .store .now) ∙ ap heldLeft (c .before .before .before .before .before .before .before .before .before .before .clear-counts .ensures (a .store .now)))
     ∙ sym (drop-steps (a .client) e))
 
 pub drop-client-step-spec : {M : Type 1} → statement M
@@ -68,6 +67,6 @@ drop-client-step-spec =
     returns
     clear-counts-requires
     drop-unheld-requires
-    settle-requires
+    remove-leaving-requires
     same-length
     returns-2)

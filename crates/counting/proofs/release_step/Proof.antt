@@ -4,24 +4,24 @@ use mathlib.Core.Path.{sym, ap, _∙_}
 use native.Mathlib.Omega.{arith}
 use Rattle.rules.specs.Entries.{Entries, oids, atCounts}
 use Rattle.table.specs.View.{interfaceCount}
-use Rattle.rules.specs.Sound.{proper, membersLive}
+use Rattle.rules.specs.Sound.{proper, setMembersLive}
 use Rattle.rules.proofs.SoundLaws.{sound-fields}
 use Rattle.counting.proofs.Counts.{still-counted}
-use Rattle.counting.proofs.Releasing.{Found, Taking, no-client, no-interface, counted-done, empty-done}
+use Rattle.counting.proofs.Releasing.{Row, Taking, no-client, no-interface, counted-done, empty-done}
 use borrow.Author.Needs.{needs}
 use Rattle.counting.proofs.release_step.Statement.{statement}
 use Rattle.counting.proofs.release_step.Tie as tie
 
 -- the row that was found
-found : (c : tie.After-interface-count) → let a = c .before .before .before .before .before .before .before .args in Found (a .words .now) (a .store .now) (a .ipid) (c .before .before .interface-row .result) (c .interface-count .result)
+found : (c : tie.After-interface-count) → let a = c .before .before .before .before .before .before .before .args in Row (a .words .now) (a .store .now) (a .ipid) (c .before .before .interface-row .result) (c .interface-count .result)
 found c = record { table = c .before .before .before .before .before .before .before .pre; row = c .before .before .interface-row .ensures (c .before .before .before .before .before .before .before .args .store .now); count = c .interface-count .ensures .0 }
 
 -- what is taken of its counts, and what is left
-taking : (c : tie.After-set-counts) → let a = c .before .before .before .before .before .before .before .before .before .before .before .before .before .before .before .before .args in let h = c .before .before .before .before .before .before .interface-held .result in
+taking : (c : tie.After-set-counts) → let a = c .before .before .before .before .before .before .before .before .before .before .before .before .before .before .before .before .args in let h = c .before .before .before .before .before .before .interface-counts .result in
     Taking (a .words .now) (a .store .now) (a .client) (a .ipid) (a .public) (a .private) (c .before .before .before .before .before .before .before .before .before .before .before .interface-row .result) (c .before .before .before .before .before .before .before .before .before .interface-count .result)
     (c .before .before .before .before .before .smaller .result) (c .before .before .before .before .smaller2 .result) (h .public - c .before .before .before .before .before .smaller .result) (h .private - c .before .before .before .before .smaller2 .result)
 taking c =
-    let held = c .before .before .before .before .before .before .interface-held .ensures in
+    let held = c .before .before .before .before .before .before .interface-counts .ensures in
     record {
       client = c .before .before .before .before .before .before .before .before .before .before .before .before .before .if1 .left;
       found = found (c .before .before .before .before .before .before .before .before .before);
@@ -36,7 +36,7 @@ taking c =
 still-here : (c : tie.After-set-counts) → c .before .before .before .before .before .before .before .before .before .before .before .interface-row .result < interfaceCount (c .set-counts .last .0)
 still-here c =
     let a = c .before .before .before .before .before .before .before .before .before .before .before .before .before .before .before .before .args in
-    let h = c .before .before .before .before .before .before .interface-held .result in
+    let h = c .before .before .before .before .before .before .interface-counts .result in
     let n = still-counted (a .words .now) (c .set-counts .last .0) (c .before .before .before .before .before .before .before .before .before .before .before .interface-row .result)
     (atCounts (a .client) (λ (m : ℕ). h .public - c .before .before .before .before .before .smaller .result) (λ (m : ℕ). h .private - c .before .before .before .before .smaller2 .result)) (c .set-counts .ensures) in
     let b = c .before .before .before .before .before .before .before .before .before .interface-count .ensures .0 in
@@ -69,8 +69,8 @@ returns-2 c =
     rw (c .refused2 .ensures)
     (no-interface (a .words .now) (a .store .now) (a .client) (a .ipid) (a .public) (a .private) (c .before .before .before .before .before .before .if1 .left) (found (c .before .before)) (c .before .if2 .taken))
 
-interface-held-requires : tie.Need-interface-held-requires
-interface-held-requires c κs = search needs
+interface-counts-requires : tie.Need-interface-counts-requires
+interface-counts-requires c κs = search needs
 
 smaller-requires : tie.Need-smaller-requires
 smaller-requires c κs = search needs
@@ -100,7 +100,7 @@ drop-interface-requires : tie.Need-drop-interface-requires
 drop-interface-requires c κs =
     let f = sound-fields _ (c .before .before .before .before .before .before .before .before .before .before .before .before .before .before .before .before .before .before .before .before .before .before .pre .entries) in
     let e = c .before .before .before .before .before .before .set-counts .ensures (c .before .before .before .before .before .before .before .before .before .before .before .before .before .before .before .before .before .before .before .before .before .before .args .store .now) in
-    (search needs, still-here (c .before .before .before .before .before .before), ap (λ (x : Entries). proper (oids x)) e ∙ f .objectsProper, ap membersLive e ∙ f .membersNamed)
+    (search needs, still-here (c .before .before .before .before .before .before), ap (λ (x : Entries). proper (oids x)) e ∙ f .objectsProper, ap setMembersLive e ∙ f .setMembersLive)
 
 same-length-3 : tie.Need-same-length-3
 same-length-3 c = search needs
@@ -109,7 +109,7 @@ returns-4 : tie.Need-returns-4
 returns-4 c =
     let s = c .before .before .before .before .before .before .before .before .before .before .before .before .before .before .before .before .before .before .before .before .before .before .before .before .before .args .store .now in
     empty-done (taking (c .before .before .before .before .before .before .before .before .before)) _ (c .before .before .before .before .before .before .before .before .before .set-counts .ensures s) (sym (c .before .before .before .before .before .is-held .ensures) ∙ c .before .before .before .before .if3 .left) _ _
-    (rw (c .before .before .before .before .before .before .before .before .before .before .before .before .before .before .before .interface-held .ensures) at (c .before .before .drop-interface .ensures s))
+    (rw (c .before .before .before .before .before .before .before .before .before .before .before .before .before .before .before .interface-counts .ensures) at (c .before .before .drop-interface .ensures s))
 
 pub release-step-spec : {M : Type 1} → statement M
 release-step-spec =
@@ -122,7 +122,7 @@ release-step-spec =
     refused-requires-2
     same-length
     returns-2
-    interface-held-requires
+    interface-counts-requires
     smaller-requires
     smaller-requires-2
     sub-left-public

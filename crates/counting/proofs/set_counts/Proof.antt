@@ -1,5 +1,5 @@
 -- `counting::set_counts`: one count is stored after the other.
-use mathlib.Core.Path.{sym, ap, _∙_}
+use mathlib.Core.Path.{ap, _∙_}
 use native.Mathlib.Omega.{arith}
 use native.Mathlib.Numerals.{add-one}
 use Rattle.rules.specs.Entries.{Entries, withCount}
@@ -11,16 +11,16 @@ use borrow.Author.Needs.{needs}
 use Rattle.counting.proofs.set_counts.Statement.{statement}
 use Rattle.counting.proofs.set_counts.Tie as tie
 
-set-count-requires : tie.Need-set-count-requires
-set-count-requires c κs = search needs
+put-count-requires : tie.Need-put-count-requires
+put-count-requires c κs = search needs
 
-add-set-count : tie.Need-add-set-count
-add-set-count c = search needs
+add-put-count : tie.Need-add-put-count
+add-put-count c = search needs
 
-set-count-requires-2 : tie.Need-set-count-requires-2
-set-count-requires-2 c κs =
+put-count-requires-2 : tie.Need-put-count-requires-2
+put-count-requires-2 c κs =
     let start = c .before .before .before .before .before .before in
-    let n = still-counted (start .args .words .now) _ (start .args .i) (withCount 0 (start .args .public)) (c .before .before .before .set-count .ensures) in
+    let n = still-counted (start .args .words .now) _ (start .args .i) (withCount 0 (start .args .public)) (c .before .before .before .put-count .ensures) in
     let b = start .pre .1 in
     (search needs, omega arith, omega arith)
 
@@ -33,10 +33,10 @@ returns c s =
     let e : Entries = view (memory (start .args .words .now) s) in
     let n = interfaces-length (start .args .words .now) in
     let b = start .pre .1 in
-    rw (add-one (start .args .client)) at (c .before .before .set-count2 .ensures s)
-    ∙ ap (changeInterface (start .args .i) (withCount _ (start .args .private))) (c .before .before .before .before .before .before .set-count .ensures s)
+    rw (add-one (start .args .client)) at (c .before .before .put-count2 .ensures s)
+    ∙ ap (changeInterface (start .args .i) (withCount _ (start .args .private))) (c .before .before .before .before .before .before .put-count .ensures s)
     ∙ both-counts e (start .args .i) (start .args .client) (start .args .public) (start .args .private) (omega arith)
 
 pub set-counts-spec : {M : Type 1} → statement M
 set-counts-spec =
-    tie.close (tie.spec set-count-requires add-set-count set-count-requires-2 same-length returns)
+    tie.close (tie.spec put-count-requires add-put-count put-count-requires-2 same-length returns)

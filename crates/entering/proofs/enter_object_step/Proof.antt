@@ -1,11 +1,9 @@
 -- `entering::enter_object_step`: refused as the number says; else the object is entered, and then its first interface.
 use Prim.Native.Nat.{_<_}
 use mathlib.Core.Path.{_≡_, sym, ap, _∙_}
-use mathlib.Core.Bool.{Bool}
 use native.Mathlib.Omega.{arith}
 use lib.ListN.{length}
 use Rattle.rules.specs.Entries.{Entries}
-use Rattle.rules.specs.Calls.{Call}
 use Rattle.rules.specs.Rules.{next, results, refused, done}
 use Rattle.table.specs.View.{memory, view}
 use Rattle.table.specs.Edits.{addInterface}
@@ -37,22 +35,19 @@ fits-objects c z =
     object-fits (view (memory (a .words .now) (a .store .now))) (a .oid .0) (a .oxid .0) (a .ipid) (a .iid) (a .public) (a .no-ping)
     (sym (c .object-number .ensures (a .store .now) (a .iid) (a .no-ping)) ∙ z)
 
-mark-requires : tie.Need-mark-requires
-mark-requires c κs = search needs
-
 put-object-requires : tie.Need-put-object-requires
 put-object-requires c κs =
-    let a = c .before .before .before .before .before .before .before .args in
-    let t = c .before .before .before .before .before .before .before .pre in
-    let fits = fits-objects (c .before .before .before) (c .before .before .if1 .left) in
+    let a = c .before .before .before .before .before .before .args in
+    let t = c .before .before .before .before .before .before .pre in
+    let fits = fits-objects (c .before .before) (c .before .if1 .left) in
     let l = objects-length (a .words .now) in
     (t .words, omega arith, sound-below (a .words .now) (a .store .now) t)
 
 put-interface-requires : tie.Need-put-interface-requires
 put-interface-requires c κs =
-    let a = c .before .before .before .before .before .before .before .before .before .before .before .args in
-    let t = c .before .before .before .before .before .before .before .before .before .before .before .pre in
-    let fits = fits-objects (c .before .before .before .before .before .before .before) (c .before .before .before .before .before .before .if1 .left) in
+    let a = c .before .before .before .before .before .before .before .before .before .before .args in
+    let t = c .before .before .before .before .before .before .before .before .before .before .pre in
+    let fits = fits-objects (c .before .before .before .before .before .before) (c .before .before .before .before .before .if1 .left) in
     let ws = c .before .before .before .put-object .last .0 in
     let kept = ap (λ (e : Entries). length (e .interfaces)) (c .before .before .before .put-object .ensures (a .store .now)) in
     let l = interfaces-length (a .words .now) in
@@ -66,13 +61,12 @@ same-length-2 c = search needs
 returns-2 : tie.Need-returns-2
 unfolding done results next
 returns-2 c =
-    let a = c .before .before .before .before .before .before .before .before .before .before .before .before .before .before .args in
+    let a = c .before .before .before .before .before .before .before .before .before .before .before .before .before .args in
     let s = a .store .now in
-    let t = c .before .before .before .before .before .before .before .before .before .before .before .before .before .before .pre in
-    accepted-step _ (c .before .before .before .before .before .before .before .before .before .before .object-number .ensures s (a .iid) (a .no-ping)) (c .before .before .before .before .before .before .before .before .before .if1 .left) _
+    let t = c .before .before .before .before .before .before .before .before .before .before .before .before .before .pre in
+    accepted-step _ (c .before .before .before .before .before .before .before .before .before .object-number .ensures s (a .iid) (a .no-ping)) (c .before .before .before .before .before .before .before .before .if1 .left) _
     (c .before .before .put-interface .ensures s
-    ∙ ap (addInterface _) (c .before .before .before .before .before .before .put-object .ensures s)
-    ∙ ap (λ (np : Bool). next (Call.enterObject (a .oid .0) (a .oxid .0) (a .ipid) (a .iid) (a .public) np) (view (memory (a .words .now) s))) (c .before .before .before .before .before .before .before .mark .ensures))
+    ∙ ap (addInterface _) (c .before .before .before .before .before .before .put-object .ensures s))
 
 pub enter-object-step-spec : {M : Type 1} → statement M
 enter-object-step-spec =
@@ -81,7 +75,6 @@ enter-object-step-spec =
     object-number-requires
     same-length
     returns
-    mark-requires
     put-object-requires
     put-interface-requires
     same-length-2

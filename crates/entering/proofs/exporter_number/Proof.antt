@@ -44,21 +44,21 @@ abbrev Left : ℕ → tie.Start → List ℕ → Type 0
 Left k st s =
     let a = st .args in
     let e = At st s in
-    let call = Call.enterExporter (a .oxid) (a .unknown) (a .list .now) in
+    let call = Call.enterExporter (a .oxid .0) (a .unknown) (a .list .now) in
     number call e
     ≡ order
     (drop k
-    (eqb (a .oxid) 0 gives 3
-    ∷ isLiveExporter e (a .oxid) gives 3
+    (eqb (a .oxid .0) 0 gives 3
+    ∷ isLiveExporter e (a .oxid .0) gives 3
     ∷ (sameGuid (a .unknown) nil || some (sameGuid (a .unknown)) (ipids e)) gives 3
     ∷ drop 1 (refusals call e)))
 
 -- tests of the rows
-live-judged : (c : tie.After-exporter-count) (s : List ℕ) → isLiveExporter (At (c .before .before .before .before .before) s) (c .before .before .before .before .before .args .oxid) ≡ ltb (c .before .exporter-row .result) (c .exporter-count .result)
-live-judged c s = exporter-tested (c .before .before .before .before .before .args .words .now) s (c .before .before .before .before .before .args .oxid) (c .before .exporter-row .ensures s) (c .exporter-count .ensures .0)
+live-judged : (c : tie.After-exporter-count) (s : List ℕ) → isLiveExporter (At (c .before .before .before .before .before .before) s) (c .before .before .before .before .before .before .args .oxid .0) ≡ ltb (c .before .exporter-row .result) (c .exporter-count .result)
+live-judged c s = exporter-tested (c .before .before .before .before .before .before .args .words .now) s (c .before .before .before .before .before .before .args .oxid .0) (c .before .exporter-row .ensures s) (c .exporter-count .ensures .0)
 
-full-judged : (c : tie.After-exporter-count2) (s : List ℕ) → leb 16 (length (At (c .before .before .before .before .before .before .before .before .before .before .before .before) s .exporters)) ≡ leb 16 (c .exporter-count2 .result)
-full-judged c s = full-tested (At (c .before .before .before .before .before .before .before .before .before .before .before .before) s .exporters) 16 (exporters-length (c .before .before .before .before .before .before .before .before .before .before .before .before .args .words .now) s) (c .exporter-count2 .ensures .0)
+full-judged : (c : tie.After-exporter-count2) (s : List ℕ) → leb 16 (length (At (c .before .before .before .before .before .before .before .before .before .before .before .before .before) s .exporters)) ≡ leb 16 (c .exporter-count2 .result)
+full-judged c s = full-tested (At (c .before .before .before .before .before .before .before .before .before .before .before .before .before) s .exporters) 16 (exporters-length (c .before .before .before .before .before .before .before .before .before .before .before .before .before .args .words .now) s) (c .exporter-count2 .ensures .0)
 
 -- each row that does not hold
 left-0 : (st : tie.Start) (s : List ℕ) → Left 0 st s
@@ -66,31 +66,31 @@ unfolding number refusals
 left-0 st s =
     let a = st .args in
     let e = At st s in
-    identifier-rows (eqb (a .oxid) 0) (isLiveExporter e (a .oxid)) (sameGuid (a .unknown) nil || some (sameGuid (a .unknown)) (ipids e)) 3 _
+    identifier-rows (eqb (a .oxid .0) 0) (isLiveExporter e (a .oxid .0)) (sameGuid (a .unknown) nil || some (sameGuid (a .unknown)) (ipids e)) 3 _
 
-left-1 : (c : tie.Else1) (s : List ℕ) → Left 1 (c .before .before .before) s
-left-1 c s = row-passes _ _ _ (left-0 (c .before .before .before) s) (ne-eqb _ 0 (c .if1 .left))
+left-1 : (c : tie.Else1) (s : List ℕ) → Left 1 (c .before .before .before .before) s
+left-1 c s = row-passes _ _ _ (left-0 (c .before .before .before .before) s) (ne-eqb _ 0 (c .if1 .left))
 
-left-2 : (c : tie.Else2) (s : List ℕ) → Left 2 (c .before .before .before .before .before .before) s
+left-2 : (c : tie.Else2) (s : List ℕ) → Left 2 (c .before .before .before .before .before .before .before) s
 left-2 c s = row-passes _ _ _ (left-1 (c .before .before .before) s) (live-judged (c .before) s ∙ le-ltb _ _ (c .if2 .left))
 
-left-3 : (c : tie.Else3) (s : List ℕ) → Left 3 (c .before .before .before .before .before .before .before .before) s
+left-3 : (c : tie.Else3) (s : List ℕ) → Left 3 (c .before .before .before .before .before .before .before .before .before) s
 left-3 c s = row-passes _ _ _ (left-2 (c .before .before) s) (sym (c .before .ipid-taken .ensures s) ∙ c .if3 .left)
 
-left-4 : (c : tie.Else4) (s : List ℕ) → Left 4 (c .before .before .before .before .before .before .before .before .before .before) s
+left-4 : (c : tie.Else4) (s : List ℕ) → Left 4 (c .before .before .before .before .before .before .before .before .before .before .before) s
 unfolding refusals
 left-4 c s = row-passes _ _ _ (left-3 (c .before .before) s) (eq-differ _ 0 (sym (c .before .list-answer .ensures) ∙ c .if4 .left))
 
-left-5 : (c : tie.Else5) (s : List ℕ) → Left 5 (c .before .before .before .before .before .before .before .before .before .before .before) s
+left-5 : (c : tie.Else5) (s : List ℕ) → Left 5 (c .before .before .before .before .before .before .before .before .before .before .before .before) s
 unfolding refusals
 left-5 c s = row-passes _ _ _ (left-4 (c .before) s) (le-ltb 512 _ (c .if5 .left))
 
-left-6 : (c : tie.Else6) (s : List ℕ) → Left 6 (c .before .before .before .before .before .before .before .before .before .before .before .before .before) s
+left-6 : (c : tie.Else6) (s : List ℕ) → Left 6 (c .before .before .before .before .before .before .before .before .before .before .before .before .before .before) s
 unfolding refusals
 left-6 c s = row-passes _ _ _ (left-5 (c .before .before) s) (full-judged (c .before) s ∙ lt-leb _ _ (c .if6 .left))
 
 returns : tie.Need-returns
-returns c s = row-gives _ _ _ (left-0 (c .before .before .before) s) (eq-eqb _ 0 (c .if1 .taken))
+returns c s = row-gives _ _ _ (left-0 (c .before .before .before .before) s) (eq-eqb _ 0 (c .if1 .taken))
 
 returns-2 : tie.Need-returns-2
 returns-2 c s = row-gives _ _ _ (left-1 (c .before .before .before) s) (live-judged (c .before) s ∙ lt-ltb _ _ (c .if2 .taken))

@@ -37,12 +37,12 @@ At st s = view (memory (st .args .words .now) s)
 abbrev Left : ℕ → tie.Start → List ℕ → Guid → Type 0
 Left k st s iid =
     let a = st .args in
-    let call = Call.enterInterface (a .oid) (a .ipid) iid (a .public) in
+    let call = Call.enterInterface (a .oid .0) (a .ipid) iid (a .public) in
     number call (At st s) ≡ order (drop k (refusals call (At st s)))
 
 -- tests of the rows
-live-judged : (c : tie.After-object-row) (s : List ℕ) → isLiveObject (At (c .before .before .before .before .before) s) (c .before .before .before .before .before .args .oid) ≡ ltb (c .object-row .result) (c .before .object-count .result)
-live-judged c s = object-tested (c .before .before .before .before .before .args .words .now) s (c .before .before .before .before .before .args .oid) (c .object-row .ensures s) (c .before .object-count .ensures .0)
+live-judged : (c : tie.After-object-row) (s : List ℕ) → isLiveObject (At (c .before .before .before .before .before) s) (c .before .before .before .before .before .args .oid .0) ≡ ltb (c .object-row .result) (c .before .object-count .result)
+live-judged c s = object-tested (c .before .before .before .before .before .args .words .now) s (c .before .before .before .before .before .args .oid .0) (c .object-row .ensures s) (c .before .object-count .ensures .0)
 
 full-judged : (c : tie.After-interface-count) (s : List ℕ) → leb 256 (length (At (c .before .before .before .before .before .before .before .before) s .interfaces)) ≡ leb 256 (c .interface-count .result)
 full-judged c s = full-tested (At (c .before .before .before .before .before .before .before .before) s .interfaces) 256 (interfaces-length (c .before .before .before .before .before .before .before .before .args .words .now)) (c .interface-count .ensures .0)

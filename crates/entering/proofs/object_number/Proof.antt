@@ -50,30 +50,30 @@ abbrev Left : ℕ → tie.Start → List ℕ → Guid → Bool → Type 0
 Left k st s iid np =
     let a = st .args in
     let e = At st s in
-    number (Call.enterObject (a .oid) (a .oxid) (a .ipid) iid (a .public) np) e
+    number (Call.enterObject (a .oid .0) (a .oxid .0) (a .ipid) iid (a .public) np) e
     ≡ order
     (drop k
-    (eqb (a .oid) 0 gives 3
-    ∷ isLiveObject e (a .oid) gives 3
+    (eqb (a .oid .0) 0 gives 3
+    ∷ isLiveObject e (a .oid .0) gives 3
     ∷ (sameGuid (a .ipid) nil || some (sameGuid (a .ipid)) (ipids e)) gives 3
-    ∷ not (isLiveExporter e (a .oxid)) gives 4
+    ∷ not (isLiveExporter e (a .oxid .0)) gives 4
     ∷ eqb (a .public) 0 gives 7
     ∷ leb 128 (length (e .objects)) gives 9
     ∷ leb 256 (length (e .interfaces)) gives 9
     ∷ []))
 
 -- tests of the rows
-live-judged : (c : tie.After-object-count) (s : List ℕ) → isLiveObject (At (c .before .before .before .before) s) (c .before .before .before .before .args .oid) ≡ ltb (c .before .object-row .result) (c .object-count .result)
-live-judged c s = object-tested (c .before .before .before .before .args .words .now) s (c .before .before .before .before .args .oid) (c .before .object-row .ensures s) (c .object-count .ensures .0)
+live-judged : (c : tie.After-object-count) (s : List ℕ) → isLiveObject (At (c .before .before .before .before .before) s) (c .before .before .before .before .before .args .oid .0) ≡ ltb (c .before .object-row .result) (c .object-count .result)
+live-judged c s = object-tested (c .before .before .before .before .before .args .words .now) s (c .before .before .before .before .before .args .oid .0) (c .before .object-row .ensures s) (c .object-count .ensures .0)
 
-exporter-judged : (c : tie.After-exporter-row) (s : List ℕ) → isLiveExporter (At (c .before .before .before .before .before .before .before .before .before) s) (c .before .before .before .before .before .before .before .before .before .args .oxid) ≡ ltb (c .exporter-row .result) (c .before .exporter-count .result)
-exporter-judged c s = exporter-tested (c .before .before .before .before .before .before .before .before .before .args .words .now) s (c .before .before .before .before .before .before .before .before .before .args .oxid) (c .exporter-row .ensures s) (c .before .exporter-count .ensures .0)
+exporter-judged : (c : tie.After-exporter-row) (s : List ℕ) → isLiveExporter (At (c .before .before .before .before .before .before .before .before .before .before) s) (c .before .before .before .before .before .before .before .before .before .before .args .oxid .0) ≡ ltb (c .exporter-row .result) (c .before .exporter-count .result)
+exporter-judged c s = exporter-tested (c .before .before .before .before .before .before .before .before .before .before .args .words .now) s (c .before .before .before .before .before .before .before .before .before .before .args .oxid .0) (c .exporter-row .ensures s) (c .before .exporter-count .ensures .0)
 
-objects-judged : (c : tie.After-object-count2) (s : List ℕ) → leb 128 (length (At (c .before .before .before .before .before .before .before .before .before .before .before .before) s .objects)) ≡ leb 128 (c .object-count2 .result)
-objects-judged c s = full-tested (At (c .before .before .before .before .before .before .before .before .before .before .before .before) s .objects) 128 (objects-length (c .before .before .before .before .before .before .before .before .before .before .before .before .args .words .now)) (c .object-count2 .ensures .0)
+objects-judged : (c : tie.After-object-count2) (s : List ℕ) → leb 128 (length (At (c .before .before .before .before .before .before .before .before .before .before .before .before .before) s .objects)) ≡ leb 128 (c .object-count2 .result)
+objects-judged c s = full-tested (At (c .before .before .before .before .before .before .before .before .before .before .before .before .before) s .objects) 128 (objects-length (c .before .before .before .before .before .before .before .before .before .before .before .before .before .args .words .now)) (c .object-count2 .ensures .0)
 
-interfaces-judged : (c : tie.After-interface-count) (s : List ℕ) → leb 256 (length (At (c .before .before .before .before .before .before .before .before .before .before .before .before .before .before) s .interfaces)) ≡ leb 256 (c .interface-count .result)
-interfaces-judged c s = full-tested (At (c .before .before .before .before .before .before .before .before .before .before .before .before .before .before) s .interfaces) 256 (interfaces-length (c .before .before .before .before .before .before .before .before .before .before .before .before .before .before .args .words .now)) (c .interface-count .ensures .0)
+interfaces-judged : (c : tie.After-interface-count) (s : List ℕ) → leb 256 (length (At (c .before .before .before .before .before .before .before .before .before .before .before .before .before .before .before) s .interfaces)) ≡ leb 256 (c .interface-count .result)
+interfaces-judged c s = full-tested (At (c .before .before .before .before .before .before .before .before .before .before .before .before .before .before .before) s .interfaces) 256 (interfaces-length (c .before .before .before .before .before .before .before .before .before .before .before .before .before .before .before .args .words .now)) (c .interface-count .ensures .0)
 
 -- each row that does not hold
 module _ (s : List ℕ) (iid : Guid) (np : Bool) where
@@ -82,33 +82,33 @@ module _ (s : List ℕ) (iid : Guid) (np : Bool) where
   left-0 st =
       let a = st .args in
       let e = At st s in
-      identifier-rows (eqb (a .oid) 0) (isLiveObject e (a .oid)) (sameGuid (a .ipid) nil || some (sameGuid (a .ipid)) (ipids e)) 3
-      (drop 1 (refusals (Call.enterObject (a .oid) (a .oxid) (a .ipid) iid (a .public) np) e))
+      identifier-rows (eqb (a .oid .0) 0) (isLiveObject e (a .oid .0)) (sameGuid (a .ipid) nil || some (sameGuid (a .ipid)) (ipids e)) 3
+      (drop 1 (refusals (Call.enterObject (a .oid .0) (a .oxid .0) (a .ipid) iid (a .public) np) e))
       ∙ rw (two-rows (leb 128 (length (e .objects))) (leb 256 (length (e .interfaces))) 9 [])
 
-  left-1 : (c : tie.Else1) → Left 1 (c .before .before) s iid np
-  left-1 c = row-passes _ _ _ (left-0 (c .before .before)) (ne-eqb _ 0 (c .if1 .left))
+  left-1 : (c : tie.Else1) → Left 1 (c .before .before .before) s iid np
+  left-1 c = row-passes _ _ _ (left-0 (c .before .before .before)) (ne-eqb _ 0 (c .if1 .left))
 
-  left-2 : (c : tie.Else2) → Left 2 (c .before .before .before .before .before) s iid np
+  left-2 : (c : tie.Else2) → Left 2 (c .before .before .before .before .before .before) s iid np
   left-2 c = row-passes _ _ _ (left-1 (c .before .before .before)) (live-judged (c .before) s ∙ le-ltb _ _ (c .if2 .left))
 
-  left-3 : (c : tie.Else3) → Left 3 (c .before .before .before .before .before .before .before) s iid np
+  left-3 : (c : tie.Else3) → Left 3 (c .before .before .before .before .before .before .before .before) s iid np
   left-3 c = row-passes _ _ _ (left-2 (c .before .before)) (sym (c .before .ipid-taken .ensures s) ∙ c .if3 .left)
 
-  left-4 : (c : tie.Else4) → Left 4 (c .before .before .before .before .before .before .before .before .before .before) s iid np
+  left-4 : (c : tie.Else4) → Left 4 (c .before .before .before .before .before .before .before .before .before .before .before) s iid np
   left-4 c = live-passes (exporter-judged (c .before) s) _ _ (left-3 (c .before .before .before)) (c .if4 .left)
 
-  left-5 : (c : tie.Else5) → Left 5 (c .before .before .before .before .before .before .before .before .before .before .before) s iid np
+  left-5 : (c : tie.Else5) → Left 5 (c .before .before .before .before .before .before .before .before .before .before .before .before) s iid np
   left-5 c = row-passes _ _ _ (left-4 (c .before)) (ne-eqb _ 0 (c .if5 .left))
 
-  left-6 : (c : tie.Else6) → Left 6 (c .before .before .before .before .before .before .before .before .before .before .before .before .before) s iid np
+  left-6 : (c : tie.Else6) → Left 6 (c .before .before .before .before .before .before .before .before .before .before .before .before .before .before) s iid np
   left-6 c = row-passes _ _ _ (left-5 (c .before .before)) (objects-judged (c .before) s ∙ lt-leb _ _ (c .if6 .left))
 
-  left-7 : (c : tie.Else7) → Left 7 (c .before .before .before .before .before .before .before .before .before .before .before .before .before .before .before) s iid np
+  left-7 : (c : tie.Else7) → Left 7 (c .before .before .before .before .before .before .before .before .before .before .before .before .before .before .before .before) s iid np
   left-7 c = row-passes _ _ _ (left-6 (c .before .before)) (interfaces-judged (c .before) s ∙ lt-leb _ _ (c .if7 .left))
 
 returns : tie.Need-returns
-returns c s iid np = row-gives _ _ _ (left-0 s iid np (c .before .before)) (eq-eqb _ 0 (c .if1 .taken))
+returns c s iid np = row-gives _ _ _ (left-0 s iid np (c .before .before .before)) (eq-eqb _ 0 (c .if1 .taken))
 
 returns-2 : tie.Need-returns-2
 returns-2 c s iid np = row-gives _ _ _ (left-1 s iid np (c .before .before .before)) (live-judged (c .before) s ∙ lt-ltb _ _ (c .if2 .taken))

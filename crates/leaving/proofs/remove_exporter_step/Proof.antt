@@ -1,8 +1,8 @@
 -- `leaving::remove_exporter_step`: a table that is not sound is refused, then an exporter that is not live; else its objects go, and then its row.
 use native.Mathlib.Omega.{arith}
-use Rattle.settling.specs.declared.Leaving.the-variants.{Exported}
+use Rattle.settling.specs.declared.Leaving.the-variants.{ExporterRemoved}
 use Rattle.settling.proofs.Settling.{asked-sound}
-use Rattle.leaving.proofs.Removing.{no-exporter, exporter-gone, settled-count}
+use Rattle.leaving.proofs.Removing.{no-exporter, exporter-gone, leaving-count}
 use borrow.Author.Needs.{needs}
 use Rattle.leaving.proofs.remove_exporter_step.Statement.{statement}
 use Rattle.leaving.proofs.remove_exporter_step.Tie as tie
@@ -21,8 +21,8 @@ returns c =
     let a = c .before .before .before .before .before .before .before .args in
     no-exporter (a .words .now) (a .store .now) (a .oxid .0) (c .before .before .before .before .before .before .before .pre) _ _ (c .before .before .before .exporter-row .ensures (a .store .now)) (c .before .exporter-count .ensures .0) (c .if1 .taken)
 
-settle-requires : tie.Need-settle-requires
-settle-requires c κs =
+remove-leaving-requires : tie.Need-remove-leaving-requires
+remove-leaving-requires c κs =
     let a = c .before .before .before .before .before .before .before .before .args in
     let t = c .before .before .before .before .before .before .before .before .pre in
     let q = asked-sound (a .words .now) (a .store .now) (t .entries) in
@@ -34,7 +34,7 @@ remove-exporter-requires c κs =
     let t = c .before .before .before .before .before .before .before .before .before .before .before .before .before .pre in
     let w = t .words in
     let b = t .store in
-    let n = settled-count (Exported (a .oxid .0)) (a .words .now) _ (a .store .now) (c .before .before .before .before .settle .ensures) in
+    let n = leaving-count (ExporterRemoved (a .oxid)) (a .words .now) _ (a .store .now) (c .before .before .before .before .remove-leaving .ensures) in
     let m = c .before .before .before .before .before .before .before .exporter-count .ensures .0 in
     let i = c .before .before .before .before .before .before .if1 .left in
     (search needs, b, omega arith)
@@ -52,7 +52,7 @@ returns-2 c =
     let w = t .words in
     let b = t .store in
     exporter-gone (a .words .now) (a .store .now) (a .oxid .0) (c .before .before .before .before .before .before .before .before .before .before .before .before .before .before .before .before .before .before .pre) _ _ (c .before .before .before .before .before .before .before .before .before .before .before .before .before .before .exporter-row .ensures (a .store .now)) (c .before .before .before .before .before .before .before .before .before .before .before .before .exporter-count .ensures .0) (c .before .before .before .before .before .before .before .before .before .before .before .if1 .left)
-    _ _ _ (c .before .before .before .before .before .before .before .before .before .settle .ensures) (c .before .before .before .before .remove-exporter .ensures)
+    _ _ _ (c .before .before .before .before .before .before .before .before .before .remove-leaving .ensures) (c .before .before .before .before .remove-exporter .ensures)
 
 pub remove-exporter-step-spec : {M : Type 1} → statement M
 remove-exporter-step-spec =
@@ -62,7 +62,7 @@ remove-exporter-step-spec =
     exporter-count-requires
     same-length
     returns
-    settle-requires
+    remove-leaving-requires
     remove-exporter-requires
     same-length-2
     same-length-3

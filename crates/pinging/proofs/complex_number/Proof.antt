@@ -7,9 +7,9 @@ use borrow.Author.Tests.{eq-eqb, ne-eqb, lt-ltb, le-ltb, le-leb, lt-leb}
 use lib.Dec.{leb, ltb}
 use lib.ListN.{length, drop}
 use Rattle.kinds.specs.Refusals.{order}
-use Rattle.rules.specs.Entries.{Entries}
+use Rattle.rules.specs.Entries.{Entries, setPlaces}
 use Rattle.rules.specs.Calls.{Call}
-use Rattle.rules.specs.Rules.{number, isLiveSet, setOf, stale}
+use Rattle.rules.specs.Rules.{number, isLiveSet, setOf, staleSequence}
 use Rattle.table.specs.View.{memory, view}
 use Rattle.table.proofs.LiveRows.{sets-length}
 use Rattle.calls.proofs.Calls.{row-gives, row-passes, gone-gives, live-passes, rows-end, set-tested, full-tested}
@@ -24,24 +24,24 @@ At st s = view (memory (st .args .words .now) s)
 
 -- the number that the rules give
 abbrev Number : tie.Start → List ℕ → ℕ
-Number st s = number (Call.complexPing (st .args .set) (st .args .sequence) (st .args .adds .now) (st .args .deletes .now)) (At st s)
+Number st s = number (Call.complexPing (st .args .set .0) (st .args .sequence) (st .args .adds .now) (st .args .deletes .now)) (At st s)
 
 -- the rows of set 0, and those of another set
-new-left : (c : tie.Then3) (s : List ℕ) → Number (c .before .before .before .before .before .before) s ≡ order (newRows (c .before .before .before .before .before .before .args .set) (c .before .before .before .before .before .before .args .sequence) (c .before .before .before .before .before .before .args .adds .now) (c .before .before .before .before .before .before .args .deletes .now) (At (c .before .before .before .before .before .before) s))
-new-left c s = new-rows _ _ _ _ (At (c .before .before .before .before .before .before) s) (c .before .before .if1 .left) (c .before .if2 .left) (c .if3 .taken)
+new-left : (c : tie.Then3) (s : List ℕ) → Number (c .before .before .before .before .before .before .before) s ≡ order (newRows (c .before .before .before .before .before .before .before .args .set .0) (c .before .before .before .before .before .before .before .args .sequence) (c .before .before .before .before .before .before .before .args .adds .now) (c .before .before .before .before .before .before .before .args .deletes .now) (At (c .before .before .before .before .before .before .before) s))
+new-left c s = new-rows _ _ _ _ (At (c .before .before .before .before .before .before .before) s) (c .before .before .before .if1 .left) (c .before .before .if2 .left) (c .if3 .taken)
 
-live-left : (c : tie.Else3) (s : List ℕ) → Number (c .before .before .before .before .before .before) s ≡ order (liveRows (c .before .before .before .before .before .before .args .set) (c .before .before .before .before .before .before .args .sequence) (c .before .before .before .before .before .before .args .adds .now) (c .before .before .before .before .before .before .args .deletes .now) (At (c .before .before .before .before .before .before) s))
-live-left c s = live-rows _ _ _ _ (At (c .before .before .before .before .before .before) s) (c .before .before .if1 .left) (c .before .if2 .left) (c .if3 .left)
+live-left : (c : tie.Else3) (s : List ℕ) → Number (c .before .before .before .before .before .before .before) s ≡ order (liveRows (c .before .before .before .before .before .before .before .args .set .0) (c .before .before .before .before .before .before .before .args .sequence) (c .before .before .before .before .before .before .before .args .adds .now) (c .before .before .before .before .before .before .before .args .deletes .now) (At (c .before .before .before .before .before .before .before) s))
+live-left c s = live-rows _ _ _ _ (At (c .before .before .before .before .before .before .before) s) (c .before .before .before .if1 .left) (c .before .before .if2 .left) (c .if3 .left)
 
 -- tests of the rows
-full-judged : (c : tie.After-set-count) (s : List ℕ) → leb 32 (length (At (c .before .before .before .before .before .before .before .before .before) s .sets)) ≡ leb 32 (c .set-count .result)
-full-judged c s = full-tested (At (c .before .before .before .before .before .before .before .before .before) s .sets) 32 (sets-length (c .before .before .before .before .before .before .before .before .before .args .words .now)) (c .set-count .ensures .0)
+full-judged : (c : tie.After-set-count) (s : List ℕ) → leb setPlaces (length (At (c .before .before .before .before .before .before .before .before .before .before) s .sets)) ≡ leb setPlaces (c .set-count .result)
+full-judged c s = full-tested (At (c .before .before .before .before .before .before .before .before .before .before) s .sets) setPlaces (sets-length (c .before .before .before .before .before .before .before .before .before .before .args .words .now)) (c .set-count .ensures .0)
 
-set-judged : (c : tie.After-set-count2) (s : List ℕ) → isLiveSet (At (c .before .before .before .before .before .before .before .before) s) (c .before .before .before .before .before .before .before .before .args .set) ≡ ltb (c .before .set-row .result) (c .set-count2 .result)
-set-judged c s = set-tested (c .before .before .before .before .before .before .before .before .args .words .now) s (c .before .before .before .before .before .before .before .before .args .set) (c .before .set-row .ensures s) (c .set-count2 .ensures .0)
+set-judged : (c : tie.After-set-count2) (s : List ℕ) → isLiveSet (At (c .before .before .before .before .before .before .before .before .before) s) (c .before .before .before .before .before .before .before .before .before .args .set .0) ≡ ltb (c .before .set-row .result) (c .set-count2 .result)
+set-judged c s = set-tested (c .before .before .before .before .before .before .before .before .before .args .words .now) s (c .before .before .before .before .before .before .before .before .before .args .set .0) (c .before .set-row .ensures s) (c .set-count2 .ensures .0)
 
-stale-judged : (c : tie.After-is-stale) (s : List ℕ) → stale (setOf (At (c .before .before .before .before .before .before .before .before .before .before .before) s) (c .before .before .before .before .before .before .before .before .before .before .before .args .set) .sequence) (c .before .before .before .before .before .before .before .before .before .before .before .args .sequence) ≡ c .is-stale .result
-stale-judged c s = stale-tested (c .before .before .before .before .before .before .before .before .before .before .before .args .words .now) s (c .before .before .before .before .before .before .before .before .before .before .before .args .set) (c .before .before .before .before .before .before .before .before .before .before .before .args .sequence) (c .before .before .before .before .set-row .ensures s) (c .before .sequence .ensures) (c .is-stale .ensures)
+stale-judged : (c : tie.After-is-stale) (s : List ℕ) → staleSequence (setOf (At (c .before .before .before .before .before .before .before .before .before .before .before .before) s) (c .before .before .before .before .before .before .before .before .before .before .before .before .args .set .0) .sequence) (c .before .before .before .before .before .before .before .before .before .before .before .before .args .sequence) ≡ c .is-stale .result
+stale-judged c s = stale-tested (c .before .before .before .before .before .before .before .before .before .before .before .before .args .words .now) s (c .before .before .before .before .before .before .before .before .before .before .before .before .args .set .0) (c .before .before .before .before .before .before .before .before .before .before .before .before .args .sequence) (c .before .before .before .before .set-row .ensures s) (c .before .sequence .ensures) (c .is-stale .ensures)
 
 returns : tie.Need-returns
 returns c s = row-gives _ _ _ (complex-rows _ _ _ _ (At (c .before .before .before .before) s)) (lt-ltb 65535 _ (c .if1 .taken))
@@ -59,20 +59,20 @@ set-count-requires : tie.Need-set-count-requires
 set-count-requires c κs = search needs
 
 -- every id is live
-new-passes : (c : tie.Else4) (s : List ℕ) → Number (c .before .before .before .before .before .before .before .before) s ≡ order (drop 1 (newRows (c .before .before .before .before .before .before .before .before .args .set) (c .before .before .before .before .before .before .before .before .args .sequence) (c .before .before .before .before .before .before .before .before .args .adds .now) (c .before .before .before .before .before .before .before .before .args .deletes .now) (At (c .before .before .before .before .before .before .before .before) s)))
+new-passes : (c : tie.Else4) (s : List ℕ) → Number (c .before .before .before .before .before .before .before .before .before) s ≡ order (drop 1 (newRows (c .before .before .before .before .before .before .before .before .before .args .set .0) (c .before .before .before .before .before .before .before .before .before .args .sequence) (c .before .before .before .before .before .before .before .before .before .args .adds .now) (c .before .before .before .before .before .before .before .before .before .args .deletes .now) (At (c .before .before .before .before .before .before .before .before .before) s)))
 new-passes c s = row-passes _ _ _ (new-left (c .before .before) s) (ap not (sym (c .before .are-live .ensures s)) ∙ c .if4 .left)
 
 returns-4 : tie.Need-returns-4
-returns-4 c s = row-gives _ _ _ (new-passes (c .before .before) s) (full-judged (c .before) s ∙ le-leb 32 _ (c .if5 .taken))
+returns-4 c s = row-gives _ _ _ (new-passes (c .before .before) s) (full-judged (c .before) s ∙ le-leb setPlaces _ (c .if5 .taken))
 
-shared-slice-read-if6 : tie.Need-shared-slice-read-if6
-shared-slice-read-if6 c = search needs
+next-set-requires : tie.Need-next-set-requires
+next-set-requires c κs = search needs
 
 returns-5 : tie.Need-returns-5
-returns-5 c s = row-gives _ _ _ (row-passes _ _ _ (new-passes (c .before .before .before .before) s) (full-judged (c .before .before .before) s ∙ lt-leb 32 _ (c .before .before .if5 .left))) (eq-eqb _ _ (c .if6 .taken))
+returns-5 c s = row-gives _ _ _ (row-passes _ _ _ (new-passes (c .before .before .before .before) s) (full-judged (c .before .before .before) s ∙ lt-leb setPlaces _ (c .before .before .if5 .left))) (rw (c .before .next-set .ensures) at (eq-eqb _ _ (c .if6 .taken)))
 
 returns-6 : tie.Need-returns-6
-returns-6 c s = rows-end (row-passes _ _ _ (row-passes _ _ _ (new-passes (c .before .before .before .before) s) (full-judged (c .before .before .before) s ∙ lt-leb 32 _ (c .before .before .if5 .left))) (ne-eqb _ _ (c .if6 .left)))
+returns-6 c s = rows-end (row-passes _ _ _ (row-passes _ _ _ (new-passes (c .before .before .before .before) s) (full-judged (c .before .before .before) s ∙ lt-leb setPlaces _ (c .before .before .if5 .left))) (rw (c .before .next-set .ensures) at (ne-eqb _ _ (c .if6 .left))))
 
 set-row-requires : tie.Need-set-row-requires
 set-row-requires c κs = search needs
@@ -90,7 +90,7 @@ is-stale-requires : tie.Need-is-stale-requires
 is-stale-requires c κs = search needs
 
 -- the set is live
-live-passed : (c : tie.Else7) (s : List ℕ) → Number (c .before .before .before .before .before .before .before .before .before) s ≡ order (drop 1 (liveRows (c .before .before .before .before .before .before .before .before .before .args .set) (c .before .before .before .before .before .before .before .before .before .args .sequence) (c .before .before .before .before .before .before .before .before .before .args .adds .now) (c .before .before .before .before .before .before .before .before .before .args .deletes .now) (At (c .before .before .before .before .before .before .before .before .before) s)))
+live-passed : (c : tie.Else7) (s : List ℕ) → Number (c .before .before .before .before .before .before .before .before .before .before) s ≡ order (drop 1 (liveRows (c .before .before .before .before .before .before .before .before .before .before .args .set .0) (c .before .before .before .before .before .before .before .before .before .before .args .sequence) (c .before .before .before .before .before .before .before .before .before .before .args .adds .now) (c .before .before .before .before .before .before .before .before .before .before .args .deletes .now) (At (c .before .before .before .before .before .before .before .before .before .before) s)))
 live-passed c s = live-passes (set-judged (c .before) s) _ _ (live-left (c .before .before .before) s) (c .if7 .left)
 
 returns-8 : tie.Need-returns-8
@@ -115,7 +115,7 @@ complex-number-spec =
     returns-3
     set-count-requires
     returns-4
-    shared-slice-read-if6
+    next-set-requires
     returns-5
     returns-6
     set-row-requires

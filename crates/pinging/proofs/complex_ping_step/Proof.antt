@@ -26,11 +26,8 @@ returns c =
     let a = c .before .before .before .before .before .before .before .before .args in
     rw (c .refused .ensures) (refused-step _ (c .before .before .complex-number .ensures (a .store .now)) (c .before .if1 .taken))
 
-slice-read-number-meant : tie.Need-slice-read-number-meant
-slice-read-number-meant c = let w = c .before .before .before .before .before .before .before .before .pre .words in search needs
-
-number-meant-requires : tie.Need-number-meant-requires
-number-meant-requires c κs = search needs
+ping-set-number-requires : tie.Need-ping-set-number-requires
+ping-set-number-requires c κs = search needs
 
 -- the call is accepted
 sound-here : (c : tie.Else1) → SoundTable (memory (c .before .before .before .before .before .before .before .args .words .now) (c .before .before .before .before .before .before .before .args .store .now))
@@ -39,11 +36,11 @@ sound-here c = c .before .before .before .before .before .before .before .pre
 accepted : (c : tie.Else1) → let a = c .before .before .before .before .before .before .before .args in number (Call.complexPing (a .set .0) (a .sequence) (a .adds .now) (a .deletes .now)) (view (memory (a .words .now) (a .store .now))) ≡ 0
 accepted c = sym (c .before .complex-number .ensures (c .before .before .before .before .before .before .before .args .store .now)) ∙ c .if1 .left
 
-row-meant-requires : tie.Need-row-meant-requires
-row-meant-requires c κs =
+ping-set-row-requires : tie.Need-ping-set-row-requires
+ping-set-row-requires c κs =
     let a = c .before .before .before .before .before .before .before .before .before .before .args in
     let t = sound-here (c .before .before .before) in
-    let known = c .before .before .slice-known2 .given 1 in
+    let known = c .before .before .before .before .before .before .before .before .before .slice-known .given 1 in
     let l = sets-length (a .words .now) in (
       t .words,
       λ z.
@@ -51,10 +48,10 @@ row-meant-requires c κs =
           (omega arith, omega arith),
     )
 
-update-requires : tie.Need-update-requires
-update-requires c κs =
+update-set-requires : tie.Need-update-set-requires
+update-set-requires c κs =
     let a = c .before .before .before .before .before .before .before .before .before .before .before .before .before .before .args in
-    let r = c .before .before .before .row-meant in
+    let r = c .before .before .before .ping-set-row in
     let t = sound-here (c .before .before .before .before .before .before .before) in
     let q =
     update-asked (a .set .0) (a .sequence) (a .adds .now) (a .deletes .now) (view (memory (a .words .now) (a .store .now))) (t .entries) (accepted (c .before .before .before .before .before .before .before))
@@ -64,11 +61,11 @@ update-requires c κs =
 ping-row-requires : tie.Need-ping-row-requires
 ping-row-requires c κs =
     let a = c .before .before .before .before .before .before .before .before .before .before .before .before .before .before .before .before .before .before .args in
-    let r = c .before .before .before .before .before .before .before .row-meant in
+    let r = c .before .before .before .before .before .before .before .ping-set-row in
     let t = sound-here (c .before .before .before .before .before .before .before .before .before .before .before) in
     let q =
     ping-asked (a .set .0) (a .sequence) (a .adds .now) (a .deletes .now) (view (memory (a .words .now) (a .store .now))) (t .entries) (accepted (c .before .before .before .before .before .before .before .before .before .before .before))
-    (a .store .now) (r .last .0) (r .result) (r .ensures .0 (a .store .now)) (r .ensures .1 (a .store .now)) (c .before .before .before .update .last .0) (c .before .before .before .update .ensures) in
+    (a .store .now) (r .last .0) (r .result) (r .ensures .0 (a .store .now)) (r .ensures .1 (a .store .now)) (c .before .before .before .update-set .last .0) (c .before .before .before .update-set .ensures) in
     (search needs, q .0, q .1)
 
 same-length-2 : tie.Need-same-length-2
@@ -78,12 +75,12 @@ returns-2 : tie.Need-returns-2
 unfolding done results
 returns-2 c =
     let a = c .before .before .before .before .before .before .before .before .before .before .before .before .before .before .before .before .before .before .before .before .before .args in
-    let r = c .before .before .before .before .before .before .before .before .before .before .row-meant in
+    let r = c .before .before .before .before .before .before .before .before .before .before .ping-set-row in
     let t = sound-here (c .before .before .before .before .before .before .before .before .before .before .before .before .before .before) in
-    rw (c .before .before .before .before .before .before .before .before .before .before .before .before .number-meant .ensures)
+    rw (c .before .before .before .before .before .before .before .before .before .before .before .before .ping-set-number .ensures)
     (accepted-step 0 (sym (accepted (c .before .before .before .before .before .before .before .before .before .before .before .before .before .before))) refl _
     (pinged-next (a .set .0) (a .sequence) (a .adds .now) (a .deletes .now) (view (memory (a .words .now) (a .store .now))) (t .entries) (accepted (c .before .before .before .before .before .before .before .before .before .before .before .before .before .before))
-    (a .store .now) (r .last .0) (r .result) (r .ensures .0 (a .store .now)) (r .ensures .1 (a .store .now)) (c .before .before .before .before .before .before .update .last .0) (c .before .before .before .before .before .before .update .ensures)
+    (a .store .now) (r .last .0) (r .result) (r .ensures .0 (a .store .now)) (r .ensures .1 (a .store .now)) (c .before .before .before .before .before .before .update-set .last .0) (c .before .before .before .before .before .before .update-set .ensures)
     (c .before .before .ping-row .last .0) (c .before .before .ping-row .ensures)))
 
 pub complex-ping-step-spec : {M : Type 1} → statement M
@@ -94,10 +91,9 @@ complex-ping-step-spec =
     refused-requires
     same-length
     returns
-    slice-read-number-meant
-    number-meant-requires
-    row-meant-requires
-    update-requires
+    ping-set-number-requires
+    ping-set-row-requires
+    update-set-requires
     ping-row-requires
     same-length-2
     returns-2)

@@ -7,8 +7,8 @@ use Rattle.pinging.proofs.hear_row.Tie as tie
 has-requires : tie.Need-has-requires
 has-requires c κs = search needs
 
-slice-read-clock : tie.Need-slice-read-clock
-slice-read-clock c = search needs
+clock-requires : tie.Need-clock-requires
+clock-requires c κs = search needs
 
 set-heard-requires : tie.Need-set-heard-requires
 set-heard-requires c κs = search needs
@@ -17,10 +17,12 @@ same-length : tie.Need-same-length
 same-length c = search needs
 
 returns : tie.Need-returns
-returns c s = rw (sym (c .before .before .before .before .before .before .has .ensures) ∙ c .before .before .before .before .before .if1 .taken) (c .before .before .set-heard .ensures s)
+returns c s =
+    let b = c .before .before .before .before .before .before in
+    rw (sym (b .before .has .ensures) ∙ b .if1 .taken) (rw (c .before .before .before .before .clock .ensures) at (c .before .before .set-heard .ensures s))
 
 returns-2 : tie.Need-returns-2
 returns-2 c s = rw (sym (c .before .has .ensures) ∙ c .if1 .left) refl
 
 pub hear-row-spec : {M : Type 1} → statement M
-hear-row-spec = tie.close (tie.spec has-requires slice-read-clock set-heard-requires same-length returns returns-2)
+hear-row-spec = tie.close (tie.spec has-requires clock-requires set-heard-requires same-length returns returns-2)

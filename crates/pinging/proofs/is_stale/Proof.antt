@@ -6,12 +6,12 @@ use native.Mathlib.Omega.{arith}
 use lib.Dec.{eqb, ltb}
 use borrow.Author.Tests.{eq-eqb, ne-eqb}
 use borrow.Author.Needs.{needs}
-use Rattle.rules.specs.Rules.{stale}
+use Rattle.rules.specs.Rules.{staleSequence}
 use Rattle.pinging.proofs.is_stale.Statement.{statement}
 use Rattle.pinging.proofs.is_stale.Tie as tie
 
 -- the number that wraps back is the difference
-stale-by : (last new d : ℕ) → (d + last) % 2 ^ 16 ≡ new → d < 2 ^ 16 → last < 2 ^ 16 → (eqb d 0 || ltb 32767 d) ≡ stale last new
+stale-by : (last new d : ℕ) → (d + last) % 2 ^ 16 ≡ new → d < 2 ^ 16 → last < 2 ^ 16 → (eqb d 0 || ltb 32767 d) ≡ staleSequence last new
 stale-by last new d e b l =
     let h : d ≡ (new + 65536 - last) % 65536 = omega arith in
     ap (λ (k : ℕ). eqb k 0 || ltb 32767 k) h

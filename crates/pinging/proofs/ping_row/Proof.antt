@@ -1,10 +1,10 @@
 -- `pinging::ping_row`: the members are heard, then the ping time is set.
 use mathlib.Core.Path.{_≡_, sym, ap, _∙_}
 use native.Mathlib.Omega.{arith}
-use lib.ListN.{length, getD}
+use lib.ListN.{length}
 use borrow.Author.Needs.{needs}
 use Rattle.rules.specs.Entries.{Entries, pingedAt}
-use Rattle.table.specs.View.{setCount}
+use Rattle.table.specs.View.{setCount, clockOf}
 use Rattle.rules.specs.PingRows.{changeSet}
 use Rattle.table.proofs.LiveRows.{sets-length}
 use Rattle.pinging.proofs.Pings.{row-heard}
@@ -14,15 +14,15 @@ use Rattle.pinging.proofs.ping_row.Tie as tie
 members-requires : tie.Need-members-requires
 members-requires c κs = search needs
 
-slice-read-clock : tie.Need-slice-read-clock
-slice-read-clock c = search needs
+clock-requires : tie.Need-clock-requires
+clock-requires c κs = search needs
 
 hear-requires : tie.Need-hear-requires
 hear-requires c κs = search needs
 
 set-pinged-requires : tie.Need-set-pinged-requires
 set-pinged-requires c κs =
-    let start = c .before .before .before .before .before .before .before .before .before in
+    let start = c .before .before .before .before .before .before .before .before .before .before in
     let ws = start .args .words .now in
     let b = start .pre .1 in
     let sets : setCount (c .before .before .before .hear .last .0) ≡ setCount ws = sym (sets-length (c .before .before .before .hear .last .0)) ∙ ap (λ (e : Entries). length (e .sets)) (c .before .before .before .hear .ensures ws) ∙ sets-length ws in
@@ -33,10 +33,10 @@ same-length c = search needs
 
 returns : tie.Need-returns
 returns c s =
-    let start = c .before .before .before .before .before .before .before .before .before .before .before .before in
+    let start = c .before .before .before .before .before .before .before .before .before .before .before .before .before in
     let ws = start .args .words .now in
-    c .before .before .set-pinged .ensures s
-    ∙ ap (changeSet (start .args .i) (pingedAt (getD ws 0 0))) (c .before .before .before .before .before .before .hear .ensures s ∙ row-heard ws (start .args .i) (c .before .before .before .before .before .before .before .before .before .members .result) s (start .pre .1) (c .before .before .before .before .before .before .before .before .before .members .ensures))
+    rw (c .before .before .before .before .before .before .before .before .clock .ensures) at (c .before .before .set-pinged .ensures s)
+    ∙ ap (changeSet (start .args .i) (pingedAt (clockOf ws))) (c .before .before .before .before .before .before .hear .ensures s ∙ row-heard ws (start .args .i) (c .before .before .before .before .before .before .before .before .before .before .members .result) s (start .pre .1) (c .before .before .before .before .before .before .before .before .before .before .members .ensures))
 
 pub ping-row-spec : {M : Type 1} → statement M
-ping-row-spec = tie.close (tie.spec members-requires slice-read-clock hear-requires set-pinged-requires same-length returns)
+ping-row-spec = tie.close (tie.spec members-requires clock-requires hear-requires set-pinged-requires same-length returns)

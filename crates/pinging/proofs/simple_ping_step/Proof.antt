@@ -6,7 +6,6 @@ use borrow.Author.Tests.{eq-eqb, ne-eqb}
 use lib.ListN.{length}
 use Rattle.rules.specs.Rules.{results, refused, done}
 use Rattle.rules.proofs.SoundLaws.{sound-fields}
-use Rattle.rules.proofs.ByRow.{setRow}
 use Rattle.rules.proofs.PingRows.{simple-ping-row}
 use Rattle.rules.specs.PingRows.{pingedRow}
 use Rattle.table.specs.View.{memory, view}
@@ -16,6 +15,7 @@ use Rattle.pinging.proofs.Pings.{simple-rows}
 use borrow.Author.Needs.{needs}
 use Rattle.pinging.proofs.simple_ping_step.Statement.{statement}
 use Rattle.pinging.proofs.simple_ping_step.Tie as tie
+use Rattle.rules.specs.Entries.{setRow}
 
 returns : tie.Need-returns
 unfolding refused results

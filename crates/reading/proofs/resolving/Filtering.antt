@@ -17,11 +17,10 @@ use Rattle.bindings.specs.declared.filter.Filtered.{Filtered}
 use Rattle.bindings.proofs.Laws.{front-list}
 use Rattle.bindings.proofs.FilterWriting.{answer-room, answer-done, write-refused, write-done}
 use Rattle.lists.proofs.Tests.{below-or-not}
-use Rattle.rules.specs.Entries.{Exporter}
+use Rattle.rules.specs.Entries.{Exporter, exporterRow}
 use Rattle.rules.specs.Calls.{Call}
 use Rattle.rules.specs.Sound.{listsKept}
 use Rattle.rules.specs.Rules.{noExporter, isLiveExporter, exporterOf, tooMany, refusals, number, results, done}
-use Rattle.rules.proofs.ByRow.{exporterRow}
 use Rattle.table.specs.View.{exporterCount, slot, exportersOf, memory, view}
 use Rattle.table.proofs.judge.Checks.{front-kept}
 use Rattle.table.proofs.LiveRows.{exporter-at}

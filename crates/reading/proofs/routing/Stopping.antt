@@ -18,14 +18,13 @@ use Rattle.bindings.proofs.Laws.{front}
 use Rattle.references.specs.References.{isCustom, referenceAnswer, tailPlace}
 use Rattle.references.proofs.Laws.{accepted, oxid-at, tail-number, tail-within, tail-bytes}
 use Rattle.lists.specs.Lists.{firstIndex}
-use Rattle.rules.specs.Entries.{Entries, oxids}
+use Rattle.rules.specs.Entries.{Entries, oxids, exporterRow}
 use Rattle.rules.specs.Calls.{Call, Reply}
 use Rattle.rules.specs.Sound.{listsKept}
 use Rattle.rules.specs.Rules.{isLiveExporter, noExporter, oxidOf, refusals, number, next, results, refused, done}
 use Rattle.rules.specs.Contract.{Memory, replyTo}
 use Rattle.rules.proofs.Performing.{unsound}
 use Rattle.rules.proofs.SoundLaws.{table-fields}
-use Rattle.rules.proofs.ByRow.{exporterRow}
 use Rattle.table.specs.View.{exporterCount, slot, exportersOf, memory, view, soundMemory, Performed}
 use Rattle.table.proofs.judge.Checks.{front-kept}
 use Rattle.table.proofs.LiveRows.{exporter-at}

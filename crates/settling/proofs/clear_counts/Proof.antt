@@ -1,15 +1,13 @@
 -- `settling::clear_counts`: the interfaces from i on are cleared, and all cleared is the same.
-use Prim.Native.Nat.{ℕ, suc}
-use mathlib.Core.Path.{_≡_, sym, ap, _∙_}
+use Prim.Native.Nat.{ℕ}
+use mathlib.Core.Path.{_≡_, sym, _∙_}
 use mathlib.Core.List.{List}
 use native.Mathlib.Omega.{arith}
 use native.Mathlib.Numerals.{add-one}
 use lib.ListN.{length}
 use borrow.Author.Needs.{needs}
-use Rattle.rules.specs.Entries.{Entries, withCount}
 use Rattle.rules.specs.Rules.{noInterface}
 use Rattle.table.specs.View.{memory, view}
-use Rattle.table.specs.Edits.{changeInterface}
 use Rattle.table.proofs.LiveRows.{interfaces-length}
 use Rattle.settling.specs.Leaving.{cleared}
 use Rattle.settling.proofs.Going.{Clearing, noneOf, going-none, clearing-row, clearing-all}
@@ -34,11 +32,11 @@ loop-holds c =
 sub-i : tie.Need-sub-i Inv-loop μ-loop
 sub-i c = omega arith
 
-add-set-count : tie.Need-add-set-count Inv-loop μ-loop
-add-set-count c = search needs
+add-put-count : tie.Need-add-put-count Inv-loop μ-loop
+add-put-count c = search needs
 
-set-count-requires : tie.Need-set-count-requires Inv-loop μ-loop
-set-count-requires c κs =
+put-count-requires : tie.Need-put-count-requires Inv-loop μ-loop
+put-count-requires c κs =
     let l = c .before .before .loop in
     let n = interfaces-length (l .words) in
     let g = l .inv .1 (l .words) .within in
@@ -51,7 +49,7 @@ loop-again : tie.Need-loop-again Inv-loop μ-loop
 loop-again c =
     let l = c .before .before .before .before .before .loop in
     let start = c .before .before .before .before .before .before .before .before .before in
-    (search needs, λ s. rw (c .before .before .set-count .ensures s, add-one (start .args .client)) (clearing-row (start .args .client) (view (memory (start .args .words .now) s)) (view (memory (l .words) s)) (l .i) (l .inv .1 s) _ (omega arith)))
+    (search needs, λ s. rw (c .before .before .put-count .ensures s, add-one (start .args .client)) (clearing-row (start .args .client) (view (memory (start .args .words .now) s)) (view (memory (l .words) s)) (l .i) (l .inv .1 s) _ (omega arith)))
 
 same-length : tie.Need-same-length Inv-loop μ-loop
 same-length c = search needs
@@ -71,8 +69,8 @@ clear-counts-spec =
     interface-count-requires
     loop-holds
     sub-i
-    add-set-count
-    set-count-requires
+    add-put-count
+    put-count-requires
     loop-less
     loop-again
     same-length

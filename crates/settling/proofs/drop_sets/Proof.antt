@@ -6,13 +6,13 @@ use native.Mathlib.Omega.{arith}
 use lib.ListN.{length}
 use borrow.Author.Needs.{needs}
 use Rattle.settling.specs.Leaving.{setsLeft}
-use Rattle.rules.proofs.Leaving.{setStaysAt}
 use Rattle.rules.specs.Rules.{noSet}
 use Rattle.table.specs.View.{memory, view}
 use Rattle.table.proofs.LiveRows.{sets-length}
 use Rattle.settling.proofs.Going.{SetsGoing, going-none, sets-row, sets-all}
 use Rattle.settling.proofs.drop_sets.Statement.{statement}
 use Rattle.settling.proofs.drop_sets.Tie as tie
+use Rattle.rules.specs.Sound.{pingedWithin}
 
 abbrev Inv-loop : tie.InvT-loop
 Inv-loop words₀ time i₀ words i = (length words ≡ 8192) × ((s : List ℕ) → SetsGoing time (view (memory words₀ s)) i (view (memory words s)))
@@ -27,7 +27,7 @@ loop-holds : tie.Need-loop-holds Inv-loop μ-loop
 loop-holds c =
     let start = c .before .before .before in
     let ws = start .args .words .now in
-    (search needs, λ s. going-none (λ e. e .sets) (λ e. setStaysAt (start .args .time)) (setsLeft (start .args .time)) noSet (view (memory ws s)) _ (c .set-count .ensures .0 ∙ sym (sets-length ws)))
+    (search needs, λ s. going-none (λ e. e .sets) (λ e. pingedWithin (start .args .time)) (setsLeft (start .args .time)) noSet (view (memory ws s)) _ (c .set-count .ensures .0 ∙ sym (sets-length ws)))
 
 sub-i : tie.Need-sub-i Inv-loop μ-loop
 sub-i c = omega arith

@@ -6,14 +6,8 @@ use borrow.Author.Needs.{needs}
 use Rattle.settling.proofs.leave_interface.Statement.{statement}
 use Rattle.settling.proofs.leave_interface.Tie as tie
 
-add-object : tie.Need-add-object
-add-object c = search needs
-
-mul-object : tie.Need-mul-object
-mul-object c = search needs
-
-slice-read-object : tie.Need-slice-read-object
-slice-read-object c = search needs
+interface-object-requires : tie.Need-interface-object-requires
+interface-object-requires c κs = search needs
 
 object-row-requires : tie.Need-object-row-requires
 object-row-requires c κs = search needs
@@ -26,8 +20,8 @@ same-length c = search needs
 
 returns : tie.Need-returns
 returns c s =
-    let start = c .before .before .before .before .before .before .before in
-    rw (live-at (start .args .words .now) s (start .args .i) (c .before .before .before .object-row .result) (c .before .object-count .result) (start .pre .1) (c .before .before .before .object-row .ensures s) (c .before .object-count .ensures .0) ∙ lt-ltb _ _ (c .if1 .taken))
+    let b = c .before .before .before .before in
+    rw (live-at _ s _ _ _ _ (b .before .interface-object .ensures) (c .before .before .before .object-row .ensures s) (c .before .object-count .ensures .0) ∙ lt-ltb _ _ (c .if1 .taken))
 
 remove-interface-requires : tie.Need-remove-interface-requires
 remove-interface-requires c κs = search needs
@@ -37,18 +31,16 @@ same-length-2 c = search needs
 
 returns-2 : tie.Need-returns-2
 returns-2 c s =
-    let b = c .before .before .before .before in
-    let start = b .before .before .before .before .before .before .before in
-    rw (live-at (start .args .words .now) s (start .args .i) (b .before .before .before .object-row .result) (b .before .object-count .result) (start .pre .1) (b .before .before .before .object-row .ensures s) (b .before .object-count .ensures .0) ∙ le-ltb _ _ (b .if1 .left))
+    let d = c .before .before .before .before in
+    let b = d .before .before .before .before in
+    rw (live-at _ s _ _ _ _ (b .before .interface-object .ensures) (d .before .before .before .object-row .ensures s) (d .before .object-count .ensures .0) ∙ le-ltb _ _ (d .if1 .left))
     (c .before .before .remove-interface .ensures s)
 
 pub leave-interface-spec : {M : Type 1} → statement M
 leave-interface-spec =
     tie.close
     (tie.spec
-    add-object
-    mul-object
-    slice-read-object
+    interface-object-requires
     object-row-requires
     object-count-requires
     same-length

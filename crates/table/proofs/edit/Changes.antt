@@ -14,11 +14,11 @@ use Rattle.columns.proofs.members.Bits.{members-none}
 use Rattle.columns.proofs.members.Making.{zero-member}
 use Rattle.rules.specs.Entries.{withNext, Object, Interface, PingSet, heardAt, pingedAt, withSequence, withMembers}
 use Rattle.rules.specs.Rules.{enteredCounts, makeSet, noObject, noInterface, noSet}
-use Rattle.table.specs.View.{objectKind, interfaceKind, setKind, objectCount, interfaceCount, setCount, asObject, asInterface, asSet, objectsOf, interfacesOf, setsOf}
+use Rattle.table.specs.View.{objectKind, interfaceKind, setKind, objectCount, interfaceCount, setCount, asObject, asInterface, asSet, objectsOf, interfacesOf, setsOf, oidsOf, memberValues}
 use Rattle.rules.specs.PingRows.{changeSet}
 use Rattle.table.specs.Edits.{Only, Pushed, Pulled, Became, addInterface, addSet, dropInterface, dropSet, changeObject, changeInterface}
 use Rattle.table.proofs.edit.Rows.{live, noRows, only-word, only-stored, only-stored-two, live-stored, live-stored-two, made-pushed, made-pulled, made-changed}
-use Rattle.table.proofs.edit.Views.{oidsOf, sets-kept, became-objects, became-interfaces, became-sets, became-next}
+use Rattle.table.proofs.edit.Views.{sets-kept, became-objects, became-interfaces, became-sets, became-next}
 
 -- ---- rows that are entered, taken out, or changed
 
@@ -112,9 +112,9 @@ module _ (ws : List ℕ) (i : ℕ) (size : length ws ≡ 8192) where
 
   -- the members of a set
   pub members-stored : (m : Members) → i < setCount ws
-      → Became (changeSet i (withMembers (map (λ j. getD (oidsOf ws) j 0) (memberRows m)))) ws (set (set ws (160 + i) (m .low)) (192 + i) (m .high))
+      → Became (changeSet i (withMembers (memberValues (oidsOf ws) m))) ws (set (set ws (160 + i) (m .low)) (192 + i) (m .high))
   unfolding rowAt tabulate
   members-stored m h =
-      set-changed ws (set (set ws (160 + i) (m .low)) (192 + i) (m .high)) (withMembers (map (λ j. getD (oidsOf ws) j 0) (memberRows m))) i _
+      set-changed ws (set (set ws (160 + i) (m .low)) (192 + i) (m .high)) (withMembers (memberValues (oidsOf ws) m)) i _
       (only-stored-two setKind 5 ws i 3 (m .low) 4 (m .high) (omega arith) (omega arith) (omega arith)) h
       (live-stored-two setKind 5 ws i 3 (m .low) 4 (m .high) (omega arith) h (omega arith) (omega arith) (omega arith)) refl

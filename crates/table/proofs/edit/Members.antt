@@ -18,11 +18,11 @@ use Rattle.lists.proofs.Distinct.{eqb-decides, distinct-at}
 use Rattle.columns.proofs.members.Bits.{below-cut, cut-values}
 use Rattle.rules.specs.Entries.{Object, PingSet, withMembers}
 use Rattle.rules.specs.Rules.{noObject}
-use Rattle.table.specs.View.{objectKind, setKind, objectCount, setCount, asObject, asSet, objectsOf, setsOf}
+use Rattle.table.specs.View.{objectKind, setKind, objectCount, setCount, asObject, asSet, objectsOf, setsOf, oidsOf, memberValues}
 use Rattle.table.specs.Edits.{Only, Pushed, Pulled, MembersCut, membersAt, membersBelow, Became, addObject, dropObject}
 use Rattle.table.proofs.LiveRows.{objects-length}
 use Rattle.table.proofs.edit.Rows.{live, live-kept, made-pushed, made-pulled}
-use Rattle.table.proofs.edit.Views.{oidsOf, became-objects, exporters-kept, objects-kept, interfaces-kept}
+use Rattle.table.proofs.edit.Views.{became-objects, exporters-kept, objects-kept, interfaces-kept}
 
 -- ---- members below the number of objects
 
@@ -73,7 +73,7 @@ object-pushed ws ws′ n r e b h p =
 
 -- of distinct OIDs, those of the members but the one at k
 left-members : (ids : List ℕ) (k : ℕ) (m r : Members) → Cut k m r → k < length ids → length ids ≤ 128 → distinct eqb ids ≡ true → Below (length ids) m ≡ true
-    → map (λ j. getD (deleteAt k ids) j 0) (memberRows r) ≡ keep (λ o. not (eqb o (getD ids k 0))) (map (λ j. getD ids j 0) (memberRows m))
+    → memberValues (deleteAt k ids) r ≡ keep (λ o. not (eqb o (getD ids k 0))) (memberValues ids m)
 left-members ids k m r c h l d b =
     cut-values k m r c 0 ids (omega arith)
     ∙ ap (map _)

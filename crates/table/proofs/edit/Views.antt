@@ -11,13 +11,9 @@ use Rattle.lists.proofs.Tests.{and-left, and-right}
 use Rattle.lists.proofs.Lists.{tabulate-ext}
 use Rattle.columns.proofs.rows.Laws.{length-rows, rows-getD}
 use Rattle.rules.specs.Entries.{Exporter, Object, Interface, PingSet, Entries, withClock, withNext, withExporters, withObjects, withInterfaces, withSets}
-use Rattle.table.specs.View.{exporterKind, objectKind, interfaceKind, setKind, exporterCount, listAt, asExporter, asSet, exportersOf, objectsOf, interfacesOf, setsOf, memory, view}
+use Rattle.table.specs.View.{exporterKind, objectKind, interfaceKind, setKind, exporterCount, listAt, asExporter, asSet, exportersOf, objectsOf, interfacesOf, setsOf, memory, view, oidsOf}
 use Rattle.table.specs.Edits.{Only, Became}
 use Rattle.table.proofs.edit.Rows.{live, noRows, wordApart, word-kept, apartKinds, live-kept}
-
--- the live OIDs
-abbrev pub oidsOf : List ℕ → List ℕ
-oidsOf ws = map (λ (o : Object). o .oid) (objectsOf ws)
 
 -- the exporters that rows and the lists of a store make
 abbrev pub exportersFrom : List (List ℕ) → List ℕ → List Exporter

@@ -21,11 +21,11 @@ use Rattle.lists.proofs.Distinct.{eqb-decides, same-comm, some-same}
 use Rattle.columns.proofs.Loops.{table-step, table-end, every-passes, every-fails, every-end}
 use Rattle.columns.proofs.rows.Laws.{rowAt-getD, length-rows}
 use Rattle.rules.specs.Entries.{Exporter, Object, oids}
-use Rattle.rules.specs.Rules.{noExporter, noInterface}
-use Rattle.table.proofs.LiveRows.{exporters-length, interfaces-length, exporter-at}
-use Rattle.rules.specs.Sound.{held, heardRecently, interfacesHeld, membersLive, listsKept}
-use Rattle.table.specs.Clauses.{recent}
-use Rattle.table.specs.View.{exporterKind, objectKind, setKind, exporterCount, objectCount, interfaceCount, setCount, slot, listAt, asExporter, asObject, asSet, exportersOf, objectsOf, interfacesOf, setsOf, memory, view}
+use Rattle.rules.specs.Rules.{noExporter, noObject, noInterface}
+use Rattle.table.proofs.LiveRows.{exporters-length, objects-length, interfaces-length, exporter-at}
+use Rattle.rules.specs.Sound.{held, heardWithin, heardRecently, interfacesHeld, setMembersLive, listsKept}
+use Rattle.table.specs.View.{exporterKind, objectKind, setKind, exporterCount, objectCount, interfaceCount, setCount, slot, listAt, asExporter, asObject, asSet, exportersOf, objectsOf, interfacesOf, setsOf, memory, view, clockOf}
+use Rattle.table.specs.Edits.{membersAt}
 
 -- every index below n passes
 abbrev pub everyRow : ℕ → (ℕ → Bool) → Bool
@@ -38,16 +38,16 @@ everyFrom i n q = every q (drop i (tabulate n (λ j. j)))
 -- a loop that checks the rows from i on
 module _ {w : Bool} (n : ℕ) (q : ℕ → Bool) (i : ℕ) (h : w ≡ everyFrom i n q) where
   -- row i passes by the outcome t
-  pub row-passes : {t : Bool} → i < n → t ≡ q i → not t ≡ false → w ≡ everyFrom (i + 1) n q
-  row-passes {t} b e f = every-passes (table-step n (λ j. j) i b) q h (sym e ∙ not-false t f)
+  pub check-passes : {t : Bool} → i < n → t ≡ q i → not t ≡ false → w ≡ everyFrom (i + 1) n q
+  check-passes {t} b e f = every-passes (table-step n (λ j. j) i b) q h (sym e ∙ not-false t f)
 
   -- row i fails by the outcome t
-  pub row-fails : {t : Bool} → i < n → t ≡ q i → not t ≡ true → false ≡ w
-  row-fails {t} b e f = every-fails (table-step n (λ j. j) i b) q h (sym e ∙ not-true t f)
+  pub check-fails : {t : Bool} → i < n → t ≡ q i → not t ≡ true → false ≡ w
+  check-fails {t} b e f = every-fails (table-step n (λ j. j) i b) q h (sym e ∙ not-true t f)
 
   -- no row is left
-  pub rows-done : n ≤ i → true ≡ w
-  rows-done b = every-end (table-end n (λ j. j) i b) q h
+  pub checks-done : n ≤ i → true ≡ w
+  checks-done b = every-end (table-end n (λ j. j) i b) q h
 
 module _ {A : Type 0} (p : A → Bool) (q : ℕ → Bool) where
   -- a check of each index of a table is a check of its elements
@@ -64,18 +64,19 @@ module _ {A : Type 0} (p : A → Bool) (q : ℕ → Bool) where
   rows-checked k ws entry n m e same =
       table-checked (λ i. entry (rowAt k ws i)) n m e (λ i l. same i) ∙ ap (every p) (sym (map-tabulate entry m (rowAt k ws)))
 
+-- a check of each row is a check of the entries
+pub entries-checked : {A : Type 0} (p : A → Bool) (d : A) (n : ℕ) (xs : List A) → n ≡ length xs → everyRow n (λ i. p (getD xs i d)) ≡ every p xs
+entries-checked p d n xs e = table-checked p (λ i. p (getD xs i d)) (λ i. getD xs i d) n (length xs) e (λ i l. refl) ∙ ap (every p) (tabulate-getD xs d)
+
 -- ---- objects
 
--- the object of row i is not overdue
-abbrev pub recentRow : List ℕ → ℕ → Bool
-recentRow ws i = recent (getD ws 0 0) (getD ws (512 + i) 0) (getD ws (640 + i) 0)
+-- the object of row i was heard in time
+abbrev pub heardRow : List ℕ → ℕ → Bool
+heardRow ws i = heardWithin (clockOf ws) (getD (objectsOf ws) i noObject)
 
--- every object is recent where every row is
-pub recent-rows : (ws s : List ℕ) (n : ℕ) → n ≡ objectCount ws → everyRow n (recentRow ws) ≡ heardRecently (view (memory ws s))
-unfolding objectsOf
-recent-rows ws s n e =
-    rows-checked _ (recentRow ws) objectKind ws asObject n (objectCount ws) e
-    (λ i. rw (rowAt-getD objectKind ws i 2 (omega arith), rowAt-getD objectKind ws i 3 (omega arith)))
+-- every object was where every row was
+pub heard-rows : (ws s : List ℕ) (n : ℕ) → n ≡ objectCount ws → everyRow n (heardRow ws) ≡ heardRecently (view (memory ws s))
+heard-rows ws s n e = entries-checked (heardWithin (clockOf ws)) noObject n (objectsOf ws) (e ∙ sym (objects-length ws))
 
 -- ---- interfaces
 
@@ -85,9 +86,7 @@ heldRow ws i = held (getD (interfacesOf ws) i noInterface)
 
 -- every interface is held where every row is
 pub held-rows : (ws s : List ℕ) (n : ℕ) → n ≡ interfaceCount ws → everyRow n (heldRow ws) ≡ interfacesHeld (view (memory ws s))
-held-rows ws s n e =
-    table-checked held (heldRow ws) (λ i. getD (interfacesOf ws) i noInterface) n (length (interfacesOf ws)) (e ∙ sym (interfaces-length ws)) (λ i l. refl)
-    ∙ ap (every held) (tabulate-getD (interfacesOf ws) noInterface)
+held-rows ws s n e = entries-checked held noInterface n (interfacesOf ws) (e ∙ sym (interfaces-length ws))
 
 -- ---- sets
 
@@ -109,11 +108,11 @@ live-oids ws =
 
 -- the members of the set of row i are below a number of rows
 abbrev pub belowRow : ℕ → List ℕ → ℕ → Bool
-belowRow objects ws i = every (λ j. ltb j objects) (memberRows (record { low = getD ws (160 + i) 0; high = getD ws (192 + i) 0 }))
+belowRow objects ws i = every (λ j. ltb j objects) (memberRows (membersAt ws i))
 
 -- every member is live where every set's rows are below the number of objects, if no OID is 0
 pub members-rows : (ws s : List ℕ) (n objects : ℕ) → n ≡ setCount ws → objects ≡ objectCount ws → every (λ x. not (eqb x 0)) (oids (view (memory ws s))) ≡ true
-    → everyRow n (belowRow objects ws) ≡ membersLive (view (memory ws s))
+    → everyRow n (belowRow objects ws) ≡ setMembersLive (view (memory ws s))
 unfolding setsOf
 members-rows ws s n objects e o nonzero =
     let ids = oids (view (memory ws s)) in

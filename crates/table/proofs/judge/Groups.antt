@@ -21,10 +21,10 @@ groups e = holding (exporterClauses e) ∷ holding (objectClauses e) ∷ holding
 
 groups-hold : (e : Entries) → Sound e → holding (groups e) ≡ true
 groups-hold e s =
-    ((s .exportersProper and s .bindingsKept and none) .together
-    and (s .objectsProper and s .exportersNamed and s .haveInterfaces and s .heardByClock and s .heardLately and none) .together
-    and (s .ipidsProper and s .objectsNamed and s .counted and none) .together
-    and (s .setsProper and s .pingedByClock and s .pingedLately and s .belowNext and s .nextNonzero and s .membersNamed and none) .together
+    ((s .exportersProper and s .listsKept and none) .together
+    and (s .objectsProper and s .objectExportersLive and s .objectsHaveInterfaces and s .heardBefore and s .heardRecently and none) .together
+    and (s .ipidsProper and s .interfaceObjectsLive and s .interfacesHeld and none) .together
+    and (s .setsProper and s .pingedBefore and s .pingedRecently and s .setsBelowNext and s .nextNonzero and s .setMembersLive and none) .together
     and none)
     .together
 

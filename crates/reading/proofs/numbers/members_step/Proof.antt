@@ -6,10 +6,10 @@ use native.Mathlib.Omega.{arith}
 use lib.ListN.{length, getD, length-map}
 use Rattle.columns.specs.Members.{memberRows}
 use Rattle.columns.specs.declared.members.Members.{Members}
-use Rattle.rules.specs.Entries.{PingSet}
+use Rattle.rules.specs.Entries.{PingSet, setRow}
 use Rattle.rules.specs.Calls.{Call}
 use Rattle.rules.specs.Rules.{noSet, setOf, refusals, number, next, results, refused, done}
-use Rattle.rules.proofs.ByRow.{setRow, set-row}
+use Rattle.rules.proofs.ByRow.{set-row}
 use Rattle.table.specs.View.{setCount, setsOf, memory, view, Stepped}
 use Rattle.table.specs.Edits.{membersAt}
 use Rattle.table.proofs.edit.Below.{row-members}

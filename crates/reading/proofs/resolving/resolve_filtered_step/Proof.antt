@@ -51,7 +51,7 @@ returns-2 c =
 list-requires : tie.Need-list-requires
 list-requires c κs =
     let t = c .before .before .before .before .before .before .before .before .pre in
-    (t .store, omega arith, sound-fields _ (t .entries) .bindingsKept)
+    (t .store, omega arith, sound-fields _ (t .entries) .listsKept)
 
 -- the row of the filtered list's length, where the exporter was found
 list-left : (c : tie.After-list) → let a = c .before .before .before .before .before .before .before .before .before .args in
@@ -67,7 +67,7 @@ good : (c : tie.After-list) → listAnswer (c .list .result .now) ≡ 0
 good c =
     let a = c .before .before .before .before .before .before .before .before .before .args in
     let t = c .before .before .before .before .before .before .before .before .before .pre in
-    rw (c .list .ensures) (kept-list (a .words .now) (a .store .now) (c .before .before .before .exporter-row .result) (omega arith) (sound-fields _ (t .entries) .bindingsKept))
+    rw (c .list .ensures) (kept-list (a .words .now) (a .store .now) (c .before .before .before .exporter-row .result) (omega arith) (sound-fields _ (t .entries) .listsKept))
 
 write-filtered-requires : tie.Need-write-filtered-requires
 write-filtered-requires c κs = search needs

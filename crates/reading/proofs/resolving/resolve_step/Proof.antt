@@ -10,11 +10,11 @@ use Rattle.kinds.specs.Refusals.{order, _gives_}
 use Rattle.kinds.specs.declared.Guid.{Guid}
 use Rattle.fields.specs.Fields.{written}
 use Rattle.fields.proofs.Laws.{written-front}
-use Rattle.rules.specs.Entries.{Exporter}
+use Rattle.rules.specs.Entries.{Exporter, exporterRow}
 use Rattle.rules.specs.Calls.{Call}
 use Rattle.rules.specs.Rules.{noExporter, refusals, number, next, results, refused, done}
 use Rattle.rules.proofs.SoundLaws.{sound-fields}
-use Rattle.rules.proofs.ByRow.{exporterRow, exporter-row}
+use Rattle.rules.proofs.ByRow.{exporter-row}
 use Rattle.table.specs.View.{exporterCount, exportersOf, memory, view}
 use Rattle.reading.specs.Replies.{resolveReply}
 use Rattle.calls.proofs.Calls.{refused-step, accepted-step, row-gives, row-passes, gone-gives, live-passes, rows-end, exporter-tested, exporter-in-row}
@@ -66,7 +66,7 @@ returns c =
 list-requires : tie.Need-list-requires
 list-requires c κs =
     let t = c .before .before .before .before .before .before .pre in
-    (t .store, omega arith, sound-fields _ (t .entries) .bindingsKept)
+    (t .store, omega arith, sound-fields _ (t .entries) .listsKept)
 
 -- the row of the list's length, where the exporter was found
 list-left : (c : tie.After-list) → let a = c .before .before .before .before .before .before .before .args in

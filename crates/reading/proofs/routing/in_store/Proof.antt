@@ -3,8 +3,8 @@ use borrow.Author.Needs.{needs}
 use Rattle.reading.proofs.routing.in_store.Statement.{statement}
 use Rattle.reading.proofs.routing.in_store.Tie as tie
 
-mul-from : tie.Need-mul-from
-mul-from c = search needs
+slot-start-requires : tie.Need-slot-start-requires
+slot-start-requires c κs = search needs
 
 list-requires : tie.Need-list-requires
 list-requires c κs = search needs
@@ -13,7 +13,7 @@ add-t7 : tie.Need-add-t7
 add-t7 c = search needs
 
 returns : tie.Need-returns
-returns c = rw (c .list .ensures)
+returns c = rw (c .list .ensures, c .before .slot-start .ensures)
 
 pub in-store-spec : {M : Type 1} → statement M
-in-store-spec = tie.close (tie.spec mul-from list-requires add-t7 returns)
+in-store-spec = tie.close (tie.spec slot-start-requires list-requires add-t7 returns)

@@ -6,13 +6,13 @@ use Rattle.fields.specs.Fields.{field}
 use Rattle.rules.specs.Calls.{Call}
 use Rattle.rules.specs.Rules.{oxidOf, next, done}
 use Rattle.rules.proofs.SoundLaws.{sound-fields}
-use Rattle.rules.proofs.ByRow.{exporterRow}
 use Rattle.table.specs.View.{memory, view, SoundTable, Performed}
 use Rattle.calls.proofs.Calls.{refused-step, accepted-step, step-call, row-gives, row-passes, rows-end, exporter-tested}
 use Rattle.reading.proofs.routing.Stopping.{reference-refused, good-reference, same-oxid, form-left, refused-stop, store-stop, reference-stop}
 use borrow.Author.Needs.{needs}
 use Rattle.reading.proofs.routing.next_stop_step.Statement.{statement}
 use Rattle.reading.proofs.routing.next_stop_step.Tie as tie
+use Rattle.rules.specs.Entries.{exporterRow}
 
 tail-place-requires : tie.Need-tail-place-requires
 tail-place-requires c κs = search needs
@@ -75,7 +75,7 @@ row c =
 in-store-requires : tie.Need-in-store-requires
 in-store-requires c κs =
     let t = table (c .before .before .before .before) in
-    (t .store, omega arith, sound-fields _ (t .entries) .bindingsKept)
+    (t .store, omega arith, sound-fields _ (t .entries) .listsKept)
 
 returns-3 : tie.Need-returns-3
 returns-3 c =
@@ -84,7 +84,7 @@ returns-3 c =
     rw (c .in-store .ensures)
     (store-stop _ _ _ (accepted (c .before .before .before .before .before)) r
     (exporter-tested _ _ _ r (c .before .before .exporter-count .ensures .0) ∙ lt-ltb _ _ (c .before .if3 .taken))
-    (omega arith) (sound-fields _ (t .entries) .bindingsKept) (t .store))
+    (omega arith) (sound-fields _ (t .entries) .listsKept) (t .store))
 
 in-reference-requires : tie.Need-in-reference-requires
 in-reference-requires c κs = search needs

@@ -2,6 +2,7 @@
 use Prim.Native.Nat.{_≤_, _-_}
 use borrow.Author.Needs.{needs}
 use native.Mathlib.Omega.{arith}
+use mathlib.Core.Logic.{inl}
 use lib.ListN.{length-set}
 use Rattle.table.proofs.edit.Cuts.{CutTo, cut-none, cut-one, cut-all}
 use Rattle.table.proofs.edit.cut_members.Statement.{statement}
@@ -19,23 +20,13 @@ set-count-requires c κs = search needs
 loop-holds : tie.Need-loop-holds Inv-loop μ-loop
 loop-holds c = (omega arith, cut-none _ _)
 
-add-t10 : tie.Need-add-t10 Inv-loop μ-loop
-add-t10 c = omega arith
-
-mul-t11 : tie.Need-mul-t11 Inv-loop μ-loop
-mul-t11 c = omega arith
-
-slice-read-t13 : tie.Need-slice-read-t13 Inv-loop μ-loop
-slice-read-t13 c = let s = c .before .before .loop .inv .1 .size in omega arith
-
-add-t14 : tie.Need-add-t14 Inv-loop μ-loop
-add-t14 c = omega arith
-
-mul-t15 : tie.Need-mul-t15 Inv-loop μ-loop
-mul-t15 c = omega arith
-
-slice-read-t17 : tie.Need-slice-read-t17 Inv-loop μ-loop
-slice-read-t17 c = let s = c .before .before .before .loop .inv .1 .size in omega arith
+members-requires : tie.Need-members-requires Inv-loop μ-loop
+members-requires c κs =
+    let l = c .before .before .loop in
+    let s = l .inv .1 .size in
+    let q = l .inv .1 .others 5 (inl (omega arith)) in
+    let e = c .before .before .before .set-count .ensures .0 in
+    (omega arith, omega arith)
 
 cut-requires : tie.Need-cut-requires Inv-loop μ-loop
 cut-requires c κs = search needs
@@ -69,7 +60,7 @@ loop-again c =
     let l = c .before .before .before .before .loop in
     let s = l .inv .1 .size in
     let start = c .before .before .before .before .before .before .before .before in
-    (omega arith, cut-one (l .words) (l .r) (c .cut .result) (omega arith) (omega arith) (start .args .i) _ (l .inv .1) (c .cut .ensures))
+    (omega arith, cut-one (l .words) (l .r) (c .cut .result) (omega arith) (omega arith) (start .args .i) _ (l .inv .1) (rw (c .before .members .ensures) at (c .cut .ensures)))
 
 same-length : tie.Need-same-length Inv-loop μ-loop
 same-length c = c .before .loop .inv .1 .size
@@ -87,12 +78,7 @@ cut-members-spec =
     μ-loop
     set-count-requires
     loop-holds
-    add-t10
-    mul-t11
-    slice-read-t13
-    add-t14
-    mul-t15
-    slice-read-t17
+    members-requires
     cut-requires
     add-words
     mul-words

@@ -1,8 +1,9 @@
 -- `table::edit::put_exporter`: the list goes into the first free slot, and a row of the exporters is entered.
-use native.Mathlib.Omega.{arith}
-use Prim.Native.Nat.{_+_, _*_, _≤_}
+use Prim.Native.Nat.{_+_, _≤_}
 use lib.ListN.{length}
+use Rattle.table.specs.View.{slotStart}
 use Rattle.table.proofs.edit.Lists.{exporter-pushed, slotted, slotted-list, slotted-others}
+use native.Mathlib.Omega.{arith}
 use borrow.Author.Needs.{needs}
 use Rattle.table.proofs.edit.put_exporter.Statement.{statement}
 use Rattle.table.proofs.edit.put_exporter.Tie as tie
@@ -10,8 +11,8 @@ use Rattle.table.proofs.edit.put_exporter.Tie as tie
 exporter-count-requires : tie.Need-exporter-count-requires
 exporter-count-requires c κs = search needs
 
-mul-from : tie.Need-mul-from
-mul-from c = search needs
+slot-start-requires : tie.Need-slot-start-requires
+slot-start-requires c κs = search needs
 
 sub-copy : tie.Need-sub-copy
 sub-copy c = search needs
@@ -43,7 +44,8 @@ same-length-2 c = search needs
 returns : tie.Need-returns
 returns c =
     let b = c .before .before .before in
-    let f = b .before .before .before .before .before .before .before in
+    let g = b .before .before .before .before .before .before .before in
+    let f = g .before in
     let start = f .before .before .before .before .before in
     let s = start .args .store .now in
     let l = start .args .list .now in
@@ -51,8 +53,8 @@ returns c =
     let e = f .exporter-count .ensures .0 in
     let done = start .pre .3 in
     let size = start .pre .4 in
-    let room : n * 512 + 512 ≤ length s = omega arith in
-    rw (c .before .before .before .before .before .before .before .before .copy .ensures)
+    let room : slotStart n + 512 ≤ length s = omega arith in
+    rw (c .before .before .before .before .before .before .before .before .copy .ensures, g .slot-start .ensures)
     (exporter-pushed _ _ n e s (slotted s l n) _ l (omega arith) (rw (b .before .exporter-kind .ensures) at (c .before .before .push-row .ensures))
     (slotted-others s l n done size room) (slotted-list s l n done size room))
 
@@ -61,7 +63,7 @@ put-exporter-spec =
     tie.close
     (tie.spec
     exporter-count-requires
-    mul-from
+    slot-start-requires
     sub-copy
     part-copy-start
     part-copy-end

@@ -1,6 +1,6 @@
 -- `table::edit::put_object`: a row of the objects is entered.
-use native.Mathlib.Omega.{arith}
 use Rattle.table.proofs.edit.Members.{object-pushed}
+use native.Mathlib.Omega.{arith}
 use borrow.Author.Needs.{needs}
 use Rattle.table.proofs.edit.put_object.Statement.{statement}
 use Rattle.table.proofs.edit.put_object.Tie as tie
@@ -8,8 +8,11 @@ use Rattle.table.proofs.edit.put_object.Tie as tie
 object-count-requires : tie.Need-object-count-requires
 object-count-requires c κs = search needs
 
-slice-read-t10 : tie.Need-slice-read-t10
-slice-read-t10 c = search needs
+mark-requires : tie.Need-mark-requires
+mark-requires c κs = search needs
+
+slice-read-t11 : tie.Need-slice-read-t11
+slice-read-t11 c = search needs
 
 object-kind-requires : tie.Need-object-kind-requires
 object-kind-requires c κs = search needs
@@ -26,16 +29,17 @@ same-length c = search needs
 returns : tie.Need-returns
 returns c =
     let b = c .before .before .before in
-    let f = b .before .before .before .before in
-    let e = f .object-count .ensures .0 in
-    object-pushed _ _ _ _ e (omega arith) (f .before .before .before .pre .2) (rw (b .before .object-kind .ensures) at (c .before .before .push-row .ensures))
+    let m = b .before .before .before .before in
+    let e = m .before .object-count .ensures .0 in
+    rw (m .mark .ensures) at (object-pushed _ _ _ _ e (omega arith) (m .before .before .before .before .pre .2) (rw (b .before .object-kind .ensures) at (c .before .before .push-row .ensures)))
 
 pub put-object-spec : {M : Type 1} → statement M
 put-object-spec =
     tie.close
     (tie.spec
     object-count-requires
-    slice-read-t10
+    mark-requires
+    slice-read-t11
     object-kind-requires
     slice-aggregate-push-row
     push-row-requires

@@ -22,7 +22,7 @@ returns c s =
     let start = c .before .before .before .before in
     let ws = start .args .words .now in
     c .index-of .ensures
-    ∙ ap (firstIndex (eqb (start .args .oxid))) (column-read ws 16 (c .before .column .ensures) (c .before .before .exporter-count .ensures .0) (oxids-column ws (start .pre) s))
+    ∙ ap (firstIndex (eqb (start .args .oxid .0))) (column-read ws 16 (c .before .column .ensures) (c .before .before .exporter-count .ensures .0) (oxids-column ws (start .pre) s))
 
 pub exporter-row-spec : {M : Type 1} → statement M
 exporter-row-spec =

@@ -26,7 +26,7 @@ returns : tie.Need-returns
 returns c s =
     let start = c .before .before .before .before in
     let ws = start .args .words .now in
-    let oid = start .args .oid in
+    let oid = start .args .oid .0 in
     c .has .ensures
     ∙ ap (λ (col : List ℕ). among col oid) (column-read ws 1792 (c .before .column .ensures) (c .before .before .interface-count .ensures .0) (interface-objects-column ws (start .pre)))
     ∙ some-map (eqb oid) (λ (i : Interface). i .object) (interfacesOf ws)

@@ -22,7 +22,7 @@ returns c s =
     let start = c .before .before .before .before in
     let ws = start .args .words .now in
     c .index-of .ensures
-    ∙ ap (firstIndex (eqb (start .args .oid))) (column-read ws 256 (c .before .column .ensures) (c .before .before .object-count .ensures .0) (oids-column ws (start .pre)))
+    ∙ ap (firstIndex (eqb (start .args .oid .0))) (column-read ws 256 (c .before .column .ensures) (c .before .before .object-count .ensures .0) (oids-column ws (start .pre)))
 
 pub object-row-spec : {M : Type 1} → statement M
 object-row-spec =

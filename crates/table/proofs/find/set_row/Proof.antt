@@ -22,7 +22,7 @@ returns c s =
     let start = c .before .before .before .before in
     let ws = start .args .words .now in
     c .index-of .ensures
-    ∙ ap (firstIndex (eqb (start .args .number))) (column-read ws 64 (c .before .column .ensures) (c .before .before .set-count .ensures .0) (set-numbers-column ws (start .pre)))
+    ∙ ap (firstIndex (eqb (start .args .set .0))) (column-read ws 64 (c .before .column .ensures) (c .before .before .set-count .ensures .0) (set-numbers-column ws (start .pre)))
 
 pub set-row-spec : {M : Type 1} → statement M
 set-row-spec = tie.close (tie.spec set-count-requires column-requires index-of-requires returns)

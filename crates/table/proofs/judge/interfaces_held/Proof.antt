@@ -4,7 +4,7 @@ use mathlib.Core.Path.{_≡_, refl, _∙_}
 use native.Mathlib.Omega.{arith}
 use borrow.Author.Needs.{needs}
 use Rattle.table.specs.View.{interfaceCount}
-use Rattle.table.proofs.judge.Checks.{everyRow, everyFrom, row-passes, row-fails, rows-done, heldRow, held-rows}
+use Rattle.table.proofs.judge.Checks.{everyRow, everyFrom, check-passes, check-fails, checks-done, heldRow, held-rows}
 use Rattle.table.proofs.judge.interfaces_held.Statement.{statement}
 use Rattle.table.proofs.judge.interfaces_held.Tie as tie
 
@@ -27,7 +27,7 @@ returns : tie.Need-returns Inv-loop μ-loop
 returns c =
     let l = c .before .before .before .loop in
     λ s.
-    row-fails _ _ (l .i) (l .inv .1) (search needs) (c .before .is-held .ensures) (c .if1 .taken)
+    check-fails _ _ (l .i) (l .inv .1) (search needs) (c .before .is-held .ensures) (c .if1 .taken)
     ∙ held-rows (c .before .before .before .before .before .before .args .words .now) s _ (c .before .before .before .before .interface-count .ensures .0)
 
 add-i : tie.Need-add-i Inv-loop μ-loop
@@ -39,13 +39,13 @@ loop-less c = search needs
 loop-again : tie.Need-loop-again Inv-loop μ-loop
 loop-again c =
     let l = c .before .before .before .loop in
-    (l .inv .0, row-passes _ _ (l .i) (l .inv .1) (search needs) (c .before .is-held .ensures) (c .if1 .left))
+    (l .inv .0, check-passes _ _ (l .i) (l .inv .1) (search needs) (c .before .is-held .ensures) (c .if1 .left))
 
 returns-2 : tie.Need-returns-2 Inv-loop μ-loop
 returns-2 c =
     let l = c .before .loop in
     λ s.
-    rows-done _ _ (l .i) (l .inv .1) (search needs)
+    checks-done _ _ (l .i) (l .inv .1) (search needs)
     ∙ held-rows (c .before .before .before .before .args .words .now) s _ (c .before .before .interface-count .ensures .0)
 
 pub interfaces-held-spec : {M : Type 1} → statement M

@@ -1,14 +1,12 @@
 -- `judge::lists_kept`: the rows from i on pass where all rows do.
-use Prim.Native.Nat.{ℕ, _≤_, _-_, _+_, _*_}
+use Prim.Native.Nat.{ℕ, _≤_, _-_}
 use mathlib.Core.Path.{_≡_, refl, ap, _∙_}
 use mathlib.Core.Bool.{not}
 use lib.Dec.{eqb}
 use borrow.Author.Needs.{needs}
 use borrow.Author.Tests.{eq-eqb, ne-eqb}
-use native.Mathlib.Omega.{arith}
-use lib.ListN.{take, drop}
 use Rattle.bindings.specs.Bindings.{frontAnswer}
-use Rattle.table.proofs.judge.Checks.{everyRow, everyFrom, row-passes, row-fails, rows-done, keptRow, kept-rows}
+use Rattle.table.proofs.judge.Checks.{everyRow, everyFrom, check-passes, check-fails, checks-done, keptRow, kept-rows}
 use Rattle.table.proofs.judge.lists_kept.Statement.{statement}
 use Rattle.table.proofs.judge.lists_kept.Tie as tie
 
@@ -24,35 +22,20 @@ exporter-count-requires c κs = search needs
 loop-holds : tie.Need-loop-holds Inv-loop μ-loop
 loop-holds c = (search needs, refl)
 
-mul-from : tie.Need-mul-from Inv-loop μ-loop
-mul-from c = search needs
-
-add-to : tie.Need-add-to Inv-loop μ-loop
-add-to c = search needs
-
-sub-front-answer : tie.Need-sub-front-answer Inv-loop μ-loop
-sub-front-answer c = search needs
-
-part-front-answer-start : tie.Need-part-front-answer-start Inv-loop μ-loop
-part-front-answer-start c = search needs
-
-part-front-answer-end : tie.Need-part-front-answer-end Inv-loop μ-loop
-part-front-answer-end c = search needs
+slot-requires : tie.Need-slot-requires Inv-loop μ-loop
+slot-requires c κs = search needs
 
 front-answer-requires : tie.Need-front-answer-requires Inv-loop μ-loop
 front-answer-requires c κs = search needs
 
 -- the part that is lent is exporter i's slot
 answer : (c : tie.After-front-answer Inv-loop μ-loop) → eqb (c .front-answer .result) 0 ≡ keptRow (c .before .before .before .before .before .before .before .args .store .now) (c .before .before .before .loop .i)
-answer c =
-    let i = c .before .before .before .loop .i in
-    let e : 512 * i + 512 - 512 * i ≡ 512 = omega arith in
-    ap (λ (r : ℕ). eqb r 0) (c .front-answer .ensures ∙ ap (λ (k : ℕ). frontAnswer (take k (drop (512 * i) (c .before .before .before .before .before .before .before .args .store .now)))) e)
+answer c = ap (λ (r : ℕ). eqb r 0) (c .front-answer .ensures ∙ ap frontAnswer (c .before .slot .ensures))
 
 returns : tie.Need-returns Inv-loop μ-loop
 returns c =
     let l = c .before .before .before .before .loop in
-    row-fails _ _ (l .i) (l .inv .1) (search needs) (answer (c .before)) (ap not (ne-eqb _ 0 (c .if1 .taken)))
+    check-fails _ _ (l .i) (l .inv .1) (search needs) (answer (c .before)) (ap not (ne-eqb _ 0 (c .if1 .taken)))
     ∙ kept-rows (c .before .before .before .before .before .before .before .before .args .words .now) (c .before .before .before .before .before .before .before .before .args .store .now) _ (c .before .before .before .before .before .exporter-count .ensures .0)
 
 add-i : tie.Need-add-i Inv-loop μ-loop
@@ -64,12 +47,12 @@ loop-less c = search needs
 loop-again : tie.Need-loop-again Inv-loop μ-loop
 loop-again c =
     let l = c .before .before .before .before .loop in
-    (search needs, row-passes _ _ (l .i) (l .inv .1) (search needs) (answer (c .before)) (ap not (eq-eqb _ 0 (c .if1 .left))))
+    (search needs, check-passes _ _ (l .i) (l .inv .1) (search needs) (answer (c .before)) (ap not (eq-eqb _ 0 (c .if1 .left))))
 
 returns-2 : tie.Need-returns-2 Inv-loop μ-loop
 returns-2 c =
     let l = c .before .loop in
-    rows-done _ _ (l .i) (l .inv .1) (search needs)
+    checks-done _ _ (l .i) (l .inv .1) (search needs)
     ∙ kept-rows (c .before .before .before .before .before .args .words .now) (c .before .before .before .before .before .args .store .now) _ (c .before .before .exporter-count .ensures .0)
 
 pub lists-kept-spec : {M : Type 1} → statement M
@@ -80,11 +63,7 @@ lists-kept-spec =
     μ-loop
     exporter-count-requires
     loop-holds
-    mul-from
-    add-to
-    sub-front-answer
-    part-front-answer-start
-    part-front-answer-end
+    slot-requires
     front-answer-requires
     returns
     add-i

@@ -3,12 +3,14 @@ use Prim.Native.Nat.{_≤_, _-_}
 use mathlib.Core.Path.{_≡_, refl, _∙_}
 use borrow.Author.Needs.{needs}
 use Rattle.lists.proofs.Tests.{and-left}
-use Rattle.table.proofs.judge.Checks.{everyRow, everyFrom, row-passes, row-fails, rows-done, belowRow, members-rows}
+use Rattle.table.proofs.judge.Checks.{everyRow, everyFrom, check-passes, check-fails, checks-done, belowRow, members-rows}
+use native.Mathlib.Omega.{arith}
+use Rattle.table.specs.View.{setCount}
 use Rattle.table.proofs.judge.members_live.Statement.{statement}
 use Rattle.table.proofs.judge.members_live.Tie as tie
 
 abbrev Inv-loop : tie.InvT-loop
-Inv-loop words n objects i₀ i = (n ≤ 32) × (everyRow n (belowRow objects words) ≡ everyFrom i n (belowRow objects words))
+Inv-loop words n objects i₀ i = (n ≤ setCount words) × (everyRow n (belowRow objects words) ≡ everyFrom i n (belowRow objects words))
 
 abbrev μ-loop : tie.MeasureT-loop
 μ-loop words n objects i₀ i = n - i
@@ -20,35 +22,20 @@ object-count-requires : tie.Need-object-count-requires Inv-loop μ-loop
 object-count-requires c κs = search needs
 
 loop-holds : tie.Need-loop-holds Inv-loop μ-loop
-loop-holds c = (search needs, refl)
+loop-holds c = let e = c .before .set-count .ensures .0 in (omega arith, refl)
 
-add-t7 : tie.Need-add-t7 Inv-loop μ-loop
-add-t7 c = search needs
-
-mul-t8 : tie.Need-mul-t8 Inv-loop μ-loop
-mul-t8 c = search needs
-
-shared-slice-read-t10 : tie.Need-shared-slice-read-t10 Inv-loop μ-loop
-shared-slice-read-t10 c = search needs
-
-add-t11 : tie.Need-add-t11 Inv-loop μ-loop
-add-t11 c = search needs
-
-mul-t12 : tie.Need-mul-t12 Inv-loop μ-loop
-mul-t12 c = search needs
-
-shared-slice-read-t14 : tie.Need-shared-slice-read-t14 Inv-loop μ-loop
-shared-slice-read-t14 c = search needs
+members-requires : tie.Need-members-requires Inv-loop μ-loop
+members-requires c κs = let l = c .before .loop .inv .0 in (search needs, omega arith)
 
 below-requires : tie.Need-below-requires Inv-loop μ-loop
 below-requires c κs = search needs
 
 returns : tie.Need-returns Inv-loop μ-loop
 returns c =
-    let l = c .before .before .before .before .before .loop in
+    let l = c .before .before .before .before .loop in
     λ s.
-    row-fails _ _ (l .i) (l .inv .1) (search needs) (c .before .below .ensures) (c .if1 .taken)
-    ∙ members-rows (c .before .before .before .before .before .before .before .before .before .args .words .now) s _ _ (c .before .before .before .before .before .before .before .set-count .ensures .0) (c .before .before .before .before .before .before .object-count .ensures .0) (and-left _ _ (c .before .before .before .before .before .before .before .before .before .pre .1))
+    check-fails _ _ (l .i) (l .inv .1) (search needs) (rw (c .before .before .members .ensures) at (c .before .below .ensures)) (c .if1 .taken)
+    ∙ members-rows (c .before .before .before .before .before .before .before .before .args .words .now) s _ _ (c .before .before .before .before .before .before .set-count .ensures .0) (c .before .before .before .before .before .object-count .ensures .0) (and-left _ _ (c .before .before .before .before .before .before .before .before .pre .1))
 
 add-i : tie.Need-add-i Inv-loop μ-loop
 add-i c = search needs
@@ -58,14 +45,14 @@ loop-less c = search needs
 
 loop-again : tie.Need-loop-again Inv-loop μ-loop
 loop-again c =
-    let l = c .before .before .before .before .before .loop in
-    (search needs, row-passes _ _ (l .i) (l .inv .1) (search needs) (c .before .below .ensures) (c .if1 .left))
+    let l = c .before .before .before .before .loop in
+    (l .inv .0, check-passes _ _ (l .i) (l .inv .1) (search needs) (rw (c .before .before .members .ensures) at (c .before .below .ensures)) (c .if1 .left))
 
 returns-2 : tie.Need-returns-2 Inv-loop μ-loop
 returns-2 c =
     let l = c .before .loop in
     λ s.
-    rows-done _ _ (l .i) (l .inv .1) (search needs)
+    checks-done _ _ (l .i) (l .inv .1) (search needs)
     ∙ members-rows (c .before .before .before .before .before .args .words .now) s _ _ (c .before .before .before .set-count .ensures .0) (c .before .before .object-count .ensures .0) (and-left _ _ (c .before .before .before .before .before .pre .1))
 
 pub members-live-spec : {M : Type 1} → statement M
@@ -77,12 +64,7 @@ members-live-spec =
     set-count-requires
     object-count-requires
     loop-holds
-    add-t7
-    mul-t8
-    shared-slice-read-t10
-    add-t11
-    mul-t12
-    shared-slice-read-t14
+    members-requires
     below-requires
     returns
     add-i

@@ -6,28 +6,31 @@ use borrow.Author.Needs.{needs}
 use Rattle.columns.proofs.members.Members.put.Statement.{statement}
 use Rattle.columns.proofs.members.Members.put.Tie as tie
 
+bit-requires : tie.Need-bit-requires
+bit-requires c κs = search needs
+
 put-bit-requires : tie.Need-put-bit-requires
 put-bit-requires c κs = search needs
 
 returns : tie.Need-returns
 returns c =
-    let s = c .before .before in
-    let g = s .good in
-    put-low _ _ (s .pre) _ _ (omega arith, omega arith) (c .before .if1 .taken) (c .put-bit .ensures) refl
+    let b = c .before .before in
+    let g = b .before .good in
+    put-low _ _ _ (b .bit .ensures) _ _ (omega arith, omega arith) (c .before .if1 .taken) (c .put-bit .ensures) refl
 
 put-bit-requires-2 : tie.Need-put-bit-requires-2
 put-bit-requires-2 c κs = search needs
 
 returns-2 : tie.Need-returns-2
 returns-2 c =
-    let s = c .before .before .before in
-    let g = s .good in
-    put-high _ _ (s .pre) _ _ (omega arith, omega arith) (c .before .before .if1 .left) (c .before .if2 .taken) refl (c .put-bit2 .ensures)
+    let b = c .before .before .before in
+    let g = b .before .good in
+    put-high _ _ _ (b .bit .ensures) _ _ (omega arith, omega arith) (c .before .before .if1 .left) (c .before .if2 .taken) refl (c .put-bit2 .ensures)
 
 returns-3 : tie.Need-returns-3
 returns-3 c =
-    let g = c .before .before .good in
+    let g = c .before .before .before .good in
     put-none _ _ _ (omega arith, omega arith) (c .if2 .left)
 
 pub put-spec : {M : Type 1} → statement M
-put-spec = tie.close (tie.spec put-bit-requires returns put-bit-requires-2 returns-2 returns-3)
+put-spec = tie.close (tie.spec bit-requires put-bit-requires returns put-bit-requires-2 returns-2 returns-3)

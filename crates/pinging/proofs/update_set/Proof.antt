@@ -1,0 +1,54 @@
+-- `pinging::update_set`: the rows of adds, then those of deletes; the words of the set are stored.
+use mathlib.Core.Path.{_≡_, sym, ap, _∙_}
+use native.Mathlib.Omega.{arith}
+use lib.ListN.{length, length-set}
+use borrow.Author.Needs.{needs}
+use Rattle.rules.specs.Entries.{Entries}
+use Rattle.table.specs.View.{setCount, setsOf}
+use Rattle.table.proofs.LiveRows.{sets-length}
+use Rattle.pinging.proofs.Pings.{row-updated}
+use Rattle.pinging.proofs.update_set.Statement.{statement}
+use Rattle.pinging.proofs.update_set.Tie as tie
+
+members-requires : tie.Need-members-requires
+members-requires c κs = search needs
+
+update-members-requires : tie.Need-update-members-requires
+update-members-requires c κs = search needs
+
+update-members-requires-2 : tie.Need-update-members-requires-2
+update-members-requires-2 c κs = search needs
+
+set-members-requires : tie.Need-set-members-requires
+set-members-requires c κs = search needs
+
+set-sequence-requires : tie.Need-set-sequence-requires
+set-sequence-requires c κs =
+    let start = c .before .before .before .before .before .before .before .before .before .before .before .before .before .before in
+    let ws = start .args .words .now in
+    let b = start .pre .1 in
+    let sets : setCount (c .before .before .before .set-members .last .0) ≡ setCount ws = sym (sets-length (c .before .before .before .set-members .last .0)) ∙ ap (λ (e : Entries). length (e .sets)) (c .before .before .before .set-members .ensures ws) ∙ length-set (setsOf ws) (start .args .i) _ ∙ sets-length ws in
+    (search needs, omega arith)
+
+same-length : tie.Need-same-length
+same-length c = search needs
+
+returns : tie.Need-returns
+returns c s =
+    let start = c .before .before .before .before .before .before .before .before .before .before .before .before .before .before .before .before .before in
+    let a = start .args in
+    row-updated (a .words .now) (c .before .before .before .before .before .before .set-members .last .0) (c .before .before .set-sequence .last .0) s (a .i) (a .sequence) (a .adds .now) (a .deletes .now)
+    (c .before .before .before .before .before .before .before .before .before .before .before .before .members .result) (c .before .before .before .before .before .before .before .before .before .before .update-members .result) (c .before .before .before .before .before .before .before .before .update-members2 .result) (start .pre .1) (c .before .before .before .before .before .before .before .before .before .before .before .before .members .ensures) (start .pre .2) (start .pre .3)
+    (c .before .before .before .before .before .before .before .before .before .before .update-members .ensures s) (c .before .before .before .before .before .before .before .before .update-members2 .ensures s) (c .before .before .before .before .before .before .set-members .ensures) (c .before .before .set-sequence .ensures)
+
+pub update-set-spec : {M : Type 1} → statement M
+update-set-spec =
+    tie.close
+    (tie.spec
+    members-requires
+    update-members-requires
+    update-members-requires-2
+    set-members-requires
+    set-sequence-requires
+    same-length
+    returns)

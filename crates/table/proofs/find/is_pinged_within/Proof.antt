@@ -1,0 +1,33 @@
+-- `find::is_pinged_within`: a word of the set's row.
+use native.Mathlib.Omega.{arith}
+use Rattle.columns.proofs.rows.Laws.{rowAt-getD}
+use Rattle.rules.specs.Rules.{noSet}
+use Rattle.table.specs.View.{setKind}
+use Rattle.table.proofs.LiveRows.{set-at}
+use borrow.Author.Needs.{needs}
+use Rattle.table.proofs.find.is_pinged_within.Statement.{statement}
+use Rattle.table.proofs.find.is_pinged_within.Tie as tie
+
+add-is-within : tie.Need-add-is-within
+add-is-within c = search needs
+
+mul-is-within : tie.Need-mul-is-within
+mul-is-within c = search needs
+
+shared-slice-read-is-within : tie.Need-shared-slice-read-is-within
+shared-slice-read-is-within c = search needs
+
+is-within-requires : tie.Need-is-within-requires
+is-within-requires c κs = search needs
+
+returns : tie.Need-returns
+returns c =
+    let s = c .before .before .before in
+    let ws = s .args .words .now in
+    let i = s .args .i in
+    rw (set-at ws i noSet (s .pre .1), rowAt-getD setKind ws i 2 (omega arith)) (c .is-within .ensures)
+
+pub is-pinged-within-spec : {M : Type 1} → statement M
+is-pinged-within-spec =
+    tie.close
+    (tie.spec add-is-within mul-is-within shared-slice-read-is-within is-within-requires returns)

@@ -1,0 +1,30 @@
+-- `find::oid`: a word of the object's row.
+use mathlib.Core.Path.{sym, ap, _∙_}
+use native.Mathlib.Omega.{arith}
+use Rattle.columns.proofs.rows.Laws.{rowAt-getD}
+use Rattle.rules.specs.Entries.{Object}
+use Rattle.rules.specs.Rules.{noObject}
+use Rattle.table.specs.View.{objectKind}
+use Rattle.table.proofs.LiveRows.{object-at}
+use borrow.Author.Needs.{needs}
+use Rattle.table.proofs.find.oid.Statement.{statement}
+use Rattle.table.proofs.find.oid.Tie as tie
+
+add-t3 : tie.Need-add-t3
+add-t3 c = search needs
+
+mul-t4 : tie.Need-mul-t4
+mul-t4 c = search needs
+
+shared-slice-read-t6 : tie.Need-shared-slice-read-t6
+shared-slice-read-t6 c = search needs
+
+returns : tie.Need-returns
+returns c =
+    let s = c .before in
+    let ws = s .args .words .now in
+    let i = s .args .i in
+    sym (ap (λ (r : Object). r .oid) (object-at ws i noObject (s .pre .1)) ∙ rowAt-getD objectKind ws i 0 (omega arith))
+
+pub oid-spec : {M : Type 1} → statement M
+oid-spec = tie.close (tie.spec add-t3 mul-t4 shared-slice-read-t6 returns)
