@@ -1,5 +1,5 @@
 -- The requested bindings of words in a list of bytes, one binding after the other.
-use Prim.Native.Nat.{ℕ, suc, zero, _+_, _-_, _*_, _<_, _≤_}
+use Prim.Native.Nat.{ℕ, _+_, _-_, _*_, _<_, _≤_}
 use mathlib.Core.Path.{_≡_, refl, sym, ap, _∙_}
 use mathlib.Core.Bool.{Bool, true, false, cond}
 use mathlib.Core.List.{List, [], _∷_, _++_, append-assoc}
@@ -8,11 +8,10 @@ use native.Mathlib.Numerals.{add-one}
 use borrow.Author.Tests.{eq-eqb, ne-eqb}
 use lib.ListN.{length, take, drop, getD, length-append, drop-of-length-le}
 use lib.Seq.{take-at, drop-cons}
-use Rattle.kinds.proofs.Refusing.{by-test}
 use Rattle.fields.specs.Fields.{field, written, Bytes}
 use Rattle.fields.proofs.Laws.{written-none, written-two}
 use Rattle.lists.specs.Lists.{keep, some, among}
-use Rattle.bindings.specs.Bindings.{words, firstBinding, bindingsOf, joined}
+use Rattle.bindings.specs.Bindings.{words, firstBinding, joined}
 use Rattle.bindings.specs.ListBytes.{wordBytes}
 use Rattle.bindings.specs.Filter.{requested, chosen}
 use Rattle.bindings.specs.declared.Part.the-variants.{Strings}

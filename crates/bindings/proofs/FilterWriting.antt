@@ -1,7 +1,7 @@
 -- The filtered list, by its fields, as it is written.
 use Prim.Native.Nat.{ℕ, _+_, _-_, _*_, _<_, _≤_}
-use mathlib.Core.Path.{_≡_, refl, sym, ap, _∙_}
-use mathlib.Core.Bool.{true, false}
+use mathlib.Core.Path.{_≡_, sym, ap, _∙_}
+use mathlib.Core.Bool.{false}
 use mathlib.Core.List.{List, [], _∷_, _++_, append-assoc}
 use native.Mathlib.Omega.{arith}
 use native.Mathlib.Nat.{zero-add}
@@ -9,13 +9,12 @@ use borrow.Author.Tests.{lt-ltb, le-ltb, ne-eqb}
 use lib.ListN.{length, take, drop, length-append, length-drop}
 use lib.Seq.{drop-drop, drop-at}
 use Rattle.fields.specs.Fields.{encode, written, Bytes}
-use Rattle.fields.proofs.Laws.{Run, first-field, then-field, then-bytes, take-rest}
+use Rattle.fields.proofs.Laws.{first-field, then-field, then-bytes, take-rest}
 use Rattle.kinds.specs.Refusals.{order}
 use Rattle.kinds.proofs.Refusing.{ne-differ}
 use Rattle.bindings.specs.Bindings.{words, bindingsOf, joined, isBare, count, split, partWords, listLength, listAnswer}
 use Rattle.bindings.specs.ListBytes.{wordBytes, partsBytes}
 use Rattle.bindings.specs.Filter.{requested, filtered, filterAnswer, writeFiltered}
-use Rattle.bindings.specs.declared.filter.Filtered.{Filtered}
 use Rattle.bindings.specs.declared.Part.the-variants.{Strings, Security}
 use Rattle.bindings.proofs.Parts.{length-words}
 use Rattle.bindings.proofs.Laws.{accepted, not-bare}

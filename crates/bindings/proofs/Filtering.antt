@@ -2,26 +2,26 @@
 -- are the requested ones and the whole security part.
 use Prim.Native.Nat.{ℕ, suc, zero, _+_, _-_, _*_, _<_, _≤_}
 use mathlib.Core.Path.{_≡_, refl, sym, ap, _∙_}
-use mathlib.Core.Bool.{Bool, true, false, cond, _&&_}
+use mathlib.Core.Bool.{Bool, true, false}
 use mathlib.Core.List.{List, [], _∷_, _++_, map}
 use native.Mathlib.Omega.{arith}
 use borrow.Author.Tests.{eqb-true}
 use lib.Dec.{eqb}
-use lib.ListN.{length, getD, length-append}
+use lib.ListN.{length, length-append}
 use Rattle.kinds.proofs.Refusing.{by-test, true-false}
 use Rattle.fields.specs.Fields.{Bytes}
 use Rattle.lists.specs.Lists.{keep, every, some}
 use Rattle.lists.proofs.Lists.{keep-all, keep-map, keep-none}
 use Rattle.lists.proofs.Tests.{and-left, and-right}
 use Rattle.bindings.specs.Bindings.{bindingsOf, joined, sameWords, isPart, isBare, count, split, partWords, listLength, listAnswer}
-use Rattle.bindings.specs.Layout.{Binding, Proper, AllProper, bindingWords, partLayout}
+use Rattle.bindings.specs.Layout.{Binding, AllProper, bindingWords, partLayout}
 use Rattle.bindings.specs.ListBytes.{Words16, partsBytes, ofPart}
 use Rattle.bindings.specs.Filter.{isRequested, requested, filtered, allRequested, FilteredKeeps, FilteredSame, FilteredNone}
 use Rattle.bindings.specs.declared.Part.{Part}
 use Rattle.bindings.specs.declared.Part.the-variants.{Strings, Security}
 use Rattle.bindings.proofs.Parts.{length-words, words-none, bindings-none}
-use Rattle.bindings.proofs.Laws.{bare, Accepted, accepted}
-use Rattle.bindings.proofs.Grammar.{layout-bindings, layout-part, IsLayout, part-layout}
+use Rattle.bindings.proofs.Laws.{bare, accepted}
+use Rattle.bindings.proofs.Grammar.{layout-bindings, layout-part, part-layout}
 use Rattle.bindings.proofs.ListBytes.{words-fit, field-bound, parts-words, parts-length, parts-accepted, list-remade, by-bool, same-fit}
 
 -- ---- words of 16 bits

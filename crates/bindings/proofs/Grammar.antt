@@ -9,7 +9,7 @@ use lib.ListN.{length, drop}
 use lib.Seq.{drop-append-seam}
 use Rattle.kinds.proofs.Refusing.{true-false}
 use Rattle.bindings.specs.Bindings.{throughZero, firstBinding, bindingsOf, joined, sameWords, isPart}
-use Rattle.bindings.specs.Layout.{Binding, Nonzero, Proper, AllProper, secondWords, bindingWords, partLayout}
+use Rattle.bindings.specs.Layout.{Binding, Nonzero, Proper, AllProper, secondWords, bindingWords, partLayout, IsLayout, LayoutPart, PartLayout}
 use Rattle.bindings.specs.declared.Part.{Part}
 use Rattle.bindings.specs.declared.Part.the-variants.{Strings, Security}
 use Rattle.bindings.proofs.Parts.{after, after-shorter, binding-front, bindings-end, bindings-more, part-none, part-end, part-more}
@@ -64,8 +64,7 @@ same-layout : (p : Part) (bs : List Binding) → sameWords (partLayout p bs) (jo
 unfolding partLayout
 same-layout p bs = same-words (partLayout p bs)
 
--- the layout of proper bindings is a part
-pub layout-part : (p : Part) (bs : List Binding) → AllProper bs → isPart p (partLayout p bs) ≡ true
+pub layout-part : LayoutPart
 unfolding isPart
 layout-part p bs h = rw (layout-bindings p bs h) (same-layout p bs)
 
@@ -115,11 +114,6 @@ is-binding Strings w ws l h = from-text Strings w 0 ws l (text ws h)
 is-binding Security w [] l h = absurd (h refl)
 is-binding Security w (v ∷ ws) l h = from-text Security w v ws l (text ws h)
 
-pub record IsLayout (p : Part) (ws : List ℕ) : Type 0 where
-  pub bindings : List Binding
-  pub proper : AllProper bindings
-  pub same : ws ≡ partLayout p bindings
-
 no-part : (p : Part) (ws : List ℕ) → isPart p ws ≡ true → ws ≡ [] → ⊥
 no-part p ws e z = true-false (sym e ∙ ap (isPart p) z ∙ part-none p)
 
@@ -151,6 +145,5 @@ layout-up-to (suc n) p (suc w ∷ ws) h e =
     more-layout p (suc w ∷ ws) (is-binding p (suc w) ws l (no-part p (after p (suc w ∷ ws)) r))
     (layout-up-to n p (after p (suc w ∷ ws)) (omega arith) r)
 
--- a part is the layout of proper bindings
-pub part-layout : (p : Part) (ws : List ℕ) → isPart p ws ≡ true → IsLayout p ws
+pub part-layout : PartLayout
 part-layout p ws e = let l : length ws ≤ length ws = omega arith in layout-up-to (length ws) p ws l e

@@ -4,25 +4,22 @@ use Prim.Native.Nat.{ℕ, suc, zero, _+_, _-_, _*_, _^_, _<_, _≤_}
 use mathlib.Core.Path.{_≡_, refl, sym, ap, _∙_}
 use mathlib.Core.Bool.{Bool, true, false}
 use mathlib.Core.List.{List, [], _∷_, _++_, map, append-assoc, append-nil}
-use mathlib.Core.Logic.{⊎-elim}
 use native.Mathlib.Omega.{arith}
-use native.Mathlib.Nat.{add-sub-cancel-left}
-use borrow.Author.Tests.{eqb-true, eq-eqb, leb-true}
-use lib.Dec.{eqb, leb}
+use borrow.Author.Tests.{eq-eqb, leb-true}
+use lib.Dec.{leb}
 use lib.ListN.{length, take, drop, getD, length-append, length-drop, drop-of-length-le}
-use lib.Seq.{take-at, drop-at, drop-drop, drop-cons, take-append-seam, drop-append-seam}
-use Rattle.kinds.proofs.Refusing.{true-false, by-test}
+use lib.Seq.{take-at, drop-at, drop-drop, drop-cons}
+use Rattle.kinds.proofs.Refusing.{by-test}
 use Rattle.fields.specs.Fields.{number, encode, field, Bytes}
 use Rattle.fields.proofs.Laws.{length-encode, field-as, field-then, field-next}
-use Rattle.bindings.specs.Bindings.{words, bindingsOf, joined, sameWords, isPart, isBare, count, split, partStart, partSize, partWords, twoParts, listLength, listAnswer, refusal, place, bindingAt, bytesAt}
-use Rattle.bindings.specs.Layout.{Binding, AllProper, bindingWords, partLayout}
+use Rattle.bindings.specs.Bindings.{words, bindingsOf, joined, isPart, isBare, count, split, partStart, partWords, twoParts, listLength, listAnswer, refusal, place, bindingAt}
+use Rattle.bindings.specs.Layout.{Binding, bindingWords, partLayout, IsLayout}
 use Rattle.bindings.specs.ListBytes.{Words16, wordBytes, partsBytes, bareList, listBytes, Listable, IsList, ofPart, bindingStart, Holds}
 use Rattle.bindings.specs.declared.Part.{Part}
 use Rattle.bindings.specs.declared.Part.the-variants.{Strings, Security}
-use Rattle.bindings.specs.declared.Place.{Place}
 use Rattle.bindings.proofs.Parts.{length-words, words-none, bindings-none}
-use Rattle.bindings.proofs.Laws.{bare, parts-held, front-done, Accepted, accepted, accept}
-use Rattle.bindings.proofs.Grammar.{layout-bindings, layout-part, IsLayout, part-layout}
+use Rattle.bindings.proofs.Laws.{bare, parts-held, front-done, accepted, accept}
+use Rattle.bindings.proofs.Grammar.{layout-bindings, layout-part, part-layout}
 
 -- ---- words and their bytes
 

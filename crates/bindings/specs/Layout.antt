@@ -1,7 +1,9 @@
 -- The words of a part, made of its bindings.
 use Prim.Native.Nat.{ℕ, _<_}
+use mathlib.Core.Path.{_≡_}
+use mathlib.Core.Bool.{true}
 use mathlib.Core.List.{List, [], _∷_, _++_, map}
-use Rattle.bindings.specs.Bindings.{joined}
+use Rattle.bindings.specs.Bindings.{joined, isPart}
 use Rattle.bindings.specs.declared.Part.{Part}
 use Rattle.bindings.specs.declared.Part.the-variants.{Strings, Security}
 
@@ -34,3 +36,17 @@ bindingWords p b = b .head ∷ (secondWords p (b .second) ++ (b .name ++ (0 ∷ 
 -- bindings in a row, and one zero word
 unfoldable pub partLayout : Part → List Binding → List ℕ
 partLayout p bs = joined (map (bindingWords p) bs) ++ (0 ∷ [])
+
+-- words that are the layout of proper bindings
+pub record IsLayout (p : Part) (ws : List ℕ) : Type 0 where
+  pub bindings : List Binding
+  pub proper : AllProper bindings
+  pub same : ws ≡ partLayout p bindings
+
+-- ---- a part is exactly such a layout
+
+abbrev pub LayoutPart : Type 0
+LayoutPart = (p : Part) (bs : List Binding) → AllProper bs → isPart p (partLayout p bs) ≡ true
+
+abbrev pub PartLayout : Type 0
+PartLayout = (p : Part) (ws : List ℕ) → isPart p ws ≡ true → IsLayout p ws

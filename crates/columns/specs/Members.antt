@@ -12,12 +12,12 @@ unfoldable pub bitOf : ℕ → ℕ → Bool
 bitOf w j = eqb (w / 2 ^ j % 2) 1
 
 -- row j is a member
-unfoldable pub isMember : Members → ℕ → Bool
-isMember m j = cond (ltb j 64) (bitOf (m .low) j) (ltb j 128 && bitOf (m .high) (j - 64))
+unfoldable pub hasMember : Members → ℕ → Bool
+hasMember m j = cond (ltb j 64) (bitOf (m .low) j) (ltb j 128 && bitOf (m .high) (j - 64))
 
 -- the rows that are members
 unfoldable pub memberRows : Members → List ℕ
-memberRows m = keep (isMember m) (tabulate 128 (λ j. j))
+memberRows m = keep (hasMember m) (tabulate 128 (λ j. j))
 
 -- the word with bit k set to b
 unfoldable pub putBit : ℕ → ℕ → ℕ → ℕ
@@ -34,9 +34,9 @@ InWords m = (m .low < 2 ^ 64) × (m .high < 2 ^ 64)
 -- row j is a member or not; a row of 128 or more changes nothing
 pub record MemberPut (j : ℕ) (member : Bool) (m r : Members) : Type 0 where
   pub words : InWords r
-  pub rows : (i : ℕ) → isMember r i ≡ cond (ltb j 128 && eqb i j) member (isMember m i)
+  pub rows : (i : ℕ) → hasMember r i ≡ cond (ltb j 128 && eqb i j) member (hasMember m i)
 
 -- row k is taken out, and the rows above it are one lower
 pub record Cut (k : ℕ) (m r : Members) : Type 0 where
   pub words : InWords r
-  pub member : (i : ℕ) → isMember r i ≡ isMember m (skip k i)
+  pub member : (i : ℕ) → hasMember r i ≡ hasMember m (skip k i)

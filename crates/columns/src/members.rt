@@ -5,7 +5,7 @@ ghost use lib.ListN.{length};
 ghost use lib.Count.{ones};
 ghost use lib.Dec.{eqb, ltb};
 ghost use Rattle.lists.specs.Lists.{every};
-ghost use Rattle.columns.specs.Members.{isMember, memberRows, putBit, cutBit, MemberPut, Cut};
+ghost use Rattle.columns.specs.Members.{hasMember, memberRows, putBit, cutBit, MemberPut, Cut};
 
 // Bit j of low is row j, and bit j of high is row 64 + j.
 pub struct Members {
@@ -48,7 +48,7 @@ fn ones_in(w: u64) -> usize
 impl Members {
     // Row j is a member.
     pub fn has(self, j: usize) -> bool
-        ensures { λ r. ⌜ r ≡ isMember self j ⌝ }
+        ensures { λ r. ⌜ r ≡ hasMember self j ⌝ }
     {
         if j < 64 {
             return (self.low >> j) % 2 == 1;

@@ -9,38 +9,39 @@ use lib.ListN.{length}
 use Rattle.kinds.specs.declared.Guid.{Guid}
 use Rattle.kinds.proofs.Refusing.{or-false, passed, passed-on}
 use Rattle.bindings.specs.Bindings.{listAnswer}
-use Rattle.rules.specs.Entries.{Entries}
+use Rattle.rules.specs.Entries.{Entries, exporterPlaces, objectPlaces, interfacePlaces}
 use Rattle.rules.specs.Calls.{Call}
 use Rattle.rules.specs.Rules.{refusals, number}
+use Rattle.rules.specs.Sound.{longestList}
 
 module _ (e : Entries) where
   -- an exporter's list keeps the list rules and fits its slot
   pub exporter-fits : (x : ℕ) (u : Guid) (b : List ℕ) → number (Call.enterExporter x u b) e ≡ 0
-      → (listAnswer b ≡ 0) × (length b ≤ 512) × (length (e .exporters) < 16)
+      → (listAnswer b ≡ 0) × (length b ≤ longestList) × (length (e .exporters) < exporterPlaces)
   unfolding number refusals
   exporter-fits x u b h =
       let r = passed _ 3 _ (omega arith) h in
       let s = passed-on (listAnswer b) _ (r .1) in
       let l = passed _ 19 _ (omega arith) (s .1) in
       let f = passed _ 9 _ (omega arith) (l .1) in
-      (s .0, ltb-false 512 (length b) (l .0), leb-false 16 (length (e .exporters)) (f .0))
+      (s .0, ltb-false longestList (length b) (l .0), leb-false exporterPlaces (length (e .exporters)) (f .0))
 
   -- an object needs a place for its interface too
   pub object-fits : (o x : ℕ) (i iid : Guid) (n : ℕ) (np : Bool) → number (Call.enterObject o x i iid n np) e ≡ 0
-      → (length (e .objects) < 128) × (length (e .interfaces) < 256)
+      → (length (e .objects) < objectPlaces) × (length (e .interfaces) < interfacePlaces)
   unfolding number refusals
   object-fits o x i iid n np h =
       let r = passed _ 3 _ (omega arith) h in
       let s = passed _ 4 _ (omega arith) (r .1) in
       let c = passed _ 7 _ (omega arith) (s .1) in
       let f = or-false _ _ (passed _ 9 _ (omega arith) (c .1) .0) in
-      (leb-false 128 (length (e .objects)) (f .0), leb-false 256 (length (e .interfaces)) (f .1))
+      (leb-false objectPlaces (length (e .objects)) (f .0), leb-false interfacePlaces (length (e .interfaces)) (f .1))
 
   -- an interface
-  pub interface-fits : (o : ℕ) (i iid : Guid) (n : ℕ) → number (Call.enterInterface o i iid n) e ≡ 0 → length (e .interfaces) < 256
+  pub interface-fits : (o : ℕ) (i iid : Guid) (n : ℕ) → number (Call.enterInterface o i iid n) e ≡ 0 → length (e .interfaces) < interfacePlaces
   unfolding number refusals
   interface-fits o i iid n h =
       let r = passed _ 3 _ (omega arith) h in
       let s = passed _ 5 _ (omega arith) (r .1) in
       let c = passed _ 7 _ (omega arith) (s .1) in
-      leb-false 256 (length (e .interfaces)) (passed _ 9 _ (omega arith) (c .1) .0)
+      leb-false interfacePlaces (length (e .interfaces)) (passed _ 9 _ (omega arith) (c .1) .0)

@@ -23,7 +23,7 @@ use Rattle.rules.proofs.ByRow.{oids-distinct}
 use Rattle.rules.proofs.Keeps.{fresh-sound}
 use Rattle.history.specs.History.{ExporterLife, ObjectLife, InterfaceLife, SetLife, placeOf, exporterAt, objectAt, begunWith, interfaceHeld, setHeld, begin, remaining, atZero, interfacesAtZero, exporterRemoved, unheard, objectGone, liveExporters, liveObjects, liveInterface, liveSet, noExporterLife, noObjectLife, exporterEntry, objectEntry, interfaceEntry, setEntry, live}
 use Rattle.history.specs.Runs.{Ordered, BeginsAt}
-use Rattle.history.proofs.Lives.{Serials, Named, serials-snoc, look, covered, serialOfExporter, serialOfObject, Kept}
+use Rattle.history.proofs.Lives.{Serials, Named, serials-snoc, life-found, covered, serialOfExporter, serialOfObject, Kept}
 use Rattle.history.proofs.Accounts.{none-left}
 
 -- ---- tables of lives
@@ -231,7 +231,7 @@ module _ (e : Entries) (s : sound e ≡ true) where
           record {
             oid = o .oid;
             exporter =
-                (ap (λ (x : ExporterLife). x .oxid) (look serialOfExporter noExporterLife exporter-serials (exporter-named (o .exporter) t))
+                (ap (λ (x : ExporterLife). x .oxid) (life-found serialOfExporter noExporterLife exporter-serials (exporter-named (o .exporter) t))
                 ∙ exporter-oxid (o .exporter) t) u;
             noping = o .noping;
             heard = o .heard;
@@ -257,7 +257,7 @@ module _ (e : Entries) (s : sound e ≡ true) where
           ipid = i .ipid;
           iid = i .iid;
           object =
-              (ap (λ (o : ObjectLife). o .oid) (look serialOfObject noObjectLife object-serials (object-named (i .object) object-live))
+              (ap (λ (o : ObjectLife). o .oid) (life-found serialOfObject noObjectLife object-serials (object-named (i .object) object-live))
               ∙ object-oid (i .object) object-live) u;
           counts = begun-left (i .counts) u;
         }

@@ -22,7 +22,7 @@ use Rattle.rules.specs.Rules.{enteredCounts, number, next, refusals, isLiveExpo
 use Rattle.history.specs.History.{ExporterLife, ObjectLife, Account, InterfaceLife, History, remaining, atZero, interfacesAtZero, exporterRemoved, unheard, objectGone, liveExporters, liveObjects, liveInterface, liveSet, noExporterLife, noObjectLife, exporterEntry, objectEntry, interfaceEntry, setEntry, live, withExporterLives, withObjectLives, withInterfaceLives, noAccount, enteredInterface, exporterSerial, objectSerial, lived}
 use Rattle.lists.proofs.Elements.{In, in-some, in-none, keep-in, in-last, snoc-in, map-ext-in, keep-ext-in, first-sole, some-sole, one-in, sole-by}
 use Rattle.history.proofs.Steps.{interfacesOver, setsOver, clock-live, now-heard, Step, stepped}
-use Rattle.history.proofs.Lives.{serialOfExporter, serialOfObject, serials-snoc, named-snoc, look, look-snoc, bounded-entered, Kept}
+use Rattle.history.proofs.Lives.{serialOfExporter, serialOfObject, serials-snoc, named-snoc, life-found, life-found-snoc, bounded-entered, Kept}
 use Rattle.history.proofs.Identities.{live-object, found-exporter, found-object}
 
 -- what an interface has as its entry after it is entered
@@ -57,7 +57,7 @@ module _ (h : History) (k : Kept h) (n : ExporterLife) (s : n .serial ≡ length
         oid = o .oid;
         exporter =
             (ap (λ (p : ExporterLife). p .oxid)
-            (look-snoc serialOfExporter noExporterLife (h .exporters) n (o .exporter) (k .exporters) s (k .exported o (live-object h m .0)))) u;
+            (life-found-snoc serialOfExporter noExporterLife (h .exporters) n (o .exporter) (k .exporters) s (k .exported o (live-object h m .0)))) u;
         noping = o .noping;
         heard = o .heard;
       })
@@ -162,7 +162,7 @@ module _ (h : History) (k : Kept h) (i iid : Guid) (n : ℕ) (z : eqb n 0 ≡ fa
           record {
             ipid = i;
             iid = iid;
-            object = ap (λ (p : ObjectLife). p .oid) (look serialOfObject noObjectLife (k .objects) (record { life = o; here = live-object h m .0; named = sym e })) u;
+            object = ap (λ (p : ObjectLife). p .oid) (life-found serialOfObject noObjectLife (k .objects) (record { life = o; here = live-object h m .0; named = sym e })) u;
             counts = (let w : n - 0 ≡ n = omega arith in w u ∷ replicate 8 0);
           }
 
@@ -281,7 +281,7 @@ module _ (h : History) (k : Kept h) (i iid : Guid) (n : ℕ) (z : eqb n 0 ≡ fa
             iid = l .iid;
             object =
                 ap (λ (p : ObjectLife). p .oid)
-                (look-snoc serialOfObject noObjectLife (h .objects) newObject (l .object) (k .objects) refl (k .owned l (keep-in (liveInterface h) (h .interfaces) w .0))) u;
+                (life-found-snoc serialOfObject noObjectLife (h .objects) newObject (l .object) (k .objects) refl (k .owned l (keep-in (liveInterface h) (h .interfaces) w .0))) u;
             counts = map remaining (l .accounts);
           }
 
@@ -292,7 +292,7 @@ module _ (h : History) (k : Kept h) (i iid : Guid) (n : ℕ) (z : eqb n 0 ≡ fa
             iid = iid;
             object =
                 ap (λ (p : ObjectLife). p .oid)
-                (look serialOfObject noObjectLife (serials-snoc serialOfObject (h .objects) newObject (k .objects) refl)
+                (life-found serialOfObject noObjectLife (serials-snoc serialOfObject (h .objects) newObject (k .objects) refl)
                 (record { life = newObject; here = in-last (h .objects) newObject; named = refl })) u;
             counts = (let w : n - 0 ≡ n = omega arith in w u ∷ replicate 8 0);
           }
@@ -330,7 +330,7 @@ module _ (h : History) (k : Kept h) (i iid : Guid) (n : ℕ) (z : eqb n 0 ≡ fa
             (ap (map (objectEntry h)) object-objects
             ∙ map-append (objectEntry h) (liveObjects h) (newObject ∷ [])
             ∙ ap (λ (j : ℕ). map (objectEntry h) (liveObjects h) ++ (record { oid = oid; exporter = j; noping = np; heard = h .clock } ∷ []))
-            (ap (λ (p : ExporterLife). p .oxid) (look serialOfExporter noExporterLife (k .exporters) (record { life = x; here = m; named = sym e })))) u;
+            (ap (λ (p : ExporterLife). p .oxid) (life-found serialOfExporter noExporterLife (k .exporters) (record { life = x; here = m; named = sym e })))) u;
         interfaces =
             (ap (λ (os : List ObjectLife). interfacesOver os (h .objects ++ (newObject ∷ [])) (h .interfaces ++ (firstInterface ∷ []))) object-objects
             ∙ object-interfaces) u;

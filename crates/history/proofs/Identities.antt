@@ -14,7 +14,7 @@ use Rattle.rules.specs.Entries.{Exporter, Object, Interface, PingSet}
 use Rattle.rules.specs.Rules.{isLiveExporter, isLiveObject, isLiveSet}
 use Rattle.rules.proofs.ByRow.{oxids-distinct, oids-distinct, sets-distinct, interfaces-distinct}
 use Rattle.history.specs.History.{ExporterLife, ObjectLife, InterfaceLife, SetLife, History, objectGone, liveExporters, liveObjects, liveInterface, liveSet, noObjectLife, exporterEntry, objectEntry, interfaceEntry, setEntry, live, objectSerials}
-use Rattle.history.proofs.Lives.{Kept, serialOfObject, look}
+use Rattle.history.proofs.Lives.{Kept, serialOfObject, life-found}
 
 -- a live object is an object that is not gone
 pub live-object : (h : History) {o : ObjectLife} → In o (liveObjects h) → In o (h .objects) × (objectGone h o ≡ false)
@@ -69,7 +69,7 @@ module _ (h : History) (k : Kept h) where
 
   -- an interface that names it has its OID
   pub owner-oid : (l : InterfaceLife) (o : ObjectLife) → In o (liveObjects h) → o .serial ≡ l .object → interfaceEntry h l .object ≡ o .oid
-  owner-oid l o m e = ap (λ (p : ObjectLife). p .oid) (look serialOfObject noObjectLife (k .objects) (record { life = o; here = live-object h m .0; named = e }))
+  owner-oid l o m e = ap (λ (p : ObjectLife). p .oid) (life-found serialOfObject noObjectLife (k .objects) (record { life = o; here = live-object h m .0; named = e }))
 
   -- of the live objects with one of these OIDs: a serial is one where its object's OID is one of these
   pub among-serials : (ids : List ℕ) (o : ObjectLife) → In o (liveObjects h) → among (objectSerials h ids) (o .serial) ≡ among ids (o .oid)

@@ -66,15 +66,15 @@ module _ {A : Type 0} (f : A → ℕ) where
   named-sole {xs} {n} s r = sole-by eqb eqb-decides f n (s .differ) (r .here) (r .named)
 
   -- it is found by its serial
-  pub look : {xs : List A} {n : ℕ} (d : A) → Serials f xs → (r : Named f xs n) → firstOr d (λ y. eqb (f y) n) xs ≡ r .life
-  look {xs} {n} d s r = first-sole (λ y. eqb (f y) n) d (named-sole s r)
+  pub life-found : {xs : List A} {n : ℕ} (d : A) → Serials f xs → (r : Named f xs n) → firstOr d (λ y. eqb (f y) n) xs ≡ r .life
+  life-found {xs} {n} d s r = first-sole (λ y. eqb (f y) n) d (named-sole s r)
 
   -- also among one more
-  pub look-snoc : (d : A) (xs : List A) (x : A) (n : ℕ) → Serials f xs → f x ≡ length xs → Named f xs n
+  pub life-found-snoc : (d : A) (xs : List A) (x : A) (n : ℕ) → Serials f xs → f x ≡ length xs → Named f xs n
       → firstOr d (λ y. eqb (f y) n) (xs ++ (x ∷ [])) ≡ firstOr d (λ y. eqb (f y) n) xs
-  look-snoc d xs x n s e r =
+  life-found-snoc d xs x n s e r =
       first-sole (λ y. eqb (f y) n) d (sole-by eqb eqb-decides f n (serials-snoc xs x s e .differ) (Memᴰ·append-left (x ∷ []) (r .here)) (r .named))
-      ∙ sym (look d s r)
+      ∙ sym (life-found d s r)
 
 -- ---- what holds of every history
 

@@ -17,7 +17,7 @@ use Rattle.contexts.specs.Contexts.{propertyLength, propertyAnswer, propertiesA
 use Rattle.elements.specs.Elements.{isReference, elementContent, elementFront, elementEnd, contentAnswer, elementAnswer}
 use Rattle.references.specs.References.{isCustom, isExtended, objectAnswer, elementStart, headAnswer, plainAnswer, extendedFront, extendedAnswer, formAnswer, layoutBy, layoutAnswer, referenceAnswer}
 use Rattle.lists.proofs.Tests.{below-or-not}
-use Rattle.rules.specs.Entries.{Entries}
+use Rattle.rules.specs.Entries.{Entries, exporterPlaces, objectPlaces, interfacePlaces, setPlaces}
 use Rattle.rules.specs.Calls.{Call, reset, enterExporter, removeExporter, enterObject, enterInterface, add, release, dropClient, countList, simplePing, complexPing, clock, resolve, resolveFiltered, census, members, nextStop}
 use Rattle.rules.specs.Rules.{refusals, number}
 use Rattle.rules.specs.Contract.{Memory}
@@ -37,10 +37,10 @@ unfolding order above
 none = record { nine = refl }
 
 -- a row of another number
-past : {rs : List Row} {full : Bool} (b : Bool) (n : ℕ) → (n ≡ 9 → ⊥) → (b ≡ true → n ≡ 0 → ⊥) → Rows rs full → Rows (b gives n ∷ rs) full
+row-before : {rs : List Row} {full : Bool} (b : Bool) (n : ℕ) → (n ≡ 9 → ⊥) → (b ≡ true → n ≡ 0 → ⊥) → Rows rs full → Rows (b gives n ∷ rs) full
 unfolding order above
-past {rs} {full} true n d z r = record { nine = rw (ne-eqb n 9 d) (rw (ne-eqb n 0 (z refl)) refl) }
-past {rs} {full} false n d z r = record { nine = rw (ne-eqb n 9 d) (r .nine) }
+row-before {rs} {full} true n d z r = record { nine = rw (ne-eqb n 9 d) (rw (ne-eqb n 0 (z refl)) refl) }
+row-before {rs} {full} false n d z r = record { nine = rw (ne-eqb n 9 d) (r .nine) }
 
 -- a row of 9, before rows that do not give it
 here : {rs : List Row} (b : Bool) → Rows rs false → Rows (b gives 9 ∷ rs) b
@@ -54,11 +54,11 @@ not-nine {rs} r = eqb-false (order rs) 9 (r .nine ∙ and-false (eqb (order (abo
 
 -- an answer that is passed on
 passing : {rs : List Row} {full : Bool} (n : ℕ) → (n ≡ 9 → ⊥) → Rows rs full → Rows (passes n ∷ rs) full
-passing n d r = past (differ n 0) n d (λ t. eqb-false n 0 (not-true (eqb n 0) t)) r
+passing n d r = row-before (differ n 0) n d (λ t. eqb-false n 0 (not-true (eqb n 0) t)) r
 
 -- a row of a number that is neither 9 nor 0
 other : {b : Bool} {n : ℕ} {rs : List Row} {full : Bool} → eqb n 9 ≡ false → eqb n 0 ≡ false → Rows rs full → Rows (b gives n ∷ rs) full
-other {b} {n} d z r = past b n (eqb-false n 9 d) (λ t. eqb-false n 0 z) r
+other {b} {n} d z r = row-before b n (eqb-false n 9 d) (λ t. eqb-false n 0 z) r
 
 -- rows by a test, of which one gives 9
 either : {rs ss : List Row} {full : Bool} (b : Bool) → Rows rs full → Rows ss false → Rows (cond b rs ss) (b && full)
@@ -159,10 +159,10 @@ reference-answer s = not-nine (passing (layoutAnswer 8 s) (layout-answer 8 s) (o
 
 -- no kind has more entries than places
 pub record Placed (e : Entries) : Type 0 where
-  pub exporters : length (e .exporters) ≤ 16
-  pub objects : length (e .objects) ≤ 128
-  pub interfaces : length (e .interfaces) ≤ 256
-  pub sets : length (e .sets) ≤ 32
+  pub exporters : length (e .exporters) ≤ exporterPlaces
+  pub objects : length (e .objects) ≤ objectPlaces
+  pub interfaces : length (e .interfaces) ≤ interfacePlaces
+  pub sets : length (e .sets) ≤ setPlaces
 
 -- then as many or more are as many
 full-places : (places n : ℕ) → n ≤ places → leb places n ≡ eqb n places
@@ -177,13 +177,13 @@ rows : (c : Call) (e : Entries) → Placed e → Rows (refusals c e) (needsFullK
 unfolding refusals needsFullKind
 rows (reset t) e p = none
 rows (enterExporter x u b) e p =
-    other refl refl (passing (listAnswer b) (list-answer b) (other refl refl (rw (sym (full-places 16 (length (e .exporters)) (p .exporters))) (here _ none))))
+    other refl refl (passing (listAnswer b) (list-answer b) (other refl refl (rw (sym (full-places exporterPlaces (length (e .exporters)) (p .exporters))) (here _ none))))
 rows (removeExporter x) e p = other refl refl none
 rows (enterObject o x i iid n np) e p =
     other refl refl (other refl refl (other refl refl
-    (rw (sym (full-places 128 (length (e .objects)) (p .objects)), sym (full-places 256 (length (e .interfaces)) (p .interfaces))) (here _ none))))
+    (rw (sym (full-places objectPlaces (length (e .objects)) (p .objects)), sym (full-places interfacePlaces (length (e .interfaces)) (p .interfaces))) (here _ none))))
 rows (enterInterface o i iid n) e p =
-    other refl refl (other refl refl (other refl refl (rw (sym (full-places 256 (length (e .interfaces)) (p .interfaces))) (here _ none))))
+    other refl refl (other refl refl (other refl refl (rw (sym (full-places interfacePlaces (length (e .interfaces)) (p .interfaces))) (here _ none))))
 rows (add c i m n) e p = other refl refl (other refl refl (other refl refl none))
 rows (release c i m n) e p = other refl refl (other refl refl none)
 rows (dropClient c) e p = other refl refl none
@@ -192,7 +192,7 @@ rows (simplePing s) e p = other refl refl none
 rows (complexPing s n adds dels) e p =
     other refl refl
     (either (eqb s 0)
-    (other refl refl (rw (sym (full-places 32 (length (e .sets)) (p .sets))) (here _ (other refl refl none))))
+    (other refl refl (rw (sym (full-places setPlaces (length (e .sets)) (p .sets))) (here _ (other refl refl none))))
     (other refl refl (other refl refl (other refl refl none))))
 rows (clock t) e p = other refl refl none
 rows (resolve x buffer) e p = other refl refl (other refl refl none)

@@ -8,7 +8,7 @@ use lib.Dec.{eqb, ltb, leb}
 use Rattle.kinds.specs.Refusals.{Row, order}
 use Rattle.lists.specs.Lists.{keep, every, distinct, among, some, tabulate}
 use Rattle.lists.specs.Guids.{sameGuid}
-use Rattle.rules.specs.Entries.{Object, Interface, PingSet, Entries, fresh, oxids, oids, setNumbers, ipids, countOf}
+use Rattle.rules.specs.Entries.{Object, Interface, PingSet, Entries, fresh, oxids, oids, setNumbers, ipids, countOf, exporterPlaces, objectPlaces, interfacePlaces, setPlaces}
 use Rattle.rules.specs.Calls.{Call, reset, enterExporter, removeExporter, enterObject, enterInterface, add, release, dropClient, countList, simplePing, complexPing, clock, resolve, resolveFiltered, census, members, nextStop, Reply}
 use Rattle.rules.specs.Items.{itemAt, itemCount, itemCall}
 use Rattle.rules.specs.Sound.{sound}
@@ -71,16 +71,16 @@ goneExactly h e =
 -- a kind that the call needs has as many live entries as places
 unfoldable pub needsFullKind : Call → Entries → Bool
 needsFullKind (reset t) e = false
-needsFullKind (enterExporter x u b) e = eqb (length (e .exporters)) 16
+needsFullKind (enterExporter x u b) e = eqb (length (e .exporters)) exporterPlaces
 needsFullKind (removeExporter x) e = false
-needsFullKind (enterObject o x i iid n np) e = eqb (length (e .objects)) 128 || eqb (length (e .interfaces)) 256
-needsFullKind (enterInterface o i iid n) e = eqb (length (e .interfaces)) 256
+needsFullKind (enterObject o x i iid n np) e = eqb (length (e .objects)) objectPlaces || eqb (length (e .interfaces)) interfacePlaces
+needsFullKind (enterInterface o i iid n) e = eqb (length (e .interfaces)) interfacePlaces
 needsFullKind (add c i p q) e = false
 needsFullKind (release c i p q) e = false
 needsFullKind (dropClient c) e = false
 needsFullKind (countList w c s b) e = false
 needsFullKind (simplePing s) e = false
-needsFullKind (complexPing s n adds dels) e = eqb s 0 && eqb (length (e .sets)) 32
+needsFullKind (complexPing s n adds dels) e = eqb s 0 && eqb (length (e .sets)) setPlaces
 needsFullKind (clock t) e = false
 needsFullKind (resolve x buffer) e = false
 needsFullKind (resolveFiltered x protocols buffer) e = false

@@ -9,7 +9,7 @@ use borrow.Author.Tests.{le-leb, lt-leb}
 use lib.Dec.{leb}
 use lib.ListN.{length, getD, set, length-map}
 use Rattle.lists.specs.Lists.{tabulate, among}
-use Rattle.columns.specs.Members.{isMember}
+use Rattle.columns.specs.Members.{hasMember}
 use Rattle.columns.specs.declared.members.Members.{Members}
 use Rattle.lists.proofs.Tests.{true-or-false, below-or-not, same-or-not}
 use Rattle.lists.proofs.Lists.{getD-map, getD-tabulate, tabulate-ext, set-tabulate, map-tabulate, tabulate-getD}
@@ -27,37 +27,37 @@ module _ (m : Members) (e : Entries) where
 
   -- the members from row i on are heard
   abbrev pub heardFrom : ℕ → Entries
-  heardFrom i = withObjects (tabulate (length (e .objects)) (λ j. heardIf (leb i j && isMember m j) j)) e
+  heardFrom i = withObjects (tabulate (length (e .objects)) (λ j. heardIf (leb i j && hasMember m j) j)) e
 
   -- no row yet
   pub heard-none : (n : ℕ) → n ≡ length (e .objects) → e ≡ heardFrom n
   heard-none n h =
       ap (λ (os : List Object). withObjects os e)
       (sym (tabulate-getD (e .objects) noObject)
-      ∙ tabulate-ext (length (e .objects)) (λ j. getD (e .objects) j noObject) (λ j. heardIf (leb n j && isMember m j) j) (λ j b. rw (lt-leb n j (omega arith))))
+      ∙ tabulate-ext (length (e .objects)) (λ j. getD (e .objects) j noObject) (λ j. heardIf (leb n j && hasMember m j) j) (λ j b. rw (lt-leb n j (omega arith))))
 
   -- one row
   pub heard-row : (n i : ℕ) → n ≡ suc i → i < length (e .objects) → heardRow m i (heardFrom n) ≡ heardFrom i
   heard-row n i z h =
       ⊎-elim
-      (λ (t : isMember m i ≡ true).
+      (λ (t : hasMember m i ≡ true).
       rw t
       (ap (λ (os : List Object). withObjects os e)
       (ap (set (tabulate size (at n)) i) (ap (heardAt (e .clock)) (getD-tabulate size (at n) noObject i h ∙ last) ∙ sym (here t))
       ∙ sym (set-tabulate size i (at n) (at i) h (λ j b d. other j d)))))
-      (λ (f : isMember m i ≡ false). rw f (ap (λ (os : List Object). withObjects os e) (tabulate-ext size (at n) (at i) (λ j b. sym (unheard f j)))))
-      (true-or-false (isMember m i))
+      (λ (f : hasMember m i ≡ false). rw f (ap (λ (os : List Object). withObjects os e) (tabulate-ext size (at n) (at i) (λ j b. sym (unheard f j)))))
+      (true-or-false (hasMember m i))
     where
       size : ℕ
       size = length (e .objects)
 
       at : ℕ → ℕ → Object
-      at k j = heardIf (leb k j && isMember m j) j
+      at k j = heardIf (leb k j && hasMember m j) j
 
       last : at n i ≡ getD (e .objects) i noObject
       last = rw (lt-leb n i (omega arith))
 
-      here : isMember m i ≡ true → at i i ≡ heardAt (e .clock) (getD (e .objects) i noObject)
+      here : hasMember m i ≡ true → at i i ≡ heardAt (e .clock) (getD (e .objects) i noObject)
       here t = rw (le-leb i i (omega arith), t)
 
       other : (j : ℕ) → (j ≡ i → ⊥) → at i j ≡ at n j
@@ -67,7 +67,7 @@ module _ (m : Members) (e : Entries) where
           (λ (b : i ≤ j). rw (le-leb i j b, le-leb n j (omega arith)))
           (below-or-not j i)
 
-      unheard : isMember m i ≡ false → (j : ℕ) → at i j ≡ at n j
+      unheard : hasMember m i ≡ false → (j : ℕ) → at i j ≡ at n j
       unheard f j = ⊎-elim (λ (s : j ≡ i). rw (s, f, and-false (leb i i), and-false (leb n i))) (λ d. other j d) (same-or-not j i)
 
   -- every row
@@ -77,14 +77,14 @@ module _ (m : Members) (e : Entries) where
       let ms : List ℕ = memberValues (oids e) m in
       let heard : Object → Object = λ o. cond (among ms (o .oid)) (heardAt (e .clock) o) o in
       ap (λ (os : List Object). withObjects os e)
-      (tabulate-ext size (λ j. heardIf (leb n j && isMember m j) j) (λ j. heard (getD (e .objects) j noObject))
+      (tabulate-ext size (λ j. heardIf (leb n j && hasMember m j) j) (λ j. heard (getD (e .objects) j noObject))
       (λ j b.
       rw (le-leb n j (omega arith))
       (ap (λ (t : Bool). heardIf t j) (member j b)))
       ∙ sym (map-tabulate heard size (λ j. getD (e .objects) j noObject))
       ∙ ap (map heard) (tabulate-getD (e .objects) noObject))
     where
-      member : (j : ℕ) → j < length (e .objects) → isMember m j ≡ among (memberValues (oids e) m) (getD (e .objects) j noObject .oid)
+      member : (j : ℕ) → j < length (e .objects) → hasMember m j ≡ among (memberValues (oids e) m) (getD (e .objects) j noObject .oid)
       member j b =
           let n = length-map (e .objects) (λ (o : Object). o .oid) in
           sym (member-among (oids e) p m j (omega arith) (omega arith)) ∙ ap (among (memberValues (oids e) m)) (getD-map (λ (o : Object). o .oid) (e .objects) noObject 0 j b)

@@ -10,7 +10,7 @@ use lib.Dec.{eqb, ltb}
 use lib.ListN.{length, getD, List·getD-eq-default}
 use Rattle.kinds.proofs.Refusing.{true-false}
 use Rattle.lists.specs.Lists.{tabulate, keep, nonzero, some, distinct, firstIndex, among}
-use Rattle.columns.specs.Members.{isMember, memberRows, InWords, MemberPut}
+use Rattle.columns.specs.Members.{hasMember, memberRows, InWords, MemberPut}
 use Rattle.columns.specs.declared.members.Members.{Members}
 use Rattle.lists.proofs.Tests.{true-or-false, below-or-not, and-left}
 use Rattle.lists.proofs.Lists.{every-at, every-tabulate, some-map, some-keep, some-tabulate, none-some, some-one, some-append, keep-map, keep-ext-on, tabulate-getD, map-tabulate}
@@ -39,35 +39,35 @@ module _ (ids : List ℕ) (p : proper ids ≡ true) where
       (below-or-not j (length ids))
 
   -- the OID of a row is among the members' just where the row is a member
-  pub member-among : (m : Members) (k : ℕ) → k < length ids → length ids ≤ 128 → among (memberValues ids m) (getD ids k 0) ≡ isMember m k
+  pub member-among : (m : Members) (k : ℕ) → k < length ids → length ids ≤ 128 → among (memberValues ids m) (getD ids k 0) ≡ hasMember m k
   unfolding memberRows
   member-among m k h l =
       some-map (eqb (getD ids k 0)) (λ j. getD ids j 0) (memberRows m)
-      ∙ some-keep (λ j. eqb (getD ids k 0) (getD ids j 0)) (isMember m) (tabulate 128 (λ j. j))
+      ∙ some-keep (λ j. eqb (getD ids k 0) (getD ids j 0)) (hasMember m) (tabulate 128 (λ j. j))
       ∙ ⊎-elim
-      (λ (t : isMember m k ≡ true). some-tabulate test 128 (λ j. j) k (omega arith) (rw (t, eqb-decides .self (getD ids k 0))) ∙ sym t)
-      (λ (f : isMember m k ≡ false). none-some test (tabulate 128 (λ j. j)) (every-tabulate (λ j. not (test j)) 128 (λ j. j) (λ j b. ap not (other f j))) ∙ sym f)
-      (true-or-false (isMember m k))
+      (λ (t : hasMember m k ≡ true). some-tabulate test 128 (λ j. j) k (omega arith) (rw (t, eqb-decides .self (getD ids k 0))) ∙ sym t)
+      (λ (f : hasMember m k ≡ false). none-some test (tabulate 128 (λ j. j)) (every-tabulate (λ j. not (test j)) 128 (λ j. j) (λ j b. ap not (other f j))) ∙ sym f)
+      (true-or-false (hasMember m k))
     where
       test : ℕ → Bool
-      test j = isMember m j && eqb (getD ids k 0) (getD ids j 0)
+      test j = hasMember m j && eqb (getD ids k 0) (getD ids j 0)
 
-      other : isMember m k ≡ false → (j : ℕ) → test j ≡ false
+      other : hasMember m k ≡ false → (j : ℕ) → test j ≡ false
       other f j =
           ⊎-elim
           (λ (t : eqb (getD ids k 0) (getD ids j 0) ≡ true). rw (one-row k j h (eqb-true _ _ t), f))
-          (λ (t : eqb (getD ids k 0) (getD ids j 0) ≡ false). rw t (and-false (isMember m j)))
+          (λ (t : eqb (getD ids k 0) (getD ids j 0) ≡ false). rw t (and-false (hasMember m j)))
           (true-or-false (eqb (getD ids k 0) (getD ids j 0)))
 
   -- members below the number of OIDs are the OIDs that a test keeps, where the test says who is a member
-  pub members-kept : (m : Members) (q : ℕ → Bool) → length ids ≤ 128 → ((j : ℕ) → length ids ≤ j → isMember m j ≡ false)
-      → ((j : ℕ) → j < length ids → isMember m j ≡ q (getD ids j 0)) → memberValues ids m ≡ keep q ids
+  pub members-kept : (m : Members) (q : ℕ → Bool) → length ids ≤ 128 → ((j : ℕ) → length ids ≤ j → hasMember m j ≡ false)
+      → ((j : ℕ) → j < length ids → hasMember m j ≡ q (getD ids j 0)) → memberValues ids m ≡ keep q ids
   members-kept m q l none same =
       let n = length ids in
       let value : ℕ → ℕ = λ j. getD ids j 0 in
       ap (map value)
       (members-below n m (below-holds n m none) l
-      ∙ keep-ext-on (λ j. ltb j n) (isMember m) (λ j. q (value j)) (λ j b. same j (ltb-true j n b)) (tabulate n (λ j. j)) (every-tabulate (λ j. ltb j n) n (λ j. j) (λ j b. lt-ltb j n b)))
+      ∙ keep-ext-on (λ j. ltb j n) (hasMember m) (λ j. q (value j)) (λ j b. same j (ltb-true j n b)) (tabulate n (λ j. j)) (every-tabulate (λ j. ltb j n) n (λ j. j) (λ j b. lt-ltb j n b)))
       ∙ sym (keep-map q value (tabulate n (λ j. j)))
       ∙ ap (keep q) (map-tabulate value n (λ j. j) ∙ tabulate-getD ids 0)
 
@@ -141,8 +141,8 @@ module _ (ids : List ℕ) (p : proper ids ≡ true) where
               let o : ℕ = getD ids j 0 in
               b .rows j
               ∙ ap (cond (ltb j (length ids) && among (oid ∷ []) o) member) (a .rows j)
-              ∙ later (ltb j (length ids)) (among listed o) (among (oid ∷ []) o) (isMember m j)
-              ∙ ap (λ (t : Bool). cond (ltb j (length ids) && t) member (isMember m j)) (sym (some-append (eqb o) listed (oid ∷ [])));
+              ∙ later (ltb j (length ids)) (among listed o) (among (oid ∷ []) o) (hasMember m j)
+              ∙ ap (λ (t : Bool). cond (ltb j (length ids) && t) member (hasMember m j)) (sym (some-append (eqb o) listed (oid ∷ [])));
         }
       where
         later : (t a b w : Bool) → cond (t && b) member (cond (t && a) member w) ≡ cond (t && (a || b)) member w
@@ -152,7 +152,7 @@ module _ (ids : List ℕ) (p : proper ids ≡ true) where
         later true false b w = refl
 
   -- adds, then deletes: the OIDs that stay or join, and are not deleted
-  pub new-members : (adds dels : List ℕ) (m a r : Members) → length ids ≤ 128 → ((j : ℕ) → length ids ≤ j → isMember m j ≡ false) → MembersUpdated true ids adds m a → MembersUpdated false ids dels a r
+  pub new-members : (adds dels : List ℕ) (m a r : Members) → length ids ≤ 128 → ((j : ℕ) → length ids ≤ j → hasMember m j ≡ false) → MembersUpdated true ids adds m a → MembersUpdated false ids dels a r
       → memberValues ids r ≡ keep (λ (o : ℕ). (among (memberValues ids m) o || among adds o) && not (among dels o)) ids
   new-members adds dels m a r l none p q =
       members-kept r (λ o. (among (memberValues ids m) o || among adds o) && not (among dels o)) l
@@ -160,7 +160,7 @@ module _ (ids : List ℕ) (p : proper ids ≡ true) where
       (λ j h.
       q .rows j
       ∙ ap (cond (ltb j (length ids) && among dels (getD ids j 0)) false) (p .rows j)
-      ∙ rw (lt-ltb j (length ids) h, member-among m j h l) (chosen (isMember m j) (among adds (getD ids j 0)) (among dels (getD ids j 0))))
+      ∙ rw (lt-ltb j (length ids) h, member-among m j h l) (chosen (hasMember m j) (among adds (getD ids j 0)) (among dels (getD ids j 0))))
     where
       chosen : (w a d : Bool) → cond d false (cond a true w) ≡ ((w || a) && not d)
       chosen w a true = sym (and-false (w || a))

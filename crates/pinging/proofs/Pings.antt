@@ -12,7 +12,7 @@ use lib.Seq.{getD-set-same, set-set}
 use Rattle.kinds.specs.Refusals.{Row, order, _gives_}
 use Rattle.kinds.proofs.Refusing.{passed}
 use Rattle.lists.specs.Lists.{every, among}
-use Rattle.columns.specs.Members.{isMember}
+use Rattle.columns.specs.Members.{hasMember}
 use Rattle.columns.specs.declared.members.Members.{Members}
 use Rattle.lists.proofs.Tests.{true-or-false, and-intro}
 use Rattle.lists.proofs.Lists.{every-snoc}
@@ -100,7 +100,7 @@ row-updated ws ws₁ ws₂ s i n adds dels m a r h held p l joins leaves put cou
     let z = oids-length ws in
     let b = sets-length ws in
     let below = below-at ws (live-below ws s p l) i h in
-    let none : (j : ℕ) → length (oids e) ≤ j → isMember m j ≡ false = λ j g. rw held (below-none (objectCount ws) (membersAt ws i) below j (omega arith)) in
+    let none : (j : ℕ) → length (oids e) ≤ j → hasMember m j ≡ false = λ j g. rw held (below-none (objectCount ws) (membersAt ws i) below j (omega arith)) in
     count s
     ∙ ap (changeSet i (withSequence n)) (put s)
     ∙ change-twice e i (withSequence n) (withMembers (memberValues (oids e) r)) (omega arith)

@@ -6,7 +6,7 @@ use mathlib.Core.List.{List}
 use lib.Dec.{eqb, ltb}
 use lib.ListN.{length, getD}
 use Rattle.lists.specs.Lists.{firstIndex, among}
-use Rattle.columns.specs.Members.{isMember, InWords}
+use Rattle.columns.specs.Members.{hasMember, InWords}
 use Rattle.columns.specs.declared.members.Members.{Members}
 use Rattle.rules.specs.Entries.{Entries, setNumbers, heardAt}
 use Rattle.rules.specs.Rules.{makeSet}
@@ -14,12 +14,12 @@ use Rattle.table.specs.Edits.{changeObject}
 
 -- the object at row i is heard now, where it is a member
 abbrev pub heardRow : Members → ℕ → Entries → Entries
-heardRow m i e = cond (isMember m i) (changeObject i (heardAt (e .clock)) e) e
+heardRow m i e = cond (hasMember m i) (changeObject i (heardAt (e .clock)) e) e
 
 -- the rows of objects whose OIDs are in a list became members, or no members any more; the other rows stayed
 pub record MembersUpdated (member : Bool) (ids listed : List ℕ) (m r : Members) : Type 0 where
   pub words : InWords r
-  pub rows : (j : ℕ) → isMember r j ≡ cond (ltb j (length ids) && among listed (getD ids j 0)) member (isMember m j)
+  pub rows : (j : ℕ) → hasMember r j ≡ cond (ltb j (length ids) && among listed (getD ids j 0)) member (hasMember m j)
 
 -- the entries with the set that a complex ping is about: set 0 stands for the set that it makes
 abbrev pub withPingSet : ℕ → Entries → Entries

@@ -8,7 +8,7 @@ use borrow.Author.Tests.{ltb-true}
 use lib.ListN.{length, getD, length-map}
 use lib.Dec.{eqb, ltb}
 use Rattle.lists.specs.Lists.{keep, every, distinct, tabulate}
-use Rattle.columns.specs.Members.{isMember, memberRows}
+use Rattle.columns.specs.Members.{hasMember, memberRows}
 use Rattle.lists.proofs.Lists.{every-at, every-at-or, map-tabulate, tabulate-getD}
 use Rattle.lists.proofs.Distinct.{sublist-keep}
 use Rattle.columns.proofs.members.Bits.{members-below}
@@ -49,7 +49,7 @@ sets-sized m fits t s l =
           (here
           ∙ ap (map (λ j. getD (oidsOf ws) j 0))
           (members-below (length (oidsOf ws)) (membersAt ws r) (rw (oids-length ws) (below-at ws (live-below ws (m .store) (f .objectsProper) (f .setMembersLive)) r row)) (let q = oids-length ws in let b = places ws in omega arith)))
-          ∙ rows-differ (oidsOf ws) (isMember (membersAt ws r)) (oids-distinct (view m) (table-fields view m t .entries));
+          ∙ rows-differ (oidsOf ws) (hasMember (membersAt ws r)) (oids-distinct (view m) (table-fields view m t .entries));
     }
   where
     ws : List ℕ

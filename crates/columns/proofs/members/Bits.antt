@@ -11,7 +11,7 @@ use lib.ListN.{getD}
 use lib.Pow.{high, low}
 use lib.Dec.{eqb, ltb}
 use Rattle.lists.specs.Lists.{keep, every, tabulate, deleteAt, skip}
-use Rattle.columns.specs.Members.{bitOf, isMember, memberRows, Cut}
+use Rattle.columns.specs.Members.{bitOf, hasMember, memberRows, Cut}
 use Rattle.columns.specs.declared.members.Members.{Members}
 use Rattle.lists.proofs.Tests.{true-or-false, below-or-not}
 use Rattle.lists.proofs.Lists.{every-keep, keep-ext, keep-nil, keep-no, keep-append, keep-map, keep-comm, map-ext, map-map, length-tabulate, getD-tabulate, tabulate-snoc, map-tabulate, every-tabulate, every-tabulate-at, skip-from, getD-delete, delete-tabulate, delete-keep}
@@ -19,22 +19,22 @@ use Rattle.columns.proofs.members.WordBits.{bit-past}
 
 module _ (m : Members) where
   -- a row below 64 is a bit of the low word
-  pub member-low : (j : ℕ) → j < 64 → isMember m j ≡ bitOf (m .low) j
-  unfolding isMember
+  pub member-low : (j : ℕ) → j < 64 → hasMember m j ≡ bitOf (m .low) j
+  unfolding hasMember
   member-low j h = rw (lt-ltb j 64 h)
 
   -- a row from 64 to 127 is a bit of the high word
-  pub member-high : (j : ℕ) → 64 ≤ j → j < 128 → isMember m j ≡ bitOf (m .high) (j - 64)
-  unfolding isMember
+  pub member-high : (j : ℕ) → 64 ≤ j → j < 128 → hasMember m j ≡ bitOf (m .high) (j - 64)
+  unfolding hasMember
   member-high j h b = rw (le-ltb j 64 h, lt-ltb j 128 b)
 
   -- a row of 128 or more is no member
-  pub member-past : (j : ℕ) → 128 ≤ j → isMember m j ≡ false
-  unfolding isMember
+  pub member-past : (j : ℕ) → 128 ≤ j → hasMember m j ≡ false
+  unfolding hasMember
   member-past j h = rw (le-ltb j 64 (omega arith), le-ltb j 128 h)
 
   -- from 64 on, a member is a bit of the high word
-  pub member-from : m .high < 2 ^ 64 → (j : ℕ) → 64 ≤ j → isMember m j ≡ bitOf (m .high) (j - 64)
+  pub member-from : m .high < 2 ^ 64 → (j : ℕ) → 64 ≤ j → hasMember m j ≡ bitOf (m .high) (j - 64)
   member-from f j h =
       ⊎-elim
       (λ (b : j < 128). member-high j h b)
@@ -42,7 +42,7 @@ module _ (m : Members) where
       (below-or-not j 128)
 
 -- one row is a member of both or of none
-pub member-same : (m r : Members) (i : ℕ) → (i < 64 → bitOf (r .low) i ≡ bitOf (m .low) i) → (64 ≤ i → bitOf (r .high) (i - 64) ≡ bitOf (m .high) (i - 64)) → isMember r i ≡ isMember m i
+pub member-same : (m r : Members) (i : ℕ) → (i < 64 → bitOf (r .low) i ≡ bitOf (m .low) i) → (64 ≤ i → bitOf (r .high) (i - 64) ≡ bitOf (m .high) (i - 64)) → hasMember r i ≡ hasMember m i
 member-same m r i f g =
     ⊎-elim
     (λ (h : i < 64). member-low r i h ∙ f h ∙ sym (member-low m i h))
@@ -71,49 +71,49 @@ keep-to p n (suc d) h =
     ∙ keep-to p n d h)
 
 -- no rows
-pub members-none : (m : Members) → ((i : ℕ) → isMember m i ≡ false) → memberRows m ≡ []
+pub members-none : (m : Members) → ((i : ℕ) → hasMember m i ≡ false) → memberRows m ≡ []
 unfolding memberRows tabulate
-members-none m h = keep-to (isMember m) 0 128 (λ j b. h j) ∙ keep-nil (isMember m)
+members-none m h = keep-to (hasMember m) 0 128 (λ j b. h j) ∙ keep-nil (hasMember m)
 
 -- every member is below n
 module _ (n : ℕ) (m : Members) where
   -- the test of every member is a test of every row
-  below-tests : every (λ j. ltb j n) (memberRows m) ≡ every (λ j. not (isMember m j) || ltb j n) (tabulate 128 (λ j. j))
+  below-tests : every (λ j. ltb j n) (memberRows m) ≡ every (λ j. not (hasMember m j) || ltb j n) (tabulate 128 (λ j. j))
   unfolding memberRows
-  below-tests = every-keep (λ j. ltb j n) (isMember m) (tabulate 128 (λ j. j))
+  below-tests = every-keep (λ j. ltb j n) (hasMember m) (tabulate 128 (λ j. j))
 
   -- no row from n on is a member
-  pub below-holds : ((j : ℕ) → n ≤ j → isMember m j ≡ false) → every (λ j. ltb j n) (memberRows m) ≡ true
+  pub below-holds : ((j : ℕ) → n ≤ j → hasMember m j ≡ false) → every (λ j. ltb j n) (memberRows m) ≡ true
   below-holds h =
       below-tests
-      ∙ every-tabulate (λ j. not (isMember m j) || ltb j n) 128 (λ j. j)
+      ∙ every-tabulate (λ j. not (hasMember m j) || ltb j n) 128 (λ j. j)
       (λ j b.
       ⊎-elim
-      (λ (t : j < n). rw (lt-ltb j n t) (or-true (not (isMember m j))))
+      (λ (t : j < n). rw (lt-ltb j n t) (or-true (not (hasMember m j))))
       (λ (t : n ≤ j). rw (h j t))
       (below-or-not j n))
 
   -- a row from n on is no member
-  pub below-none : every (λ j. ltb j n) (memberRows m) ≡ true → (j : ℕ) → n ≤ j → isMember m j ≡ false
+  pub below-none : every (λ j. ltb j n) (memberRows m) ≡ true → (j : ℕ) → n ≤ j → hasMember m j ≡ false
   below-none h j b =
       ⊎-elim
       (λ (t : j < 128).
-      let e = every-tabulate-at (λ j. not (isMember m j) || ltb j n) 128 (λ j. j) j t (sym below-tests ∙ h) in
-      not-true (isMember m j) (sym (or-false (not (isMember m j))) ∙ rw (le-ltb j n b) at e))
+      let e = every-tabulate-at (λ j. not (hasMember m j) || ltb j n) 128 (λ j. j) j t (sym below-tests ∙ h) in
+      not-true (hasMember m j) (sym (or-false (not (hasMember m j))) ∙ rw (le-ltb j n b) at e))
       (λ (t : 128 ≤ j). member-past m j t)
       (below-or-not j 128)
 
   -- a row from n on is a member
-  pub below-fails : (j : ℕ) → n ≤ j → isMember m j ≡ true → every (λ j. ltb j n) (memberRows m) ≡ false
+  pub below-fails : (j : ℕ) → n ≤ j → hasMember m j ≡ true → every (λ j. ltb j n) (memberRows m) ≡ false
   below-fails j h e =
       ⊎-elim (λ t. absurd (true≢false (sym e ∙ below-none t j h))) (λ f. f) (true-or-false (every (λ j. ltb j n) (memberRows m)))
 
   -- members below n are kept of the first n rows
-  pub members-below : every (λ j. ltb j n) (memberRows m) ≡ true → n ≤ 128 → memberRows m ≡ keep (isMember m) (tabulate n (λ j. j))
+  pub members-below : every (λ j. ltb j n) (memberRows m) ≡ true → n ≤ 128 → memberRows m ≡ keep (hasMember m) (tabulate n (λ j. j))
   unfolding memberRows
   members-below h b =
       let e : 128 ≡ n + (128 - n) = omega arith in
-      ap (λ (x : ℕ). keep (isMember m) (tabulate x (λ j. j))) e ∙ keep-to (isMember m) n (128 - n) (below-none h)
+      ap (λ (x : ℕ). keep (hasMember m) (tabulate x (λ j. j))) e ∙ keep-to (hasMember m) n (128 - n) (below-none h)
 
   -- every member is below 128
   pub below-past : 128 ≤ n → true ≡ every (λ j. ltb j n) (memberRows m)
@@ -142,11 +142,11 @@ module _ (k : ℕ) (m r : Members) (c : Cut k m r) where
   pub members-cut : k < 128 → map (skip k) (memberRows r) ≡ keep (λ j. not (eqb j k)) (memberRows m)
   unfolding memberRows
   members-cut h =
-      ap (map (skip k)) (keep-ext (isMember r) (λ j. isMember m (skip k j)) (c .member) (tabulate 128 (λ j. j)))
-      ∙ sym (keep-map (isMember m) (skip k) (tabulate 128 (λ j. j)))
-      ∙ ap (keep (isMember m)) (without (omega arith))
-      ∙ keep-comm (isMember m) (λ j. not (eqb j k)) (tabulate 129 (λ j. j))
-      ∙ ap (keep (λ j. not (eqb j k))) (keep-to (isMember m) 128 1 (λ j b. member-past m j b))
+      ap (map (skip k)) (keep-ext (hasMember r) (λ j. hasMember m (skip k j)) (c .member) (tabulate 128 (λ j. j)))
+      ∙ sym (keep-map (hasMember m) (skip k) (tabulate 128 (λ j. j)))
+      ∙ ap (keep (hasMember m)) (without (omega arith))
+      ∙ keep-comm (hasMember m) (λ j. not (eqb j k)) (tabulate 129 (λ j. j))
+      ∙ ap (keep (λ j. not (eqb j k))) (keep-to (hasMember m) 128 1 (λ j b. member-past m j b))
 
   -- what stands at the rows that are left, once row k is taken out of the list
   pub cut-values : {A : Type 0} (d : A) (xs : List A) → k < 128 → map (λ j. getD (deleteAt k xs) j d) (memberRows r) ≡ map (λ j. getD xs j d) (keep (λ j. not (eqb j k)) (memberRows m))

@@ -9,7 +9,7 @@ use borrow.Author.Tests.{lt-ltb, le-ltb, eq-eqb, ne-eqb}
 use lib.Pow.{high, low, shr-le}
 use lib.Dec.{eqb, ltb}
 use Rattle.lists.specs.Lists.{every, skip}
-use Rattle.columns.specs.Members.{bitOf, isMember, memberRows, putBit, cutBit, InWords, MemberPut, Cut}
+use Rattle.columns.specs.Members.{bitOf, hasMember, memberRows, putBit, cutBit, InWords, MemberPut, Cut}
 use Rattle.columns.specs.declared.members.Members.{Members}
 use Rattle.lists.proofs.Tests.{same-or-not, below-or-not}
 use Rattle.lists.proofs.Lists.{skip-below, skip-from}
@@ -19,7 +19,7 @@ use Rattle.columns.proofs.members.Bits.{member-low, member-high, member
 -- ---- no member
 
 -- no row is a member
-pub zero-member : (m : Members) → m .low ≡ 0 → m .high ≡ 0 → (i : ℕ) → isMember m i ≡ false
+pub zero-member : (m : Members) → m .low ≡ 0 → m .high ≡ 0 → (i : ℕ) → hasMember m i ≡ false
 zero-member m e g i =
     ⊎-elim
     (λ (h : i < 64). member-low m i h ∙ ap (λ (w : ℕ). bitOf w i) e ∙ bit-zero i)
@@ -30,13 +30,13 @@ zero-member m e g i =
 
 module _ (j b : ℕ) (member : Bool) (is : (b < 2) × (eqb b 1 ≡ member)) (m r : Members) (fits : InWords m) where
   -- row j is put, and the other rows are as they were
-  put-made : InWords r → j < 128 → isMember r j ≡ member → ((i : ℕ) → (i ≡ j → ⊥) → isMember r i ≡ isMember m i) → MemberPut j member m r
+  put-made : InWords r → j < 128 → hasMember r j ≡ member → ((i : ℕ) → (i ≡ j → ⊥) → hasMember r i ≡ hasMember m i) → MemberPut j member m r
   put-made w h e f =
       record {
         words = w;
         rows = λ i.
             ⊎-elim
-            (λ (q : i ≡ j). ap (isMember r) q ∙ e ∙ sym (rw (lt-ltb j 128 h, eq-eqb i j q)))
+            (λ (q : i ≡ j). ap (hasMember r) q ∙ e ∙ sym (rw (lt-ltb j 128 h, eq-eqb i j q)))
             (λ (q : i ≡ j → ⊥). f i q ∙ sym (rw (lt-ltb j 128 h, ne-eqb i j q)))
             (same-or-not i j);
       }
@@ -63,8 +63,8 @@ put-none j member m f h = record { words = f; rows = λ i. rw (le-ltb j 128 h) }
 
 module _ (k : ℕ) (m r : Members) (fits : InWords m) where
   -- the row that stood at i
-  at-skip : (i n : ℕ) → skip k i ≡ n → isMember m n ≡ isMember m (skip k i)
-  at-skip i n e = ap (isMember m) (sym e)
+  at-skip : (i n : ℕ) → skip k i ≡ n → hasMember m n ≡ hasMember m (skip k i)
+  at-skip i n e = ap (hasMember m) (sym e)
 
   module _ (h : k < 64) (low-is : r .low ≡ m .high % 2 * 2 ^ 63 + cutBit (m .low) k) (high-is : r .high ≡ m .high / 2) where
     -- the bits of the low word below 63
@@ -147,8 +147,8 @@ cut-none k m f h =
       words = f;
       member = λ i.
           ⊎-elim
-          (λ (b : i < k). ap (isMember m) (sym (skip-below k i b)))
-          (λ (b : k ≤ i). member-past m i (omega arith) ∙ sym (member-past m (suc i) (omega arith)) ∙ ap (isMember m) (sym (skip-from k i b)))
+          (λ (b : i < k). ap (hasMember m) (sym (skip-below k i b)))
+          (λ (b : k ≤ i). member-past m i (omega arith) ∙ sym (member-past m (suc i) (omega arith)) ∙ ap (hasMember m) (sym (skip-from k i b)))
           (below-or-not i k);
     }
 

@@ -11,7 +11,7 @@ use lib.ListN.{length, length-append}
 use lib.Count.{ones, ones-step}
 use lib.Pow.{shr-lt}
 use Rattle.lists.specs.Lists.{keep, tabulate}
-use Rattle.columns.specs.Members.{bitOf, isMember, memberRows, InWords}
+use Rattle.columns.specs.Members.{bitOf, hasMember, memberRows, InWords}
 use Rattle.columns.specs.declared.members.Members.{Members}
 use Rattle.lists.proofs.Tests.{true-or-false, same-or-not}
 use Rattle.lists.proofs.Lists.{keep-append, tabulate-ext}
@@ -66,10 +66,10 @@ bits-ones p (suc n) f w h e =
 pub members-ones : (m : Members) → InWords m → length (memberRows m) ≡ ones (m .low) + ones (m .high)
 unfolding memberRows
 members-ones m fits =
-    ap (λ (l : List ℕ). length (keep (isMember m) l)) (tabulate-append 64 64 (λ j. j))
-    ∙ ap length (keep-append (isMember m) (tabulate 64 (λ j. j)) (tabulate 64 (λ j. 64 + j)))
-    ∙ length-append (keep (isMember m) (tabulate 64 (λ j. j))) (keep (isMember m) (tabulate 64 (λ j. 64 + j)))
+    ap (λ (l : List ℕ). length (keep (hasMember m) l)) (tabulate-append 64 64 (λ j. j))
+    ∙ ap length (keep-append (hasMember m) (tabulate 64 (λ j. j)) (tabulate 64 (λ j. 64 + j)))
+    ∙ length-append (keep (hasMember m) (tabulate 64 (λ j. j))) (keep (hasMember m) (tabulate 64 (λ j. 64 + j)))
     ∙ (λ u.
-    bits-ones (isMember m) 64 (λ j. j) (m .low) (fits .0) (member-low m) u
-    + bits-ones (isMember m) 64 (λ j. 64 + j) (m .high) (fits .1)
+    bits-ones (hasMember m) 64 (λ j. j) (m .low) (fits .0) (member-low m) u
+    + bits-ones (hasMember m) 64 (λ j. 64 + j) (m .high) (fits .1)
     (λ j b. let q : 64 + j - 64 ≡ j = omega arith in member-high m (64 + j) (omega arith) (omega arith) ∙ ap (bitOf (m .high)) q) u)

@@ -1,5 +1,5 @@
 -- `filter::filtered_length`: by N, S and the words of the requested bindings.
-use mathlib.Core.Path.{_≡_, sym, ap, _∙_}
+use mathlib.Core.Path.{sym, ap, _∙_}
 use native.Mathlib.Omega.{arith}
 use lib.ListN.{length}
 use Rattle.bindings.specs.Bindings.{listLength}

@@ -1,5 +1,5 @@
 -- `filter::put`: the bytes, or none.
-use mathlib.Core.Path.{_≡_, refl, sym, _∙_}
+use mathlib.Core.Path.{refl, sym}
 use native.Mathlib.Nat.{add-zero}
 use borrow.Author.Needs.{needs}
 use Rattle.fields.proofs.Laws.{written-none}

@@ -1,9 +1,8 @@
 -- `filter::write_filtered`: the list's refusals, then room; else the list is written.
-use mathlib.Core.Path.{_≡_, refl, sym, ap, _∙_}
+use mathlib.Core.Path.{refl, sym, _∙_}
 use native.Mathlib.Omega.{arith}
 use borrow.Author.Tests.{ne-eqb}
 use lib.ListN.{length}
-use Rattle.bindings.specs.Bindings.{listAnswer}
 use Rattle.bindings.proofs.FilterWriting.{answer-list, answer-room, answer-done, write-refused, write-done}
 use borrow.Author.Needs.{needs}
 use Rattle.bindings.proofs.filter.write_filtered.Statement.{statement}
