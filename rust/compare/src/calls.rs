@@ -105,8 +105,9 @@ impl<S: Subject> Pair<S> {
             ));
         }
         if let (Op::CountList { .. }, 0) = (call, answer.number) {
-            self.cut_list(call, &answer.bytes)?;
-            self.tally.event("lists cut and done one by one");
+            if self.cut_list(call, &answer.bytes)? {
+                self.tally.event("lists cut and done one by one");
+            }
         }
         if answer.number == 0 {
             let left = decode::entries(self.words(), self.store());
@@ -123,17 +124,17 @@ impl<S: Subject> Pair<S> {
 
 impl<S: Subject> Pair<S> {
     /// The same accepted list from the memory before it, cut between items and done in turn, and item by item by the single
-    /// calls: results and live entries are the same.
-    fn cut_list(&self, list: &Op, results: &[u8]) -> Result<(), String> {
+    /// calls: results and live entries are the same. Whether it was done: the longest lists, one item many times, are left out.
+    fn cut_list(&self, list: &Op, results: &[u8]) -> Result<bool, String> {
         let Op::CountList {
             way, client, items, ..
         } = list
         else {
-            return Ok(());
+            return Ok(false);
         };
         let n = items.len() / 24;
         if n > 100 {
-            return Ok(()); // the longest lists have one item many times
+            return Ok(false);
         }
         let left = decode::entries(self.words(), self.store());
         let part = |items: &[u8]| Op::CountList {
@@ -161,7 +162,7 @@ impl<S: Subject> Pair<S> {
                 },
             }
         };
-        let cut = 24 * (results.iter().map(|b| *b as usize).sum::<usize>() % (n + 1));
+        let cut = 24 * (items.iter().map(|b| *b as usize).sum::<usize>() % (n + 1));
         let parts = vec![part(&items[..cut]), part(&items[cut..])];
         let singles: Vec<Op> = items.chunks(24).map(single).collect();
         for (ops, what) in [(parts, "cut"), (singles, "one by one")] {
@@ -182,7 +183,7 @@ impl<S: Subject> Pair<S> {
                 ));
             }
         }
-        Ok(())
+        Ok(true)
     }
 }
 
