@@ -110,7 +110,7 @@ fn two_parts(s: &[u8]) -> bool
 }
 
 // The length in bytes that the list at the front has by its N.
-fn stated_length(s: &[u8]) -> usize
+pub fn stated_length(s: &[u8]) -> usize
     ensures { λ r. ⌜ r ≡ listLength (now (s .entry)) ⌝ }
 {
     4 + 2 * (fields::read_u16(s, 0) as usize)

@@ -309,7 +309,8 @@ pub extern "C" fn rimonakh_resolve_filtered<'a>(
     resolver::resolve_filtered(words, store, Oxid(oxid), protocols, buffer)
 }
 
-// Where to go next with a reference: the list of its exporter in the store, or its own list.
+// Where to go next with a reference: the list of its exporter in the store, or its own list. A place in the store holds until the next
+// call that changes the store.
 #[no_mangle]
 pub extern "C" fn rimonakh_next_stop<'a>(
     words: &'a [u64],

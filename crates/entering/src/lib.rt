@@ -6,7 +6,7 @@ use kinds::answer;
 use table::edit;
 use table::find;
 use table::judge;
-use table::layout;
+use table::limits;
 ghost use mathlib.Core.Path.{_≡_};
 ghost use mathlib.Core.Bool.{Bool};
 ghost use mathlib.Core.List.{List};
@@ -14,7 +14,7 @@ ghost use Prim.Native.Nat.{ℕ};
 ghost use Rattle.kinds.specs.declared.Guid.{Guid};
 ghost use Rattle.rules.specs.Calls.{Call, numbered};
 ghost use Rattle.rules.specs.Rules.{number};
-ghost use Rattle.table.specs.View.{memory, view, SoundTable, Stepped, Performed, Holds};
+ghost use Rattle.table.specs.View.{memory, view, SoundTable, Stepped, Performed};
 ghost use Rattle.rules.specs.Contract.{Whole};
 
 // Empties the table and sets its clock: 0, or 1 where a length is wrong. It looks at nothing but the lengths.
@@ -23,10 +23,10 @@ pub fn reset<'a>(words: &'a mut [u64], store: &'a [u8], time: u64) -> u32
         Performed (Call.reset time) (memory (now (words .entry)) (now (store .entry))) (numbered r)
         (memory (now (words .exit)) (now (store .entry))) ⌝ }
 {
-    if words.len() != layout::WORDS {
+    if words.len() != limits::WORDS {
         return answer::UNSOUND;
     }
-    if store.len() != layout::BYTES {
+    if store.len() != limits::BYTES {
         return answer::UNSOUND;
     }
     edit::clear(words, time);
@@ -34,9 +34,15 @@ pub fn reset<'a>(words: &'a mut [u64], store: &'a [u8], time: u64) -> u32
 }
 
 // The number of an entry: 3; 13; 14; 19; 9.
-fn exporter_number<'a>(words: &'a [u64], oxid: Oxid, unknown: Guid, list: &'a [u8]) -> u32
-    requires { ⌜ Whole (now words) ⌝ }
-    ensures { λ r. ⌜ Holds (λ e. r ≡ number (Call.enterExporter (oxid .0) unknown (now (list .entry))) e) (now (words .entry)) ⌝ }
+fn exporter_number<'a>(
+    words: &'a [u64],
+    store: &'a [u8],
+    oxid: Oxid,
+    unknown: Guid,
+    list: &'a [u8],
+) -> u32
+    requires { ⌜ SoundTable (memory (now words) (now store)) ⌝ }
+    ensures { λ r. ⌜ r ≡ number (Call.enterExporter (oxid .0) unknown (now (list .entry))) (view (memory (now (words .entry)) (now (store .entry)))) ⌝ }
 {
     if oxid.0 == 0 {
         return answer::BAD_IDENTIFIER;
@@ -51,10 +57,14 @@ fn exporter_number<'a>(words: &'a [u64], oxid: Oxid, unknown: Guid, list: &'a [u
     if judged != answer::DONE {
         return judged;
     }
-    if layout::SLOT < list.len() {
+    if limits::LONGEST_LIST < list.len() {
         return answer::LONG_LIST;
     }
-    if layout::EXPORTER_PLACES <= find::exporter_count(words) {
+    let n = find::exporter_count(words);
+    if limits::EXPORTER_PLACES <= n {
+        return answer::NO_PLACE;
+    }
+    if limits::BYTES < find::list_start(store, n) + list.len() {
         return answer::NO_PLACE;
     }
     answer::DONE
@@ -91,7 +101,7 @@ pub fn enter_exporter_step<'a>(
         Stepped (Call.enterExporter (oxid .0) unknown (now (list .entry))) (memory (now (words .entry)) (now (store .entry)))
         (numbered r) (memory (now (words .exit)) (now (store .exit))) ⌝ }
 {
-    let number = exporter_number(words, oxid, unknown, list);
+    let number = exporter_number(words, store, oxid, unknown, list);
     if number != answer::DONE {
         return number;
     }
@@ -119,10 +129,10 @@ fn object_number(words: &[u64], oid: Oid, oxid: Oxid, ipid: Guid, public: u32) -
     if public == 0 {
         return answer::NO_REFERENCES;
     }
-    if layout::OBJECT_PLACES <= find::object_count(words) {
+    if limits::OBJECT_PLACES <= find::object_count(words) {
         return answer::NO_PLACE;
     }
-    if layout::INTERFACE_PLACES <= find::interface_count(words) {
+    if limits::INTERFACE_PLACES <= find::interface_count(words) {
         return answer::NO_PLACE;
     }
     answer::DONE
@@ -188,7 +198,7 @@ fn interface_number(words: &[u64], oid: Oid, ipid: Guid, public: u32) -> u32
     if public == 0 {
         return answer::NO_REFERENCES;
     }
-    if layout::INTERFACE_PLACES <= find::interface_count(words) {
+    if limits::INTERFACE_PLACES <= find::interface_count(words) {
         return answer::NO_PLACE;
     }
     answer::DONE

@@ -1,29 +1,30 @@
 -- Room is refused exactly when a kind that the call needs has as many live entries as places.
-use Prim.Native.Nat.{ℕ, suc, zero, _≤_}
+use Prim.Native.Nat.{ℕ, suc, zero, _+_, _≤_}
 use mathlib.Core.Path.{_≡_, refl, sym, ap, _∙_}
 use mathlib.Core.Bool.{Bool, true, false, cond, not, _&&_, and-false}
-use mathlib.Core.List.{List, [], _∷_}
+use mathlib.Core.List.{List, [], _∷_, map}
 use mathlib.Core.Logic.{⊎-elim}
 use native.Mathlib.Omega.{arith}
 use borrow.Author.Tests.{eq-eqb, ne-eqb, eqb-false, le-leb, lt-leb, not-true}
-use lib.ListN.{length, drop}
+use lib.ListN.{length, drop, length-append}
 use lib.Dec.{eqb, leb}
 use Rattle.kinds.specs.Refusals.{Row, _gives_, passes, differ, order}
 use Rattle.kinds.proofs.Refusing.{by-test}
-use Rattle.bindings.specs.Bindings.{frontAnswer, listAnswer}
+use Rattle.bindings.specs.Bindings.{joined, frontAnswer, listAnswer}
 use Rattle.fields.specs.Fields.{field}
 use Rattle.kinds.specs.declared.Guid.{Guid}
 use Rattle.contexts.specs.Contexts.{propertyLength, propertyAnswer, propertiesAnswer, extentsAnswer, headAnswer as contextHead, contextAnswer, isMarshaler}
 use Rattle.elements.specs.Elements.{isReference, elementContent, elementFront, elementEnd, contentAnswer, elementAnswer}
 use Rattle.references.specs.References.{isCustom, isExtended, objectAnswer, elementStart, headAnswer, plainAnswer, extendedFront, extendedAnswer, formAnswer, layoutBy, layoutAnswer, referenceAnswer}
 use Rattle.lists.proofs.Tests.{below-or-not}
-use Rattle.rules.specs.Entries.{Entries, exporterPlaces, objectPlaces, interfacePlaces, setPlaces}
+use Rattle.rules.specs.Entries.{Exporter, Entries, listBytes, exporterPlaces, objectPlaces, interfacePlaces, setPlaces}
+use Rattle.rules.proofs.ListBytes.{bytes-joined}
 use Rattle.rules.specs.Calls.{Call, reset, enterExporter, removeExporter, enterObject, enterInterface, add, release, dropClient, countList, simplePing, complexPing, clock, resolve, resolveFiltered, census, members, nextStop}
 use Rattle.rules.specs.Rules.{refusals, number}
 use Rattle.rules.specs.Contract.{Memory}
 use Rattle.table.specs.View.{view}
 use Rattle.table.proofs.LiveRows.{exporters-length, objects-length, interfaces-length, sets-length}
-use Rattle.history.specs.Runs.{agree, above, needsFullKind, roomExactly}
+use Rattle.history.specs.Runs.{together, agree, above, needsFullKind, roomExactly}
 
 -- ---- rows of refusals
 
@@ -172,12 +173,17 @@ full-places places n h =
     (λ b. le-leb places n b ∙ sym (eq-eqb n places (omega arith)))
     (below-or-not n places)
 
+-- the live lists and a new one have so many bytes
+together-bytes : (xs : List Exporter) (new : List ℕ) → length (together xs new) ≡ listBytes xs + length new
+together-bytes xs new = length-append (joined (map (λ (x : Exporter). x .bindings) xs)) new ∙ ap (λ (n : ℕ). n + length new) (bytes-joined xs)
+
 -- of every call
 rows : (c : Call) (e : Entries) → Placed e → Rows (refusals c e) (needsFullKind c e)
 unfolding refusals needsFullKind
 rows (reset t) e p = none
 rows (enterExporter x u b) e p =
-    other refl refl (passing (listAnswer b) (list-answer b) (other refl refl (rw (sym (full-places exporterPlaces (length (e .exporters)) (p .exporters))) (here _ none))))
+    other refl refl (passing (listAnswer b) (list-answer b) (other refl refl
+    (rw (sym (full-places exporterPlaces (length (e .exporters)) (p .exporters)), together-bytes (e .exporters) b) (here _ none))))
 rows (removeExporter x) e p = other refl refl none
 rows (enterObject o x i iid n np) e p =
     other refl refl (other refl refl (other refl refl

@@ -6,9 +6,10 @@ use mathlib.Core.List.{List, [], _∷_, _++_, map}
 use lib.ListN.{length, getD}
 use lib.Dec.{eqb, ltb, leb}
 use Rattle.kinds.specs.Refusals.{Row, order}
+use Rattle.bindings.specs.Bindings.{joined}
 use Rattle.lists.specs.Lists.{keep, every, distinct, among, some, tabulate}
 use Rattle.lists.specs.Guids.{sameGuid}
-use Rattle.rules.specs.Entries.{Object, Interface, PingSet, Entries, fresh, oxids, oids, setNumbers, ipids, countOf, exporterPlaces, objectPlaces, interfacePlaces, setPlaces}
+use Rattle.rules.specs.Entries.{Exporter, Object, Interface, PingSet, Entries, fresh, oxids, oids, setNumbers, ipids, countOf, exporterPlaces, objectPlaces, interfacePlaces, setPlaces}
 use Rattle.rules.specs.Calls.{Call, reset, enterExporter, removeExporter, enterObject, enterInterface, add, release, dropClient, countList, simplePing, complexPing, clock, resolve, resolveFiltered, census, members, nextStop, Reply}
 use Rattle.rules.specs.Items.{itemAt, itemCount, itemCall}
 use Rattle.rules.specs.Sound.{sound}
@@ -68,10 +69,14 @@ goneExactly h e =
     (λ (o : ObjectLife). agree (isLiveObject e (o .oid) && isLatest h o) (not (interfacesAtZero h o || exporterRemoved h o || unheard h o)))
     (h .objects)
 
--- a kind that the call needs has as many live entries as places
+-- the live lists and a new one, together
+abbrev pub together : List Exporter → List ℕ → List ℕ
+together xs new = joined (map (λ (x : Exporter). x .bindings) xs) ++ new
+
+-- a kind that the call needs has as many live entries as places; or the live lists and an exporter's together pass the store's bytes
 unfoldable pub needsFullKind : Call → Entries → Bool
 needsFullKind (reset t) e = false
-needsFullKind (enterExporter x u b) e = eqb (length (e .exporters)) exporterPlaces
+needsFullKind (enterExporter x u b) e = eqb (length (e .exporters)) exporterPlaces || ltb 8192 (length (together (e .exporters) b))
 needsFullKind (removeExporter x) e = false
 needsFullKind (enterObject o x i iid n np) e = eqb (length (e .objects)) objectPlaces || eqb (length (e .interfaces)) interfacePlaces
 needsFullKind (enterInterface o i iid n) e = eqb (length (e .interfaces)) interfacePlaces
@@ -89,7 +94,7 @@ needsFullKind (members s) e = false
 needsFullKind (nextStop r) e = false
 
 -- a call that is answered by n: room is refused, once nothing earlier in the call's order refuses, exactly when a kind it needs has as
--- many live entries as places
+-- many live entries as places, for an exporter also when the live lists and the new one together pass 8,192 bytes (document 02, request 12)
 unfoldable pub roomExactly : ℕ → Call → Entries → Bool
 roomExactly n c e = agree (eqb n 9) (eqb (order (above 9 (refusals c e))) 0 && needsFullKind c e)
 

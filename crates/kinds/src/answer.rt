@@ -23,7 +23,7 @@ pub const NO_REFERENCES: u32 = 7;
 // A count would pass 4,294,967,295.
 pub const COUNT_OVERFLOW: u32 = 8;
 
-// No free place of a kind that is needed.
+// No free place of a kind that is needed, or no room for a list in the store.
 pub const NO_PLACE: u32 = 9;
 
 // A list of more than 65,535 identifiers.
@@ -49,7 +49,7 @@ pub const VERSION: u32 = 16;
 // The set numbers are used up.
 pub const SETS_USED_UP: u32 = 18;
 
-// A binding list of more than 512 bytes.
+// A binding list of more than 2,048 bytes.
 pub const LONG_LIST: u32 = 19;
 
 // The client is none of 0 to 7.

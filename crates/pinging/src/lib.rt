@@ -7,7 +7,7 @@ use std::num;
 use table::edit;
 use table::find;
 use table::judge;
-use table::layout;
+use table::limits;
 ghost use mathlib.Core.Path.{_≡_};
 ghost use mathlib.Core.Bool.{true};
 ghost use mathlib.Core.List.{[], _∷_};
@@ -123,7 +123,7 @@ fn complex_number<'a>(
         if !find::are_live(words, adds) {
             return answer::NO_OBJECT;
         }
-        if layout::SET_PLACES <= find::set_count(words) {
+        if limits::SET_PLACES <= find::set_count(words) {
             return answer::NO_PLACE;
         }
         if find::next_set(words) == 0xFFFFFFFFFFFFFFFF {

@@ -1,5 +1,5 @@
 -- The next stop (document 01, "Where to go next"): its place, its number and its part, each the result of a function of its own.
-use Prim.Native.Nat.{ℕ, _+_, _-_, _*_, _≤_}
+use Prim.Native.Nat.{ℕ, _+_, _-_, _≤_}
 use mathlib.Core.Path.{_≡_}
 use mathlib.Core.Bool.{Bool, true, false, cond}
 use mathlib.Core.List.{List, [], _∷_}
@@ -12,7 +12,7 @@ use Rattle.rules.specs.Entries.{oxids}
 use Rattle.rules.specs.Calls.{Call, Reply}
 use Rattle.rules.specs.Rules.{noExporter, isLiveExporter, oxidOf, flag}
 use Rattle.rules.specs.Contract.{Memory, replyTo}
-use Rattle.table.specs.View.{exportersOf, view, Performed}
+use Rattle.table.specs.View.{listStart, exportersOf, view, Performed}
 use Rattle.reading.specs.declared.routing.StopPlace.{StopPlace}
 
 -- ---- the place
@@ -20,14 +20,14 @@ use Rattle.reading.specs.declared.routing.StopPlace.{StopPlace}
 abbrev pub refusedStop : ℕ → StopPlace
 refusedStop n = record { answer = n; in_store = false; from = 0; to = 0 }
 
--- the list of exporter i, at the front of its 512 bytes
+-- the list of exporter i, where it stands in the store until a call changes the store
 abbrev pub stopInStore : Memory → ℕ → StopPlace
 stopInStore m i =
     record {
       answer = 0;
       in_store = true;
-      from = 512 * i;
-      to = 512 * i + length (getD (exportersOf (m .words) (m .store)) i noExporter .bindings);
+      from = listStart (m .store) i;
+      to = listStart (m .store) i + length (getD (exportersOf (m .words) (m .store)) i noExporter .bindings);
     }
 
 abbrev pub stopInReference : Place → StopPlace

@@ -5,7 +5,6 @@ use kinds::answer;
 use references::Reference;
 use table::find;
 use table::judge;
-use table::layout;
 ghost use mathlib.Core.Path.{_≡_};
 ghost use mathlib.Core.Bool.{true};
 ghost use Prim.Native.Nat.{_<_};
@@ -15,7 +14,7 @@ ghost use Rattle.rules.specs.Contract.{replyTo, Whole};
 ghost use Rattle.table.specs.View.{exporterCount, memory, view, SoundTable};
 ghost use Rattle.reading.specs.NextStop.{refusedStop, stopInStore, stopInReference, StopFound, StopPart};
 
-// Where a next stop stands, in the store or else in the reference.
+// Where a next stop stands, in the store or else in the reference. A place in the store holds until the next call that changes the store.
 #[repr(C)]
 pub struct StopPlace {
     pub answer: u32,
@@ -42,7 +41,7 @@ fn in_store<'a>(words: &'a [u64], store: &'a [u8], i: usize) -> StopPlace
         × (listsKept (view (memory (now words) (now store))) ≡ true) ⌝ }
     ensures { λ r. ⌜ r ≡ stopInStore (memory (now (words .entry)) (now (store .entry))) i ⌝ }
 {
-    let from = layout::slot_start(i);
+    let from = find::list_start(store, i);
     StopPlace {
         answer: answer::DONE,
         in_store: true,
@@ -100,7 +99,8 @@ pub fn next_stop_answer<'a>(words: &'a [u64], store: &'a [u8], reference: &'a [u
     next_stop_place(words, store, reference).answer
 }
 
-// The next stop, a part of the store or of the reference; no bytes where it is refused.
+// The next stop, a part of the store or of the reference; no bytes where it is refused. A part of the store is lent until a call changes
+// the store.
 pub fn next_stop<'a>(words: &'a [u64], store: &'a [u8], reference: &'a [u8]) -> &'a [u8]
     ensures { λ r. ⌜
         StopPart (memory (now (words .entry)) (now (store .entry))) (now (reference .entry))

@@ -1,5 +1,5 @@
 -- The calls that enter an entry or add references leave sound entries.
-use Prim.Native.Nat.{ℕ, _-_, _≤_}
+use Prim.Native.Nat.{ℕ, _+_, _-_, _≤_}
 use mathlib.Core.Path.{_≡_, refl, _∙_}
 use mathlib.Core.Bool.{Bool, true, false, _&&_, _||_, or-true}
 use mathlib.Core.List.{List, [], _∷_, _++_, map, append-assoc}
@@ -15,10 +15,11 @@ use Rattle.lists.proofs.Tests.{and-intro}
 use Rattle.lists.proofs.Lists.{every-snoc, every-mono, some-snoc, map-append, map-unread-at, every-changed-at}
 use Rattle.lists.proofs.Distinct.{eqb-decides}
 use Rattle.lists.proofs.Guids.{guid-decides}
-use Rattle.rules.specs.Entries.{Exporter, Object, Interface, PingSet, Entries, oxids, oids, interfaceIpids, ipids, withExporters, withObjects, withInterfaces}
-use Rattle.rules.specs.Sound.{longestList, properGuids, held, overdue, heardWithin}
+use Rattle.rules.specs.Entries.{Exporter, Object, Interface, PingSet, Entries, oxids, oids, interfaceIpids, ipids, listBytes, withExporters, withObjects, withInterfaces}
+use Rattle.rules.specs.Sound.{longestList, storeBytes, properGuids, held, overdue, heardWithin}
 use Rattle.rules.specs.Rules.{atInterface, increased}
 use Rattle.rules.proofs.Counts.{increased-held}
+use Rattle.rules.proofs.ListBytes.{bytes-snoc}
 use Rattle.rules.proofs.Groups.{fine-mid, fine-snoc, fine-entered, interfaces-replaced, ExportersSound, ObjectsSound, InterfacesSound, SetsSound, Grouped}
 
 -- ---- more live identifiers
@@ -68,13 +69,14 @@ not-overdue now = lt-leb 360 (now - now) (omega arith)
 -- an exporter with a free OXID and a good list
 exporters-snoc : (x : Exporter) (xs : List Exporter) → ExportersSound xs
     → (eqb (x .oxid) 0 || among (map (λ (p : Exporter). p .oxid) xs) (x .oxid)) ≡ false
-    → listAnswer (x .bindings) ≡ 0 → length (x .bindings) ≤ longestList → ExportersSound (xs ++ (x ∷ []))
-exporters-snoc x xs s n a l =
+    → listAnswer (x .bindings) ≡ 0 → length (x .bindings) ≤ longestList → listBytes xs + length (x .bindings) ≤ storeBytes → ExportersSound (xs ++ (x ∷ []))
+exporters-snoc x xs s n a l f =
     record {
       ids = fine-entered eqb 0 (λ (p : Exporter). p .oxid) eqb-decides x xs n (s .ids);
       lists =
           every-snoc (λ (p : Exporter). eqb (listAnswer (p .bindings)) 0 && leb (length (p .bindings)) longestList) xs x
           ∙ rw (s .lists, eq-eqb (listAnswer (x .bindings)) 0 a) (le-leb (length (x .bindings)) longestList l);
+      inside = rw (bytes-snoc xs x) (le-leb (listBytes xs + length (x .bindings)) storeBytes f);
     }
 
 -- an object with a free OID, of a live exporter, heard now
@@ -125,10 +127,11 @@ ids-snoc e i g f =
 
 -- an exporter entered
 pub exporter-entered : (e : Entries) (x : Exporter) → Grouped e → (eqb (x .oxid) 0 || among (oxids e) (x .oxid)) ≡ false → FreeIpid e (x .unknown)
-    → listAnswer (x .bindings) ≡ 0 → length (x .bindings) ≤ longestList → Grouped (withExporters (e .exporters ++ (x ∷ [])) e)
-exporter-entered e x g n f a l =
+    → listAnswer (x .bindings) ≡ 0 → length (x .bindings) ≤ longestList → listBytes (e .exporters) + length (x .bindings) ≤ storeBytes
+    → Grouped (withExporters (e .exporters ++ (x ∷ [])) e)
+exporter-entered e x g n f a l b =
     record {
-      exporters = exporters-snoc x (e .exporters) (g .exporters) n a l;
+      exporters = exporters-snoc x (e .exporters) (g .exporters) n a l b;
       objects = rw (map-append (λ (p : Exporter). p .oxid) (e .exporters) (x ∷ [])) (objects-wider (wider-snoc (oxids e) (x .oxid)) (g .objects));
       ids =
           rw (map-append (λ (p : Exporter). p .unknown) (e .exporters) (x ∷ []))

@@ -12,8 +12,8 @@ use Rattle.lists.specs.Lists.{every, some, distinct, among}
 use Rattle.lists.proofs.Tests.{and-intro, and-left, and-right}
 use Rattle.lists.proofs.Lists.{every-map, every-ext, every-append, every-snoc, some-map, map-append}
 use Rattle.lists.proofs.Distinct.{Decides, Sublist, distinct-mid}
-use Rattle.rules.specs.Entries.{Exporter, Object, Interface, PingSet, Entries, oxids, oids, ipids, withNext, withInterfaces, withSets}
-use Rattle.rules.specs.Sound.{longestList, proper, properGuids, held, sound, heardWithin, pingedWithin}
+use Rattle.rules.specs.Entries.{Exporter, Object, Interface, PingSet, Entries, oxids, oids, ipids, listBytes, withNext, withInterfaces, withSets}
+use Rattle.rules.specs.Sound.{longestList, storeBytes, proper, properGuids, held, sound, heardWithin, pingedWithin}
 use Rattle.rules.proofs.SoundLaws.{Sound, sound-fields, sound-made}
 
 -- ---- identifiers of a kind: nonzero and distinct
@@ -64,6 +64,7 @@ module _ {A : Type 0} (same : A → A → Bool) (zero : A) where
 pub record ExportersSound (xs : List Exporter) : Type 0 where
   pub ids : proper (map (λ (x : Exporter). x .oxid) xs) ≡ true
   pub lists : every (λ (x : Exporter). eqb (listAnswer (x .bindings)) 0 && leb (length (x .bindings)) longestList) xs ≡ true
+  pub inside : leb (listBytes xs) storeBytes ≡ true
 
 -- exporters are the live OXIDs
 pub record ObjectsSound (now : ℕ) (exporters : List ℕ) (os : List Object) : Type 0 where
@@ -115,7 +116,7 @@ serving-objects os is =
 fields-grouped : (e : Entries) → Sound e → Grouped e
 fields-grouped e s =
     record {
-      exporters = record { ids = s .exportersProper; lists = s .listsKept };
+      exporters = record { ids = s .exportersProper; lists = s .listsKept; inside = s .listsInside };
       objects = record { ids = s .objectsProper; named = s .objectExportersLive; byClock = s .heardBefore; lately = s .heardRecently };
       ids = s .ipidsProper;
       interfaces = record { named = s .interfaceObjectsLive; serving = serving-objects (e .objects) (e .interfaces) ∙ s .objectsHaveInterfaces; counted = s .interfacesHeld };
@@ -147,4 +148,5 @@ sound-grouped e g =
       nextNonzero = g .sets .nonzero;
       setsBelowNext = g .sets .below;
       listsKept = g .exporters .lists;
+      listsInside = g .exporters .inside;
     })

@@ -1,6 +1,7 @@
 pub mod Performing
 pub mod Stepping
 pub mod SoundLaws
+pub mod ListBytes
 pub mod Groups
 pub mod Counts
 pub mod Entering

@@ -9,7 +9,7 @@ use borrow.Author.Tests.{eq-eqb, eqb-true}
 use Rattle.lists.specs.Lists.{holding}
 use Rattle.lists.proofs.Tests.{and-left, and-right, holding-nil, holding-cons, holding-head, holding-tail}
 use Rattle.rules.specs.Entries.{Entries, oxids, oids, ipids, setNumbers}
-use Rattle.rules.specs.Sound.{proper, properGuids, interfaceObjectsLive, objectExportersLive, objectsHaveInterfaces, interfacesHeld, setMembersLive, heardBefore, pingedBefore, heardRecently, pingedRecently, setsBelowNext, listsKept, sound}
+use Rattle.rules.specs.Sound.{proper, properGuids, interfaceObjectsLive, objectExportersLive, objectsHaveInterfaces, interfacesHeld, setMembersLive, heardBefore, pingedBefore, heardRecently, pingedRecently, setsBelowNext, listsKept, listsInside, sound}
 use Rattle.rules.specs.Contract.{Memory, rightLengths, soundMemory, SoundTable}
 
 -- the clause at an index of clauses that hold
@@ -36,6 +36,7 @@ pub record Sound (e : Entries) : Type 0 where
   pub nextNonzero : not (eqb (e .next) 0) ≡ true
   pub setsBelowNext : setsBelowNext e ≡ true
   pub listsKept : listsKept e ≡ true
+  pub listsInside : listsInside e ≡ true
 
 pub sound-fields : (e : Entries) → sound e ≡ true → Sound e
 unfolding sound
@@ -57,6 +58,7 @@ sound-fields e h =
       nextNonzero = clause-at _ 13 h;
       setsBelowNext = clause-at _ 14 h;
       listsKept = clause-at _ 15 h;
+      listsInside = clause-at _ 16 h;
     }
 
 -- clauses that hold, one before the others
@@ -89,6 +91,7 @@ sound-made e s =
     and s .nextNonzero
     and s .setsBelowNext
     and s .listsKept
+    and s .listsInside
     and none)
     .together
 

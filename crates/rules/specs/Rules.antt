@@ -13,10 +13,10 @@ use Rattle.bindings.specs.Filter.{filtered}
 use Rattle.references.specs.References.{referenceAnswer, referenceAt, isCustom, tailOf}
 use Rattle.lists.specs.Lists.{keep, some, every, firstOr, among}
 use Rattle.lists.specs.Guids.{nil, sameGuid}
-use Rattle.rules.specs.Entries.{Exporter, Object, Interface, PingSet, Entries, exporterPlaces, objectPlaces, interfacePlaces, setPlaces, countLimit, sequenceLimit, fresh, oxids, oids, setNumbers, interfaceIpids, ipids, withClock, withNext, withExporters, withObjects, withInterfaces, withSets, heardAt, publicOf, privateOf, atCount, atCounts, pingedAt, withSequence, withMembers, withMembersOf}
+use Rattle.rules.specs.Entries.{Exporter, Object, Interface, PingSet, Entries, exporterPlaces, objectPlaces, interfacePlaces, setPlaces, countLimit, sequenceLimit, fresh, oxids, oids, setNumbers, interfaceIpids, ipids, listBytes, withClock, withNext, withExporters, withObjects, withInterfaces, withSets, heardAt, publicOf, privateOf, atCount, atCounts, pingedAt, withSequence, withMembers, withMembersOf}
 use Rattle.rules.specs.Calls.{Call, Counting, adding, releasing, reset, enterExporter, removeExporter, enterObject, enterInterface, add, release, dropClient, countList, simplePing, complexPing, clock, resolve, resolveFiltered, census, members, nextStop, Reply, Results, only}
 use Rattle.rules.specs.Items.{Item, itemSize, itemCount, itemsOf, itemCall}
-use Rattle.rules.specs.Sound.{longestList, held, hasInterface, heardWithin, pingedWithin}
+use Rattle.rules.specs.Sound.{longestList, storeBytes, held, hasInterface, heardWithin, pingedWithin}
 
 -- ---- tests on the entries
 
@@ -82,6 +82,10 @@ full places xs = leb places (length xs)
 abbrev pub passesCount : ℕ → Bool
 passesCount n = leb countLimit n
 
+-- so many bytes of lists do not fit into the store
+abbrev pub passesStore : ℕ → Bool
+passesStore n = ltb storeBytes n
+
 -- clients are 0 to 7
 abbrev pub noClient : ℕ → Bool
 noClient c = ltb 7 c
@@ -107,7 +111,7 @@ refusals (enterExporter x u b) e =
     (badOxid e x || badIpid e u) gives 3
     ∷ passes (listAnswer b)
     ∷ ltb longestList (length b) gives 19
-    ∷ full exporterPlaces (e .exporters) gives 9
+    ∷ (full exporterPlaces (e .exporters) || passesStore (listBytes (e .exporters) + length b)) gives 9
     ∷ []
 refusals (removeExporter x) e = not (isLiveExporter e x) gives 4 ∷ []
 refusals (enterObject o x i iid n np) e =

@@ -8,7 +8,7 @@ use Rattle.kinds.specs.declared.Guid.{Guid}
 use Rattle.bindings.specs.Bindings.{listAnswer}
 use Rattle.lists.specs.Lists.{every, some, nonzero, distinct, among, holding}
 use Rattle.lists.specs.Guids.{nil, sameGuid}
-use Rattle.rules.specs.Entries.{Exporter, Object, Interface, PingSet, Entries, oxids, oids, setNumbers, ipids}
+use Rattle.rules.specs.Entries.{Exporter, Object, Interface, PingSet, Entries, oxids, oids, setNumbers, ipids, listBytes}
 
 -- the seconds after which what was not heard goes: three ping periods
 abbrev pub timeout : ℕ
@@ -16,7 +16,11 @@ timeout = 360
 
 -- the longest binding list of an exporter, in bytes
 abbrev pub longestList : ℕ
-longestList = 512
+longestList = 2048
+
+-- the bytes of the store, which the lists share
+abbrev pub storeBytes : ℕ
+storeBytes = 8192
 
 -- nonzero and distinct
 abbrev pub proper : List ℕ → Bool
@@ -81,9 +85,13 @@ pingedRecently e = every (pingedWithin (e .clock)) (e .sets)
 abbrev pub setsBelowNext : Entries → Bool
 setsBelowNext e = every (λ (n : ℕ). ltb n (e .next)) (setNumbers e)
 
--- each exporter's list keeps the list rules and is at most 512 bytes
+-- each exporter's list keeps the list rules and is at most 2,048 bytes
 abbrev pub listsKept : Entries → Bool
 listsKept e = every (λ (x : Exporter). eqb (listAnswer (x .bindings)) 0 && leb (length (x .bindings)) longestList) (e .exporters)
+
+-- the lists lie inside the store: together they are no longer than it (document 02, request 12)
+abbrev pub listsInside : Entries → Bool
+listsInside e = leb (listBytes (e .exporters)) storeBytes
 
 -- document 01's "sound", of the live entries
 unfoldable pub sound : Entries → Bool
@@ -107,4 +115,5 @@ sound e =
     ∷ not (eqb (e .next) 0)
     ∷ setsBelowNext e
     ∷ listsKept e
+    ∷ listsInside e
     ∷ [])

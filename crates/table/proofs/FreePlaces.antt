@@ -3,18 +3,17 @@ use Prim.Native.Nat.{ℕ, _<_}
 use mathlib.Core.Path.{_≡_, refl, ap}
 use mathlib.Core.List.{List, map}
 use native.Mathlib.Omega.{arith}
-use lib.ListN.{length, getD, take, length-take, length-drop}
+use lib.ListN.{length, getD, take, length-take}
 use lib.Seq.{ext-getD, getD-take}
-use Rattle.fields.specs.Fields.{field}
-use Rattle.bindings.specs.Bindings.{listLength}
 use Rattle.columns.specs.Rows.{rows}
 use Rattle.columns.specs.declared.rows.Kind.{Kind}
 use Rattle.lists.proofs.Lists.{tabulate-ext}
 use Rattle.columns.proofs.rows.Laws.{row-same, rows-free}
 use Rattle.rules.specs.Entries.{Object}
 use Rattle.rules.specs.Contract as contract
-use Rattle.table.specs.FreePlaces.{SameRows, SameList, SameLive, FreePlaces, FreePlacesSound}
-use Rattle.table.specs.View.{exporterKind, objectKind, interfaceKind, setKind, exporterCount, slot, asObject, asInterface, asSet, exportersOf, objectsOf, interfacesOf, setsOf, memory, view, soundMemory}
+use Rattle.table.specs.FreePlaces.{SameRows, SameLive, FreePlaces, FreePlacesSound}
+use Rattle.table.specs.View.{exporterKind, objectKind, interfaceKind, setKind, exporterCount, listStart, asObject, asInterface, asSet, exportersOf, objectsOf, interfacesOf, setsOf, memory, view, soundMemory}
+use Rattle.table.proofs.StoredLists.{lists-same}
 
 -- the same bytes from the start
 same-start : (n : ℕ) (s s′ : List ℕ) → length s′ ≡ length s → ((x : ℕ) → x < n → getD s′ x 0 ≡ getD s x 0) → take n s′ ≡ take n s
@@ -22,15 +21,6 @@ same-start n s s′ l h =
     let sizes : length (take n s′) ≡ length (take n s) = simp (length-take, l) in
     ext-getD 0 (take n s′) (take n s) sizes
     (λ x b. let c : x < n = omega (arith, length-take n s′) in rw (getD-take n s′ x 0, getD-take n s x 0) (h x c))
-
--- the length of the list at the front is read from its own first bytes
-same-length : (s s′ : List ℕ) → length s′ ≡ length s → SameList s s′ → listLength s′ ≡ listLength s
-unfolding listLength field
-same-length s s′ l h = rw (l, same-start 2 s s′ l (λ x b. h x (omega arith)))
-
--- so its bytes are the same
-same-list : (s s′ : List ℕ) → length s′ ≡ length s → SameList s s′ → take (listLength s′) s′ ≡ take (listLength s) s
-same-list s s′ l h = rw (same-length s s′ l h) (same-start (listLength s) s s′ l h)
 
 -- entries that are made of the first rows of a kind
 same-entries : {A : Type 0} (k : Kind) (entry entry′ : List ℕ → A) (ws ws′ : List ℕ) (n n′ : ℕ) → n′ ≡ n → entry′ ≡ entry → SameRows k n ws ws′
@@ -45,8 +35,10 @@ module _ (ws store ws′ store′ : List ℕ) (same : SameLive ws store ws′ st
       rw (same .exporterCounts)
       (tabulate-ext (exporterCount ws) _ _
       (λ i l.
-      let slots : length (slot store′ i) ≡ length (slot store i) = simp (length-take, length-drop, same .storeLengths) in
-      rw (row-same exporterKind ws ws′ i i (λ j b. same .exporters j i b l), same-list (slot store i) (slot store′ i) slots (same .lists i l))))
+      rw (
+        row-same exporterKind ws ws′ i i (λ j b. same .exporters j i b l),
+        lists-same store store′ (exporterCount ws) (listStart store (exporterCount ws)) (same-start _ store store′ (same .storeLengths) (same .lists)) (omega arith) i l,
+      )))
 
   -- the objects
   same-objects : objectsOf ws′ ≡ objectsOf ws

@@ -1,3 +1,5 @@
+pub mod StoredLists
+pub mod KeptLists
 pub mod FreePlaces
 pub mod Sizes
 pub mod Counts

@@ -4,18 +4,13 @@ use Prim.Native.Nat.{ℕ, _<_}
 use mathlib.Core.Path.{_≡_}
 use mathlib.Core.List.{List}
 use lib.ListN.{length, getD}
-use Rattle.bindings.specs.Bindings.{listLength}
 use Rattle.columns.specs.Rows.{cell}
 use Rattle.columns.specs.declared.rows.Kind.{Kind}
-use Rattle.table.specs.View.{exporterKind, objectKind, interfaceKind, setKind, exporterCount, objectCount, interfaceCount, setCount, slot, memory, view, soundMemory}
+use Rattle.table.specs.View.{exporterKind, objectKind, interfaceKind, setKind, exporterCount, objectCount, interfaceCount, setCount, listStart, memory, view, soundMemory}
 
 -- the words of the first n rows of a kind are the same
 abbrev pub SameRows : Kind → ℕ → List ℕ → List ℕ → Type 0
 SameRows k n ws ws′ = (j i : ℕ) → j < k .width → i < n → getD ws′ (cell k j i) 0 ≡ getD ws (cell k j i) 0
-
--- the bytes of the list at the front of s are the same in s′
-abbrev pub SameList : List ℕ → List ℕ → Type 0
-SameList s s′ = (x : ℕ) → x < listLength s → getD s′ x 0 ≡ getD s x 0
 
 -- two tables that agree on every live place
 pub record SameLive (ws store ws′ store′ : List ℕ) : Type 0 where
@@ -30,7 +25,8 @@ pub record SameLive (ws store ws′ store′ : List ℕ) : Type 0 where
   pub interfaces : SameRows interfaceKind (interfaceCount ws) ws ws′
   pub sets : SameRows setKind (setCount ws) ws ws′
   pub storeLengths : length store′ ≡ length store
-  pub lists : (i : ℕ) → i < exporterCount ws → SameList (slot store i) (slot store′ i)
+  -- the bytes up to the end of the last live list
+  pub lists : (x : ℕ) → x < listStart store (exporterCount ws) → getD store′ x 0 ≡ getD store x 0
 
 -- then the live entries are the same, whatever any other word or byte holds
 abbrev pub FreePlaces : Type 0

@@ -4,3 +4,4 @@ pub mod Edits
 pub mod Counts
 pub mod Sizes
 pub mod FreePlaces
+pub mod Placed

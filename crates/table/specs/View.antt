@@ -1,6 +1,6 @@
 -- Which word and byte holds what, and the live entries that table and store hold. Every array of words and bytes decodes to some
 -- entries, so that nothing but document 01's own rules makes a table unsound.
-use Prim.Native.Nat.{ℕ, _*_, _%_, min}
+use Prim.Native.Nat.{ℕ, zero, suc, _+_, _%_, min}
 use mathlib.Core.Bool.{Bool, not}
 use mathlib.Core.List.{List, map}
 use lib.ListN.{getD, take, drop}
@@ -12,7 +12,6 @@ use Rattle.columns.specs.Members.{memberRows}
 use Rattle.columns.specs.declared.members.Members.{Members}
 use Rattle.columns.specs.declared.rows.Kind.{Kind}
 use Rattle.rules.specs.Entries.{Exporter, Object, Interface, PingSet, Entries, exporterPlaces, objectPlaces, interfacePlaces, setPlaces, countLimit, sequenceLimit}
-use Rattle.rules.specs.Sound.{longestList}
 use Rattle.rules.specs.Calls.{Call, Reply}
 use Rattle.rules.specs.Contract as contract
 use Rattle.rules.specs.Contract.{Memory}
@@ -58,19 +57,20 @@ interfaceCount ws = liveRows 4 interfaceKind ws
 abbrev pub setCount : List ℕ → ℕ
 setCount ws = liveRows 5 setKind ws
 
--- ---- the store: a slot of 512 bytes for each exporter
+-- ---- the store: the lists of the live exporters end to end, in the order of their rows; the bytes behind the last one are free
 
--- where slot i begins
-abbrev pub slotStart : ℕ → ℕ
-slotStart i = longestList * i
+-- the first byte of list i: a list begins where the one before it ends, and is as long as its own N says
+unfoldable pub listStart : List ℕ → ℕ → ℕ
+listStart store zero = 0
+listStart store (suc i) = listStart store i + listLength (drop (listStart store i) store)
 
--- its bytes
-abbrev pub slot : List ℕ → ℕ → List ℕ
-slot store i = take longestList (drop (slotStart i) store)
+-- the bytes from there on
+abbrev pub listFrom : List ℕ → ℕ → List ℕ
+listFrom store i = drop (listStart store i) store
 
--- the list at their front, as long as its own N says
+-- the list at their front; cut short where the store ends before it
 abbrev pub listAt : List ℕ → ℕ → List ℕ
-listAt store i = take (listLength (slot store i)) (slot store i)
+listAt store i = take (listLength (listFrom store i)) (listFrom store i)
 
 -- ---- what a row stands for; a number narrower than a word is read modulo its width, a mark is a word other than 0
 

@@ -1,6 +1,7 @@
 // Edits of array and store, by what they do to the live entries. Each leaves every other entry as it was.
 use crate::find;
 use crate::layout;
+use crate::limits;
 use columns::members::Members;
 use columns::rows;
 use columns::rows::Kind;
@@ -9,19 +10,19 @@ use kinds::Oid;
 use kinds::Oxid;
 ghost use mathlib.Core.Path.{_≡_};
 ghost use mathlib.Core.Bool.{true, not};
-ghost use Prim.Native.Nat.{_-_, _^_, _<_, _≤_};
+ghost use Prim.Native.Nat.{_+_, _-_, _^_, _<_, _≤_};
 ghost use lib.ListN.{length};
 ghost use lib.Dec.{eqb};
 ghost use Rattle.lists.specs.Lists.{distinct};
 ghost use Rattle.columns.specs.Rows.{after};
 ghost use Rattle.bindings.specs.Bindings.{listAnswer};
 ghost use Rattle.rules.specs.Rules.{makeSet, enteredCounts};
-ghost use Rattle.table.specs.View.{exporterCount, objectCount, interfaceCount, setCount, memory, view, oidsOf, clockOf, nextOf, memberValues};
+ghost use Rattle.table.specs.View.{exporterCount, objectCount, interfaceCount, setCount, listStart, memory, view, oidsOf, clockOf, nextOf, memberValues};
 ghost use Rattle.rules.specs.PingRows.{changeSet};
 ghost use Rattle.table.specs.Edits.{Pushed, Pulled, membersBelow, Became, addExporter, addObject, addInterface, dropExporter, dropObject, dropInterface, dropSet, changeObject, changeInterface, MembersCut};
 ghost use Rattle.rules.specs.Contract.{Whole};
 ghost use Rattle.rules.specs.Entries.{objectPlaces, interfacePlaces, setPlaces, exporterPlaces, heardAt, withCount, pingedAt, withSequence, withMembers, withClock, fresh};
-ghost use Rattle.rules.specs.Sound.{longestList};
+ghost use Rattle.rules.specs.Sound.{storeBytes};
 
 // Enters a row after the n live ones of a kind, whose count is the word at.
 fn push_row(words: &mut [u64], k: Kind, at: usize, n: usize, row: &[u64])
@@ -100,7 +101,7 @@ pub fn put_set(words: &mut [u64])
     words[layout::NEXT_SET] = next + 1;
 }
 
-// An exporter, with its list at the front of its slot.
+// An exporter, with its list behind the live ones.
 pub fn put_exporter<'a>(
     words: &'a mut [u64],
     store: &'a mut [u8],
@@ -110,28 +111,31 @@ pub fn put_exporter<'a>(
 )
     requires { ⌜
         Whole (now words) × Whole (now store) × (exporterCount (now words) < exporterPlaces)
-        × (listAnswer (now list) ≡ 0) × (length (now list) ≤ longestList) ⌝ }
+        × (listAnswer (now list) ≡ 0)
+        × (listStart (now store) (exporterCount (now words)) + length (now list) ≤ storeBytes) ⌝ }
     ensures { λ _. ⌜
         view (memory (now (words .exit)) (now (store .exit)))
         ≡ addExporter (record { oxid = oxid .0; unknown = unknown; bindings = now (list .entry) }) (view (memory (now (words .entry)) (now (store .entry)))) ⌝ }
 {
     let n = find::exporter_count(words);
-    let from = layout::slot_start(n);
+    let from = find::list_start(store, n);
     fields::copy(&mut store[from..], 0, list);
     let row = [oxid.0, unknown.low, unknown.high];
     push_row(words, layout::exporter_kind(), layout::EXPORTERS, n, &row);
 }
 
-// Takes exporter i out; the later lists move down by one slot.
+// Takes exporter i out; the later lists move down to where its list began.
 pub fn remove_exporter<'a>(words: &'a mut [u64], store: &'a mut [u8], i: usize)
-    requires { ⌜ Whole (now words) × Whole (now store) × (i < exporterCount (now words)) ⌝ }
+    requires { ⌜
+        Whole (now words) × Whole (now store) × (i < exporterCount (now words))
+        × (listStart (now store) (exporterCount (now words)) ≤ storeBytes) ⌝ }
     ensures { λ _. ⌜
         view (memory (now (words .exit)) (now (store .exit))) ≡ dropExporter i (view (memory (now (words .entry)) (now (store .entry)))) ⌝ }
 {
     let n = find::exporter_count(words);
-    let to = layout::slot_start(i);
-    let from = layout::slot_start(i + 1);
-    let left = layout::slot_start(n) - from;
+    let to = find::list_start(store, i);
+    let from = find::list_start(store, i + 1);
+    let left = find::list_start(store, n) - from;
     columns::copy_down(store, from, to, left);
     pull_row(words, layout::exporter_kind(), layout::EXPORTERS, n, i);
 }
@@ -185,7 +189,7 @@ pub fn put_count(words: &mut [u64], i: usize, k: usize, n: u32)
     requires { ⌜ Whole (now words) × (i < interfaceCount (now words)) × (k < 9) ⌝ }
     ensures { λ _. ⌜ Became (changeInterface i (withCount k n)) (now (words .entry)) (now (words .exit)) ⌝ }
 {
-    words[layout::COUNTS + layout::INTERFACE_PLACES * k + i] = n as u64;
+    words[layout::COUNTS + limits::INTERFACE_PLACES * k + i] = n as u64;
 }
 
 // The time at which object i was last heard.

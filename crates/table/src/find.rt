@@ -1,5 +1,6 @@
 // Rows of live entries by their identifiers, and what stands in them.
 use crate::layout;
+use crate::limits;
 use columns::members::Members;
 use kinds::Guid;
 use kinds::Oid;
@@ -8,7 +9,7 @@ use kinds::SetId;
 ghost use mathlib.Core.Path.{_≡_};
 ghost use mathlib.Core.Bool.{true, _||_};
 ghost use mathlib.Core.List.{List};
-ghost use lib.ListN.{getD};
+ghost use lib.ListN.{length, getD};
 ghost use lib.Dec.{eqb};
 ghost use Rattle.lists.specs.Guids.{nil, sameGuid};
 ghost use Rattle.table.specs.Edits.{membersAt};
@@ -18,7 +19,7 @@ ghost use Rattle.lists.specs.Lists.{some, every};
 ghost use Rattle.rules.specs.Entries.{Interface, countOf, exporterRow, objectRow, interfaceRow, setRow, ipids, exporterPlaces, objectPlaces, interfacePlaces, setPlaces};
 ghost use Rattle.rules.specs.Sound.{listsKept, held, heardWithin, pingedWithin};
 ghost use Rattle.rules.specs.Rules.{noExporter, noObject, noInterface, noSet, isLiveObject};
-ghost use Rattle.table.specs.View.{exporterCount, objectCount, interfaceCount, setCount, clockOf, nextOf, exportersOf, objectsOf, interfacesOf, setsOf, memory, view, Holds};
+ghost use Rattle.table.specs.View.{exporterCount, objectCount, interfaceCount, setCount, clockOf, nextOf, listStart, exportersOf, objectsOf, interfacesOf, setsOf, memory, view, Holds};
 ghost use Rattle.table.specs.Counts.{countsAt};
 
 // The time of the table.
@@ -50,28 +51,28 @@ pub fn exporter_count(words: &[u64]) -> usize
     requires { ⌜ Whole (now words) ⌝ }
     ensures { λ r. ⌜ (r ≡ exporterCount (now (words .entry))) × (r ≤ exporterPlaces) ⌝ }
 {
-    capped(words[layout::EXPORTERS], layout::EXPORTER_PLACES)
+    capped(words[layout::EXPORTERS], limits::EXPORTER_PLACES)
 }
 
 pub fn object_count(words: &[u64]) -> usize
     requires { ⌜ Whole (now words) ⌝ }
     ensures { λ r. ⌜ (r ≡ objectCount (now (words .entry))) × (r ≤ objectPlaces) ⌝ }
 {
-    capped(words[layout::OBJECTS], layout::OBJECT_PLACES)
+    capped(words[layout::OBJECTS], limits::OBJECT_PLACES)
 }
 
 pub fn interface_count(words: &[u64]) -> usize
     requires { ⌜ Whole (now words) ⌝ }
     ensures { λ r. ⌜ (r ≡ interfaceCount (now (words .entry))) × (r ≤ interfacePlaces) ⌝ }
 {
-    capped(words[layout::INTERFACES], layout::INTERFACE_PLACES)
+    capped(words[layout::INTERFACES], limits::INTERFACE_PLACES)
 }
 
 pub fn set_count(words: &[u64]) -> usize
     requires { ⌜ Whole (now words) ⌝ }
     ensures { λ r. ⌜ (r ≡ setCount (now (words .entry))) × (r ≤ setPlaces) ⌝ }
 {
-    capped(words[layout::SETS], layout::SET_PLACES)
+    capped(words[layout::SETS], limits::SET_PLACES)
 }
 
 // The row of the exporter with an OXID; the number of live exporters where there is none.
@@ -143,7 +144,7 @@ pub fn count(words: &[u64], i: usize, k: usize) -> u32
     requires { ⌜ Whole (now words) × (i < interfaceCount (now words)) × (k < 9) ⌝ }
     ensures { λ r. ⌜ r ≡ countOf k (getD (interfacesOf (now (words .entry))) i noInterface) ⌝ }
 {
-    (words[layout::COUNTS + layout::INTERFACE_PLACES * k + i] % layout::COUNT_LIMIT) as u32
+    (words[layout::COUNTS + limits::INTERFACE_PLACES * k + i] % layout::COUNT_LIMIT) as u32
 }
 
 // The object of interface i.
@@ -282,14 +283,28 @@ pub fn unknown(words: &[u64], i: usize) -> Guid
     }
 }
 
-// The binding list of exporter i, where it keeps the list rules.
+// Where list i begins, where the lists before it end within the store.
+pub fn list_start(store: &[u8], i: usize) -> usize
+    requires { ⌜ Whole (now store) × (listStart (now store) i ≤ length (now store)) ⌝ }
+    ensures { λ r. ⌜ r ≡ listStart (now (store .entry)) i ⌝ }
+{
+    let mut at = 0;
+    let mut j = 0;
+    while j < i {
+        at += bindings::stated_length(&store[at..]);
+        j += 1;
+    }
+    at
+}
+
+// The binding list of exporter i, where the lists keep the list rules.
 pub fn list<'a>(words: &'a [u64], store: &'a [u8], i: usize) -> &'a [u8]
     requires { ⌜
         Whole (now store) × (i < exporterCount (now words))
         × (listsKept (view (memory (now words) (now store))) ≡ true) ⌝ }
     ensures { λ r. ⌜ now r ≡ getD (exportersOf (now (words .entry)) (now (store .entry))) i noExporter .bindings ⌝ }
 {
-    let slot = layout::slot(store, i);
-    let n = bindings::list_length(slot);
-    &slot[..n]
+    let from = list_start(store, i);
+    let to = from + bindings::stated_length(&store[from..]);
+    &store[from..to]
 }

@@ -1,6 +1,7 @@
 // Whether a lent table is sound: the clauses of document 01's "sound", each over the columns that it speaks of.
 use crate::find;
 use crate::layout;
+use crate::limits;
 ghost use mathlib.Core.Path.{_≡_};
 ghost use mathlib.Core.Bool.{true};
 ghost use Prim.Native.Nat.{_<_};
@@ -21,18 +22,24 @@ fn are_proper(col: &[u64]) -> bool
     columns::all_distinct(col)
 }
 
-// Each exporter's list keeps the list rules; it ends within the exporter's slot.
+// Each exporter's list keeps the list rules and is no longer than it may be; it begins where the one before it ends.
 fn lists_kept<'a>(words: &'a [u64], store: &'a [u8]) -> bool
     requires { ⌜ Whole (now words) × Whole (now store) ⌝ }
     ensures { λ r. ⌜ r ≡ listsKept (view (memory (now (words .entry)) (now (store .entry)))) ⌝ }
 {
     let n = find::exporter_count(words);
-    let mut i = 0;
-    while i < n {
-        if bindings::front_answer(layout::slot(store, i)) != 0 {
+    let mut at = 0;
+    let mut k = 0;
+    while k < n {
+        if bindings::front_answer(&store[at..]) != 0 {
             return false;
         }
-        i += 1;
+        let size = bindings::stated_length(&store[at..]);
+        if limits::LONGEST_LIST < size {
+            return false;
+        }
+        at += size;
+        k += 1;
     }
     true
 }
@@ -200,10 +207,10 @@ fn sets_sound(words: &[u64]) -> bool
 pub fn sound<'a>(words: &'a [u64], store: &'a [u8]) -> bool
     ensures { λ r. ⌜ r ≡ soundMemory (memory (now (words .entry)) (now (store .entry))) ⌝ }
 {
-    if words.len() != layout::WORDS {
+    if words.len() != limits::WORDS {
         return false;
     }
-    if store.len() != layout::BYTES {
+    if store.len() != limits::BYTES {
         return false;
     }
     if !exporters_sound(words, store) {

@@ -1,28 +1,13 @@
 // Which word and byte holds what.
+use crate::limits::EXPORTER_PLACES;
+use crate::limits::INTERFACE_PLACES;
+use crate::limits::OBJECT_PLACES;
+use crate::limits::SET_PLACES;
 use columns::rows::Kind;
 ghost use mathlib.Core.Path.{_≡_};
-ghost use Prim.Native.Nat.{_+_, _≤_, _<_};
+ghost use Prim.Native.Nat.{_+_, _≤_};
 ghost use lib.ListN.{length, take, drop};
-ghost use Rattle.rules.specs.Entries.{exporterPlaces};
-ghost use Rattle.table.specs.View.{exporterKind, objectKind, interfaceKind, setKind, slotStart, slot};
-ghost use Rattle.rules.specs.Contract.{Whole};
-
-// The lengths of the array and of the store.
-pub const WORDS: usize = 8192;
-
-pub const BYTES: usize = 8192;
-
-// The places of each kind.
-pub const EXPORTER_PLACES: usize = 16;
-
-pub const OBJECT_PLACES: usize = 128;
-
-pub const INTERFACE_PLACES: usize = 256;
-
-pub const SET_PLACES: usize = 32;
-
-// The bytes of the store for each exporter's binding list, which is no longer.
-pub const SLOT: usize = 512;
+ghost use Rattle.table.specs.View.{exporterKind, objectKind, interfaceKind, setKind};
 
 // What counts and sequence numbers are below.
 pub const COUNT_LIMIT: u64 = 4294967296;
@@ -126,22 +111,4 @@ pub fn column(words: &[u64], first: usize, n: usize) -> &[u64]
 {
     let end = first + n;
     &words[first..end]
-}
-
-// Where the slot of exporter i begins.
-pub fn slot_start(i: usize) -> usize
-    requires { ⌜ i ≤ exporterPlaces ⌝ }
-    ensures { λ r. ⌜ r ≡ slotStart i ⌝ }
-{
-    SLOT * i
-}
-
-// The slot of exporter i.
-pub fn slot(store: &[u8], i: usize) -> &[u8]
-    requires { ⌜ Whole (now store) × (i < exporterPlaces) ⌝ }
-    ensures { λ r. ⌜ now r ≡ slot (now (store .entry)) i ⌝ }
-{
-    let from = slot_start(i);
-    let end = from + SLOT;
-    &store[from..end]
 }

@@ -2,4 +2,5 @@
 pub mod edit;
 pub mod find;
 pub mod judge;
-pub mod layout;
+mod layout;
+pub mod limits;

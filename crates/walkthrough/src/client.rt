@@ -62,14 +62,14 @@ fn next_stop<'a>(words: &'a [u64], store: &'a [u8], reference: &'a [u8]) {
 }
 
 fn resolve<'a>(words: &'a [u64], store: &'a [u8], oxid: Oxid) {
-    let mut list = [0u8; 512];
+    let mut list = [0u8; 2048];
     let r = resolver::resolve(words, store, oxid, &mut list);
     let n = r.length;
     say::step(r.answer, b"client: resolves the exporter");
     if r.answer != answer::DONE {
         say::counted(b", code ", kinds::wire_code(r.answer) as u64);
         print::text(b" on the wire");
-    } else if n <= 512 {
+    } else if n <= 2048 {
         say::counted(b", ", n as u64);
         print::text(b" bytes, ");
         say::address(&list[0..n]);
@@ -79,7 +79,7 @@ fn resolve<'a>(words: &'a [u64], store: &'a [u8], oxid: Oxid) {
 
 // Asks for addresses of one protocol alone, UDP, which the server does not offer.
 fn resolve_udp<'a>(words: &'a [u64], store: &'a [u8], oxid: Oxid) {
-    let mut list = [0u8; 512];
+    let mut list = [0u8; 2048];
     let protocols = [8u16];
     let r = resolver::resolve_filtered(words, store, oxid, &protocols, &mut list);
     say::step(r.answer, b"client: resolves it for UDP alone");

@@ -2,8 +2,10 @@
 use mathlib.Core.Path.{sym, _∙_}
 use native.Mathlib.Omega.{arith}
 use Rattle.rules.specs.Rules.{next, results, refused, done}
+use Rattle.rules.proofs.SoundLaws.{sound-fields}
 use Rattle.table.specs.View.{memory, view}
 use Rattle.table.proofs.LiveRows.{exporters-length}
+use Rattle.table.proofs.KeptLists.{bytes-live}
 use Rattle.calls.proofs.Calls.{refused-step, accepted-step}
 use Rattle.entering.proofs.Places.{exporter-fits}
 use borrow.Author.Needs.{needs}
@@ -11,35 +13,38 @@ use Rattle.entering.proofs.enter_exporter_step.Statement.{statement}
 use Rattle.entering.proofs.enter_exporter_step.Tie as tie
 
 exporter-number-requires : tie.Need-exporter-number-requires
-exporter-number-requires c κs = c .before .before .before .before .pre .words
+exporter-number-requires c κs = c .before .before .before .before .before .pre
 
 same-length : tie.Need-same-length
 same-length c = search needs
 
+same-length-2 : tie.Need-same-length-2
+same-length-2 c = search needs
+
 returns : tie.Need-returns
 unfolding refused results
-returns c =
-    refused-step _ (c .before .exporter-number .ensures (c .before .before .before .before .before .before .args .store .now)) (c .if1 .taken)
+returns c = refused-step _ (c .before .exporter-number .ensures) (c .if1 .taken)
 
 put-exporter-requires : tie.Need-put-exporter-requires
 put-exporter-requires c κs =
-    let a = c .before .before .before .before .before .before .before .before .args in
-    let t = c .before .before .before .before .before .before .before .before .pre in
-    let fits = exporter-fits (view (memory (a .words .now) (a .store .now))) (a .oxid .0) (a .unknown) (a .list .now) (sym (c .before .before .before .exporter-number .ensures (a .store .now)) ∙ c .before .before .if1 .left) in
+    let a = c .before .before .before .before .before .before .before .before .before .args in
+    let t = c .before .before .before .before .before .before .before .before .before .pre in
+    let fits = exporter-fits (view (memory (a .words .now) (a .store .now))) (a .oxid .0) (a .unknown) (a .list .now) (sym (c .before .before .before .exporter-number .ensures) ∙ c .before .before .if1 .left) in
     let l = exporters-length (a .words .now) (a .store .now) in
-    (t .words, t .store, omega arith, fits .0, fits .1)
-
-same-length-2 : tie.Need-same-length-2
-same-length-2 c = search needs
+    let b = bytes-live (a .words .now) (a .store .now) (sound-fields _ (t .entries) .listsKept) in
+    (t .words, t .store, omega arith, fits .0, rw (← b) (fits .2))
 
 same-length-3 : tie.Need-same-length-3
 same-length-3 c = search needs
 
+same-length-4 : tie.Need-same-length-4
+same-length-4 c = search needs
+
 returns-2 : tie.Need-returns-2
 unfolding done results next
 returns-2 c =
-    let t = c .before .before .before .before .before .before .before .before .before .before .before .before .before .pre in
-    accepted-step _ (c .before .before .before .before .before .before .before .before .exporter-number .ensures (c .before .before .before .before .before .before .before .before .before .before .before .before .before .args .store .now)) (c .before .before .before .before .before .before .before .if1 .left) _ (c .before .before .before .before .put-exporter .ensures)
+    let t = c .before .before .before .before .before .before .before .before .before .before .before .before .before .before .pre in
+    accepted-step _ (c .before .before .before .before .before .before .before .before .exporter-number .ensures) (c .before .before .before .before .before .before .before .if1 .left) _ (c .before .before .before .before .put-exporter .ensures)
 
 pub enter-exporter-step-spec : {M : Type 1} → statement M
 enter-exporter-step-spec =
@@ -47,8 +52,9 @@ enter-exporter-step-spec =
     (tie.spec
     exporter-number-requires
     same-length
+    same-length-2
     returns
     put-exporter-requires
-    same-length-2
     same-length-3
+    same-length-4
     returns-2)

@@ -1,5 +1,8 @@
 -- `leaving::remove_exporter_step`: a table that is not sound is refused, then an exporter that is not live; else its objects go, and then its row.
 use native.Mathlib.Omega.{arith}
+use Rattle.rules.proofs.SoundLaws.{sound-fields}
+use Rattle.table.specs.View.{exporterCount}
+use Rattle.table.proofs.KeptLists.{list-starts}
 use Rattle.settling.specs.declared.Leaving.the-variants.{ExporterRemoved}
 use Rattle.settling.proofs.Settling.{asked-sound}
 use Rattle.leaving.proofs.Removing.{no-exporter, exporter-gone, leaving-count}
@@ -37,7 +40,8 @@ remove-exporter-requires c κs =
     let n = leaving-count (ExporterRemoved (a .oxid)) (a .words .now) _ (a .store .now) (c .before .before .before .before .remove-leaving .ensures) in
     let m = c .before .before .before .before .before .before .before .exporter-count .ensures .0 in
     let i = c .before .before .before .before .before .before .if1 .left in
-    (search needs, b, omega arith)
+    let e = list-starts (a .words .now) (a .store .now) (sound-fields _ (t .entries) .listsKept) (exporterCount (a .words .now)) (omega arith) in
+    (search needs, b, omega arith, rw n (omega arith))
 
 same-length-2 : tie.Need-same-length-2
 same-length-2 c = search needs

@@ -21,15 +21,15 @@ use Rattle.rules.specs.Entries.{Exporter, exporterRow}
 use Rattle.rules.specs.Calls.{Call}
 use Rattle.rules.specs.Sound.{listsKept}
 use Rattle.rules.specs.Rules.{noExporter, isLiveExporter, exporterOf, tooMany, refusals, number, results, done}
-use Rattle.table.specs.View.{exporterCount, slot, exportersOf, memory, view}
-use Rattle.table.proofs.judge.Checks.{front-kept}
+use Rattle.table.specs.View.{exporterCount, listFrom, exportersOf, memory, view}
+use Rattle.table.proofs.KeptLists.{front-kept}
 use Rattle.table.proofs.LiveRows.{exporter-at}
 use Rattle.reading.specs.Replies.{resolveReply}
 use Rattle.calls.proofs.Calls.{row-gives, row-passes, gone-gives, live-passes, exporter-tested, exporter-in-row}
 
 -- the list of a live exporter is accepted
 pub kept-list : (ws s : List ℕ) (i : ℕ) → i < exporterCount ws → listsKept (view (memory ws s)) ≡ true → listAnswer (getD (exportersOf ws s) i noExporter .bindings) ≡ 0
-kept-list ws s i live kept = rw (exporter-at ws s i noExporter live) (front-list (slot s i) (front-kept ws s i live kept))
+kept-list ws s i live kept = rw (exporter-at ws s i noExporter live) (front-list (listFrom s i) (front-kept ws s kept i live))
 
 -- the filter's answer for an accepted list: 0 where there is room
 module _ (protocols list : List ℕ) (n : ℕ) {w : Filtered} (e : w ≡ writeFiltered protocols list n) (good : listAnswer list ≡ 0) where

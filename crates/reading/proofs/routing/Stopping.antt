@@ -1,5 +1,5 @@
 -- The next stop: the reference's number and OXID, the bytes of an exporter's list, and the place that each outcome gives.
-use Prim.Native.Nat.{ℕ, _+_, _-_, _*_, _<_, _≤_}
+use Prim.Native.Nat.{ℕ, _+_, _-_, _<_, _≤_}
 use mathlib.Core.Path.{_≡_, refl, sym, ap, _∙_}
 use mathlib.Core.Bool.{Bool, true, false, cond}
 use mathlib.Core.List.{List, [], _∷_}
@@ -7,14 +7,12 @@ use native.Mathlib.Omega.{arith}
 use native.Mathlib.Nat.{add-sub-cancel-left}
 use borrow.Author.Tests.{eqb-true, eqb-false, ne-eqb}
 use lib.Dec.{eqb}
-use lib.ListN.{length, take, drop, getD, length-take, length-drop}
-use lib.Seq.{length-take-le, take-take}
+use lib.ListN.{length, take, getD}
 use Rattle.kinds.specs.Refusals.{order, _gives_, differ}
 use Rattle.kinds.proofs.Refusing.{eq-differ, ne-differ}
 use Rattle.fields.specs.Fields.{field}
 use Rattle.bindings.specs.Bindings.{listLength}
 use Rattle.bindings.specs.declared.Place.{Place}
-use Rattle.bindings.proofs.Laws.{front}
 use Rattle.references.specs.References.{isCustom, referenceAnswer, tailPlace}
 use Rattle.references.proofs.Laws.{accepted, oxid-at, tail-number, tail-within, tail-bytes}
 use Rattle.lists.specs.Lists.{firstIndex}
@@ -25,8 +23,9 @@ use Rattle.rules.specs.Rules.{isLiveExporter, noExporter, oxidOf, refusals, num
 use Rattle.rules.specs.Contract.{Memory, replyTo}
 use Rattle.rules.proofs.Performing.{unsound}
 use Rattle.rules.proofs.SoundLaws.{table-fields}
-use Rattle.table.specs.View.{exporterCount, slot, exportersOf, memory, view, soundMemory, Performed}
-use Rattle.table.proofs.judge.Checks.{front-kept}
+use Rattle.table.specs.View.{exporterCount, listStart, listFrom, exportersOf, memory, view, soundMemory, Performed}
+use Rattle.table.proofs.StoredLists.{start-next}
+use Rattle.table.proofs.KeptLists.{list-size, list-ends}
 use Rattle.table.proofs.LiveRows.{exporter-at}
 use Rattle.reading.specs.NextStop.{refusedStop, stopInStore, stopInReference, stopPlace, stopStart, stopReply, placeReply, StopFound, StopPart, OneCall}
 use Rattle.reading.specs.declared.routing.StopPlace.{StopPlace}
@@ -61,23 +60,15 @@ module _ (reference : List ℕ) {x : Place} (own : x ≡ tailPlace reference) wh
 -- ---- the list of a live exporter, in the store
 
 module _ (ws s : List ℕ) (i : ℕ) (live : i < exporterCount ws) (kept : listsKept (view (memory ws s)) ≡ true) where
-  enough : listLength (slot s i) ≤ length (slot s i)
-  enough = front (slot s i) (front-kept ws s i live kept) .enough
-
-  list-size : length (getD (exportersOf ws s) i noExporter .bindings) ≡ listLength (slot s i)
-  list-size = rw (exporter-at ws s i noExporter live) (length-take-le _ _ enough)
+  bindings-size : length (getD (exportersOf ws s) i noExporter .bindings) ≡ listLength (listFrom s i)
+  bindings-size = rw (exporter-at ws s i noExporter live) (list-size ws s kept i live)
 
   -- it lies in the store
-  list-within : length s ≡ 8192 → 512 * i + length (getD (exportersOf ws s) i noExporter .bindings) ≤ length s
-  list-within long =
-      let h = enough in
-      rw list-size (omega (arith, length-take 512 (drop (512 * i) s), length-drop (512 * i) s))
+  list-within : listStart s i + length (getD (exportersOf ws s) i noExporter .bindings) ≤ length s
+  list-within = rw (bindings-size, ← start-next s i) (list-ends ws s kept i live)
 
-  list-bytes : take (512 * i + length (getD (exportersOf ws s) i noExporter .bindings) - 512 * i) (drop (512 * i) s) ≡ getD (exportersOf ws s) i noExporter .bindings
-  list-bytes =
-      let h = enough in
-      let short : listLength (slot s i) ≤ 512 = omega (arith, length-take 512 (drop (512 * i) s)) in
-      rw (add-sub-cancel-left, list-size, exporter-at ws s i noExporter live) (sym (take-take _ 512 _ short))
+  list-bytes : take (listStart s i + length (getD (exportersOf ws s) i noExporter .bindings) - listStart s i) (listFrom s i) ≡ getD (exportersOf ws s) i noExporter .bindings
+  list-bytes = rw (add-sub-cancel-left, bindings-size, exporter-at ws s i noExporter live)
 
 -- ---- the place
 
@@ -97,13 +88,13 @@ module _ (ws s reference : List ℕ) where
 
     -- the OXID is live: its exporter's list
     pub store-stop : {i : ℕ} → i ≡ exporterRow (view (memory ws s)) (oxidOf reference) → isLiveExporter (view (memory ws s)) (oxidOf reference) ≡ true
-        → i < exporterCount ws → listsKept (view (memory ws s)) ≡ true → length s ≡ 8192 → StopFound (memory ws s) reference (stopInStore (memory ws s) i)
+        → i < exporterCount ws → listsKept (view (memory ws s)) ≡ true → StopFound (memory ws s) reference (stopInStore (memory ws s) i)
     unfolding done results stopPlace
-    store-stop {i} row live l kept long =
+    store-stop {i} row live l kept =
         record {
           performed = rw (list-bytes ws s i l kept, exporter-in-row ws s (oxidOf reference) row) (rw live at h);
           place = rw (done-number, live, ← row);
-          within = (omega arith, list-within ws s i l kept long);
+          within = (omega arith, list-within ws s i l kept);
         }
 
     -- it is not: the reference's own list

@@ -1,30 +1,27 @@
 -- Laws of the checks of live rows: what a clause says of all entries of a kind, by the index of the row.
 use Prim.Native.Nat.{ℕ, _+_, _<_, _≤_}
 use mathlib.Core.Path.{_≡_, refl, sym, ap, _∙_}
-use mathlib.Core.Bool.{Bool, true, false, not, _&&_}
-use mathlib.Core.List.{List, _++_, map}
+use mathlib.Core.Bool.{Bool, true, false, not}
+use mathlib.Core.List.{List, map}
 use mathlib.Core.Logic.{⊎-elim}
 use native.Mathlib.Omega.{arith}
-use borrow.Author.Tests.{not-true, not-false, eqb-true, eq-eqb, lt-ltb, le-ltb, le-leb}
-use lib.Dec.{eqb, ltb, leb}
-use lib.ListN.{length, getD, take, drop, length-take, take-append-drop, length-map, List·getD-eq-default}
-use Rattle.kinds.proofs.Refusing.{same-test}
-use Rattle.bindings.specs.Bindings.{listLength, frontAnswer, listAnswer}
-use Rattle.bindings.proofs.Laws.{front-list, list-front}
+use borrow.Author.Tests.{not-true, not-false, lt-ltb, le-ltb}
+use lib.Dec.{eqb, ltb}
+use lib.ListN.{length, getD, drop, length-map, List·getD-eq-default}
 use Rattle.lists.specs.Lists.{every, among, tabulate}
 use Rattle.columns.specs.Rows.{rowAt, rows}
 use Rattle.columns.specs.Members.{memberRows}
 use Rattle.columns.specs.declared.rows.Kind.{Kind}
-use Rattle.lists.proofs.Tests.{below-or-not, and-intro, and-left}
-use Rattle.lists.proofs.Lists.{every-at, every-map, every-ext, map-tabulate, tabulate-ext, tabulate-getD, none-some}
+use Rattle.lists.proofs.Tests.{below-or-not}
+use Rattle.lists.proofs.Lists.{every-map, every-ext, map-tabulate, tabulate-ext, tabulate-getD, none-some}
 use Rattle.lists.proofs.Distinct.{eqb-decides, same-comm, some-same}
 use Rattle.columns.proofs.Loops.{table-step, table-end, every-passes, every-fails, every-end}
 use Rattle.columns.proofs.rows.Laws.{rowAt-getD, length-rows}
-use Rattle.rules.specs.Entries.{Exporter, Object, oids}
-use Rattle.rules.specs.Rules.{noExporter, noObject, noInterface}
-use Rattle.table.proofs.LiveRows.{exporters-length, objects-length, interfaces-length, exporter-at}
-use Rattle.rules.specs.Sound.{held, heardWithin, heardRecently, interfacesHeld, setMembersLive, listsKept}
-use Rattle.table.specs.View.{exporterKind, objectKind, setKind, exporterCount, objectCount, interfaceCount, setCount, slot, listAt, asExporter, asObject, asSet, exportersOf, objectsOf, interfacesOf, setsOf, memory, view, clockOf}
+use Rattle.rules.specs.Entries.{Object, oids}
+use Rattle.rules.specs.Rules.{noObject, noInterface}
+use Rattle.table.proofs.LiveRows.{objects-length, interfaces-length}
+use Rattle.rules.specs.Sound.{held, heardWithin, heardRecently, interfacesHeld, setMembersLive}
+use Rattle.table.specs.View.{objectKind, setKind, objectCount, interfaceCount, setCount, asObject, asSet, objectsOf, interfacesOf, setsOf, memory, view, clockOf}
 use Rattle.table.specs.Edits.{membersAt}
 
 -- every index below n passes
@@ -121,33 +118,3 @@ members-rows ws s n objects e o nonzero =
     let size : objects ≡ length ids = o ∙ sym (live-oids ws) in
     rw (rowAt-getD setKind ws i 3 (omega arith), rowAt-getD setKind ws i 4 (omega arith), size)
     (every-ext _ _ (among-index ids nonzero) _ ∙ sym (every-map (among ids) (λ j. getD ids j 0) _)))
-
--- ---- exporters
-
--- the list at the front of at most 512 bytes is accepted there where it is accepted as a whole list of at most 512 bytes
-front-whole : (s : List ℕ) → length s ≤ 512
-    → eqb (frontAnswer s) 0 ≡ (eqb (listAnswer (take (listLength s) s)) 0 && leb (length (take (listLength s) s)) 512)
-front-whole s short =
-    let l = take (listLength s) s in
-    let whole : l ++ drop (listLength s) s ≡ s = take-append-drop (listLength s) s in
-    let fits : length l ≤ 512 = simp length-take (omega arith) in
-    same-test _ _
-    (λ t. and-intro _ _ (eq-eqb _ 0 (front-list s (eqb-true _ 0 t))) (le-leb (length l) 512 fits))
-    (λ t. eq-eqb _ 0 (ap frontAnswer (sym whole) ∙ list-front l _ (eqb-true _ 0 (and-left _ _ t))))
-
--- the list of exporter i is accepted
-abbrev pub keptRow : List ℕ → ℕ → Bool
-keptRow store i = eqb (frontAnswer (slot store i)) 0
-
--- every list is kept where every slot's list is accepted
-pub kept-rows : (ws store : List ℕ) (n : ℕ) → n ≡ exporterCount ws → everyRow n (keptRow store) ≡ listsKept (view (memory ws store))
-unfolding exportersOf
-kept-rows ws store n e =
-    table-checked _ (keptRow store) (λ i. asExporter (rowAt exporterKind ws i) (listAt store i)) n (exporterCount ws) e
-    (λ i l. front-whole (slot store i) (simp length-take (omega arith)))
-
--- the list of a live exporter is accepted at the front of its slot
-pub front-kept : (ws store : List ℕ) (i : ℕ) → i < exporterCount ws → listsKept (view (memory ws store)) ≡ true → frontAnswer (slot store i) ≡ 0
-front-kept ws store i h kept =
-    let here = every-at (λ (x : Exporter). eqb (listAnswer (x .bindings)) 0 && leb (length (x .bindings)) 512) (exportersOf ws store) noExporter i (rw (exporters-length ws store) h) kept in
-    eqb-true _ 0 (front-whole (slot store i) (simp length-take (omega arith)) ∙ (rw (exporter-at ws store i noExporter h) at here))

@@ -21,7 +21,7 @@ groups e = holding (exporterClauses e) ∷ holding (objectClauses e) ∷ holding
 
 groups-hold : (e : Entries) → Sound e → holding (groups e) ≡ true
 groups-hold e s =
-    ((s .exportersProper and s .listsKept and none) .together
+    ((s .exportersProper and s .listsKept and s .listsInside and none) .together
     and (s .objectsProper and s .objectExportersLive and s .objectsHaveInterfaces and s .heardBefore and s .heardRecently and none) .together
     and (s .ipidsProper and s .interfaceObjectsLive and s .interfacesHeld and none) .together
     and (s .setsProper and s .pingedBefore and s .pingedRecently and s .setsBelowNext and s .nextNonzero and s .setMembersLive and none) .together
@@ -38,7 +38,7 @@ groups-sound e h =
     (clause-at _ 0 xs and clause-at _ 0 os and clause-at _ 0 is and clause-at _ 0 ss
     and clause-at _ 1 is and clause-at _ 1 os and clause-at _ 2 os and clause-at _ 2 is and clause-at _ 5 ss
     and clause-at _ 3 os and clause-at _ 1 ss and clause-at _ 4 os and clause-at _ 2 ss
-    and clause-at _ 4 ss and clause-at _ 3 ss and clause-at _ 1 xs and none)
+    and clause-at _ 4 ss and clause-at _ 3 ss and clause-at _ 1 xs and clause-at _ 2 xs and none)
     .together
 
 -- `sound` is its four groups together

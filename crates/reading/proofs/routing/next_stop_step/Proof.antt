@@ -84,7 +84,7 @@ returns-3 c =
     rw (c .in-store .ensures)
     (store-stop _ _ _ (accepted (c .before .before .before .before .before)) r
     (exporter-tested _ _ _ r (c .before .before .exporter-count .ensures .0) ∙ lt-ltb _ _ (c .before .if3 .taken))
-    (omega arith) (sound-fields _ (t .entries) .listsKept) (t .store))
+    (omega arith) (sound-fields _ (t .entries) .listsKept))
 
 in-reference-requires : tie.Need-in-reference-requires
 in-reference-requires c κs = search needs

@@ -1,24 +1,31 @@
--- `table::edit::put_exporter`: the list goes into the first free slot, and a row of the exporters is entered.
+-- `table::edit::put_exporter`: the list goes behind the live ones, and a row of the exporters is entered.
+use native.Mathlib.Omega.{arith}
 use Prim.Native.Nat.{_+_, _≤_}
 use lib.ListN.{length}
-use Rattle.table.specs.View.{slotStart}
-use Rattle.table.proofs.edit.Lists.{exporter-pushed, slotted, slotted-list, slotted-others}
-use native.Mathlib.Omega.{arith}
+use Rattle.table.specs.View.{listStart}
+use Rattle.table.proofs.StoredLists.{placed, placed-list, placed-others}
+use Rattle.table.proofs.edit.Lists.{exporter-pushed}
 use borrow.Author.Needs.{needs}
 use Rattle.table.proofs.edit.put_exporter.Statement.{statement}
 use Rattle.table.proofs.edit.put_exporter.Tie as tie
 
+-- the list begins, and ends, within the store
+fits : (c : tie.After-exporter-count) → listStart (c .before .before .before .before .before .args .store .now) (c .exporter-count .result) + length (c .before .before .before .before .before .args .list .now) ≤ length (c .before .before .before .before .before .args .store .now)
+fits c =
+    let start = c .before .before .before .before .before in
+    rw (c .exporter-count .ensures .0) (let h = start .pre .4 in let w = start .pre .1 in omega arith)
+
 exporter-count-requires : tie.Need-exporter-count-requires
 exporter-count-requires c κs = search needs
 
-slot-start-requires : tie.Need-slot-start-requires
-slot-start-requires c κs = search needs
+list-start-requires : tie.Need-list-start-requires
+list-start-requires c κs = let h = fits (c .before) in (search needs, omega arith)
 
 sub-copy : tie.Need-sub-copy
-sub-copy c = search needs
+sub-copy c = let h = fits (c .before .before) in let e = c .list-start .ensures in omega arith
 
 part-copy-start : tie.Need-part-copy-start
-part-copy-start c = search needs
+part-copy-start c = let h = fits (c .before .before) in let e = c .list-start .ensures in omega arith
 
 part-copy-end : tie.Need-part-copy-end
 part-copy-end c = search needs
@@ -43,27 +50,24 @@ same-length-2 c = search needs
 
 returns : tie.Need-returns
 returns c =
-    let b = c .before .before .before in
-    let g = b .before .before .before .before .before .before .before in
-    let f = g .before in
-    let start = f .before .before .before .before .before in
+    let p = c .before .before in
+    let f = p .before .before .before .before .before .before .before .before in
+    let k = f .before .before in
+    let start = k .before .before .before .before .before in
     let s = start .args .store .now in
     let l = start .args .list .now in
-    let n = f .exporter-count .result in
-    let e = f .exporter-count .ensures .0 in
+    let n = k .exporter-count .result in
     let done = start .pre .3 in
-    let size = start .pre .4 in
-    let room : slotStart n + 512 ≤ length s = omega arith in
-    rw (c .before .before .before .before .before .before .before .before .copy .ensures, g .slot-start .ensures)
-    (exporter-pushed _ _ n e s (slotted s l n) _ l (omega arith) (rw (b .before .exporter-kind .ensures) at (c .before .before .push-row .ensures))
-    (slotted-others s l n done size room) (slotted-list s l n done size room))
+    rw (p .before .before .before .before .before .before .copy .ensures, f .list-start .ensures)
+    (exporter-pushed _ _ n (k .exporter-count .ensures .0) s (placed s l n) _ l (omega arith) (rw (p .before .before .exporter-kind .ensures) at (p .push-row .ensures))
+    (placed-others s l n done (fits k)) (placed-list s l n done (fits k)))
 
 pub put-exporter-spec : {M : Type 1} → statement M
 put-exporter-spec =
     tie.close
     (tie.spec
     exporter-count-requires
-    slot-start-requires
+    list-start-requires
     sub-copy
     part-copy-start
     part-copy-end

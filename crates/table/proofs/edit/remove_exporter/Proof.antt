@@ -1,31 +1,62 @@
--- `table::edit::remove_exporter`: the later lists move down by a slot, and a row of the exporters is taken out.
-use Prim.Native.Nat.{_+_, _-_, _≤_, _<_}
-use lib.ListN.{length}
-use Rattle.columns.specs.Moved.{copiedDown}
-use Rattle.table.specs.View.{slotStart}
-use Rattle.table.proofs.edit.Lists.{exporter-pulled, lists-moved}
+-- `table::edit::remove_exporter`: the later lists move down, and a row of the exporters is taken out.
 use native.Mathlib.Omega.{arith}
+use native.Mathlib.Numerals.{add-one}
+use Prim.Native.Nat.{_+_, _≤_, _<_}
+use mathlib.Core.Path.{_≡_, _∙_}
+use lib.ListN.{length}
+use Rattle.table.specs.View.{listStart}
+use Rattle.table.specs.Placed.{closed}
+use Rattle.table.proofs.StoredLists.{starts-rise, closed-up}
+use Rattle.table.proofs.edit.Lists.{exporter-pulled}
 use borrow.Author.Needs.{needs}
 use Rattle.table.proofs.edit.remove_exporter.Statement.{statement}
 use Rattle.table.proofs.edit.remove_exporter.Tie as tie
 
+-- the last list ends within the store
+room : (c : tie.After-exporter-count) → listStart (c .before .before .before .before .args .store .now) (c .exporter-count .result) ≤ length (c .before .before .before .before .args .store .now)
+room c =
+    let start = c .before .before .before .before in
+    rw (c .exporter-count .ensures .0) (let h = start .pre .3 in let w = start .pre .1 in omega arith)
+
+live : (c : tie.After-exporter-count) → c .before .before .before .before .args .i < c .exporter-count .result
+live c = let e = c .exporter-count .ensures .0 in let h = c .before .before .before .before .pre .2 in omega arith
+
 exporter-count-requires : tie.Need-exporter-count-requires
 exporter-count-requires c κs = search needs
 
-slot-start-requires : tie.Need-slot-start-requires
-slot-start-requires c κs = search needs
+list-start-requires : tie.Need-list-start-requires
+list-start-requires c κs =
+    let k = c .before in
+    let a = k .before .before .before .before .args in
+    let h = room k in
+    let l = live k in
+    let r = starts-rise (a .store .now) (a .i) (k .exporter-count .result) (omega arith) in
+    (search needs, omega arith)
 
-add-slot-start : tie.Need-add-slot-start
-add-slot-start c = search needs
+add-list-start : tie.Need-add-list-start
+add-list-start c = search needs
 
-slot-start-requires-2 : tie.Need-slot-start-requires-2
-slot-start-requires-2 c κs = search needs
+list-start-requires-2 : tie.Need-list-start-requires-2
+list-start-requires-2 c κs =
+    let k = c .before .before .before in
+    let a = k .before .before .before .before .args in
+    let h = room k in
+    let l = live k in
+    let r = starts-rise (a .store .now) (a .i + 1) (k .exporter-count .result) (omega arith) in
+    (search needs, omega arith)
 
-slot-start-requires-3 : tie.Need-slot-start-requires-3
-slot-start-requires-3 c κs = search needs
+list-start-requires-3 : tie.Need-list-start-requires-3
+list-start-requires-3 c κs = let h = room (c .before .before .before .before .before) in (search needs, h)
 
 sub-left : tie.Need-sub-left
-sub-left c = search needs
+sub-left c =
+    let k = c .before .before .before .before .before .before in
+    let a = k .before .before .before .before .args in
+    let l = live k in
+    let r = starts-rise (a .store .now) (a .i + 1) (k .exporter-count .result) (omega arith) in
+    let e = c .list-start3 .ensures in
+    let f = c .before .before .list-start2 .ensures in
+    omega arith
 
 copy-down-requires : tie.Need-copy-down-requires
 copy-down-requires c κs = search needs
@@ -44,30 +75,30 @@ same-length-2 c = search needs
 
 returns : tie.Need-returns
 returns c =
-    let b = c .before .before .before in
-    let g = b .before .before .before .before .before .before in
-    let f = g .before .before .before in
-    let start = f .before .before .before .before in
+    let p = c .before .before in
+    let d = p .before .before .before .before .before in
+    let t = d .before .before in
+    let k = t .before .before .before .before .before .before in
+    let start = k .before .before .before .before in
     let s = start .args .store .now in
     let i = start .args .i in
-    let n = f .exporter-count .result in
-    let e = f .exporter-count .ensures .0 in
-    let h : i < n = omega arith in
-    let room : slotStart n ≤ length s = omega arith in
-    let s′ = copiedDown (slotStart (i + 1)) (slotStart i) (slotStart n - slotStart (i + 1)) s in
-    rw (b .before .before .before .before .copy-down .ensures, g .slot-start3 .ensures, g .before .slot-start2 .ensures, g .before .before .slot-start .ensures)
-    (exporter-pulled _ _ n e s s′ i h (rw (b .exporter-kind .ensures) at (c .before .before .pull-row .ensures))
-    (λ j g. lists-moved s i n j h g room))
+    let n = k .exporter-count .result in
+    let to = t .before .before .before .before .list-start .ensures in
+    let moved : d .copy-down .last .0 ≡ closed s i n =
+    d .copy-down .ensures ∙ (rw (t .list-start3 .ensures, t .before .before .list-start2 .ensures, to, add-one i)) in
+    rw moved
+    (exporter-pulled _ _ n (k .exporter-count .ensures .0) s (closed s i n) i (live k) (rw (p .before .exporter-kind .ensures) at (p .pull-row .ensures))
+    (closed-up s i n (live k) (room k)))
 
 pub remove-exporter-spec : {M : Type 1} → statement M
 remove-exporter-spec =
     tie.close
     (tie.spec
     exporter-count-requires
-    slot-start-requires
-    add-slot-start
-    slot-start-requires-2
-    slot-start-requires-3
+    list-start-requires
+    add-list-start
+    list-start-requires-2
+    list-start-requires-3
     sub-left
     copy-down-requires
     exporter-kind-requires

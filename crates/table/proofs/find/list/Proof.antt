@@ -1,39 +1,85 @@
--- `find::list`: the list ends within its slot, and is as long as its N says.
-use mathlib.Core.Path.{_≡_, sym, _∙_}
-use borrow.Author.Tests.{eq-eqb}
-use lib.Seq.{length-take-le}
-use Rattle.bindings.specs.Bindings.{listLength, frontAnswer}
-use Rattle.bindings.proofs.Laws.{front}
-use Rattle.rules.specs.Rules.{noExporter}
-use Rattle.table.specs.View.{slot}
-use Rattle.table.proofs.judge.Checks.{front-kept}
-use Rattle.table.proofs.LiveRows.{exporter-at}
+-- `find::list`: the list begins where those before it end, and is as long as its N says.
+use Prim.Native.Nat.{ℕ, _+_, _-_, _≤_}
+use mathlib.Core.Path.{_≡_, ap, _∙_}
+use native.Mathlib.Omega.{arith}
 use borrow.Author.Needs.{needs}
+use borrow.Rule.Slice.PartAt.{part-to-end}
+use lib.ListN.{length, drop}
+use Rattle.bindings.specs.Bindings.{listLength}
+use Rattle.rules.specs.Rules.{noExporter}
+use Rattle.table.specs.View.{listStart, listFrom}
+use Rattle.table.proofs.LiveRows.{exporter-at}
+use Rattle.table.proofs.StoredLists.{start-next}
+use Rattle.table.proofs.KeptLists.{list-starts, list-ends}
 use Rattle.table.proofs.find.list.Statement.{statement}
 use Rattle.table.proofs.find.list.Tie as tie
 
--- the list keeps the rules, and is as long as its N says
-accepted : (c : tie.After-list-length) → frontAnswer (slot (c .before .before .before .before .args .store .now) (c .before .before .before .before .args .i)) ≡ 0
-accepted c =
-    let start = c .before .before .before .before in
-    front-kept (start .args .words .now) (start .args .store .now) (start .args .i) (start .pre .1) (start .pre .2)
+begins : (c : tie.Start) → listStart (c .args .store .now) (c .args .i) ≤ length (c .args .store .now)
+begins c = list-starts (c .args .words .now) (c .args .store .now) (c .pre .2) (c .args .i) (search needs)
 
-told : (c : tie.After-list-length) → c .list-length .result ≡ listLength (slot (c .before .before .before .before .args .store .now) (c .before .before .before .before .args .i))
-told c = rw (c .before .slot .ensures) at (c .list-length .ensures) ∙ (rw (eq-eqb _ 0 (accepted c)))
+-- the length that is told
+told : (c : tie.After-stated-length) → c .stated-length .result ≡ listLength (listFrom (c .before .before .before .before .before .args .store .now) (c .before .before .before .before .before .args .i))
+told c =
+    let s = c .before .before .before .before .before .args .store .now in
+    c .stated-length .ensures ∙ ap listLength (part-to-end s (c .before .before .list-start .result)) ∙ ap (λ (x : ℕ). listLength (drop x s)) (c .before .before .list-start .ensures)
 
-slot-requires : tie.Need-slot-requires
-slot-requires c κs = search needs
+ends : (c : tie.After-stated-length) → c .before .before .list-start .result + c .stated-length .result ≤ length (c .before .before .before .before .before .args .store .now)
+ends c =
+    let start = c .before .before .before .before .before in
+    let s = start .args .store .now in
+    let e = told c in
+    let b = c .before .before .list-start .ensures in
+    let n = start-next s (start .args .i) in
+    let h = list-ends (start .args .words .now) s (start .pre .2) (start .args .i) (start .pre .1) in
+    omega arith
 
-list-length-requires : tie.Need-list-length-requires
-list-length-requires c κs = search needs
+list-start-requires : tie.Need-list-start-requires
+list-start-requires c κs = let h = begins (c .before .before) in (search needs, h)
 
-slice-aggregate-result : tie.Need-slice-aggregate-result
-slice-aggregate-result c = rw (c .before .before .slot .ensures, told (c .before)) (sym (length-take-le _ _ (front _ (accepted (c .before)) .enough)))
+sub-stated-length : tie.Need-sub-stated-length
+sub-stated-length c = let h = begins (c .before .before .before) in let e = c .list-start .ensures in omega arith
+
+part-stated-length-start : tie.Need-part-stated-length-start
+part-stated-length-start c = let h = begins (c .before .before .before) in let e = c .list-start .ensures in omega arith
+
+part-stated-length-end : tie.Need-part-stated-length-end
+part-stated-length-end c = search needs
+
+stated-length-requires : tie.Need-stated-length-requires
+stated-length-requires c κs = search needs
+
+add-to : tie.Need-add-to
+add-to c = let h = ends c in omega arith
+
+sub-result : tie.Need-sub-result
+sub-result c = search needs
+
+part-result-start : tie.Need-part-result-start
+part-result-start c = search needs
+
+part-result-end : tie.Need-part-result-end
+part-result-end c = ends c
 
 returns : tie.Need-returns
 returns c =
-    let start = c .before .before .before .before .before in
-    rw (c .before .before .slot .ensures, told (c .before), exporter-at (start .args .words .now) (start .args .store .now) (start .args .i) noExporter (start .pre .1))
+    let k = c .before in
+    let start = k .before .before .before .before .before in
+    let a = start .args in
+    let from = k .before .before .list-start .result in
+    let size : from + k .stated-length .result - from ≡ listLength (listFrom (a .store .now) (a .i)) = let e = told k in omega arith in
+    rw (size, exporter-at (a .words .now) (a .store .now) (a .i) noExporter (start .pre .1), k .before .before .list-start .ensures)
 
 pub list-spec : {M : Type 1} → statement M
-list-spec = tie.close (tie.spec slot-requires list-length-requires slice-aggregate-result returns)
+list-spec =
+    tie.close
+    (tie.spec
+    list-start-requires
+    sub-stated-length
+    part-stated-length-start
+    part-stated-length-end
+    stated-length-requires
+    add-to
+    sub-result
+    part-result-start
+    part-result-end
+    returns)

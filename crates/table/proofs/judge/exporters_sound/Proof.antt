@@ -1,10 +1,11 @@
 -- `judge::exporters_sound`: the clauses of the exporters in turn.
-use mathlib.Core.Path.{_≡_, refl, ap, _∙_}
+use mathlib.Core.Path.{_≡_, refl, sym, ap, _∙_}
 use Rattle.rules.specs.Entries.{oxids}
 use Rattle.rules.specs.Sound.{proper}
 use Rattle.table.specs.View.{memory, view}
 use Rattle.table.proofs.Columns.{oxids-column}
-use Rattle.table.proofs.judge.Clauses.{judged-fails, judged-passes, judged-last, column-read}
+use Rattle.table.proofs.judge.Clauses.{judged-fails, judged-passes, column-read}
+use Rattle.table.proofs.KeptLists.{lists-judged}
 use borrow.Author.Needs.{needs}
 use Rattle.table.proofs.judge.exporters_sound.Statement.{statement}
 use Rattle.table.proofs.judge.exporters_sound.Tie as tie
@@ -31,7 +32,11 @@ lists-kept-requires : tie.Need-lists-kept-requires
 lists-kept-requires c κs = search needs
 
 returns-2 : tie.Need-returns-2
-returns-2 c = judged-last (judged-passes _ refl (proper-judged (c .before .before)) (c .before .if1 .left)) (c .lists-kept .ensures)
+returns-2 c =
+    let start = c .before .before .before .before .before .before .before in
+    c .lists-kept .ensures
+    ∙ lists-judged (start .args .words .now) (start .args .store .now) (start .pre .1)
+    ∙ sym (judged-passes _ refl (proper-judged (c .before .before)) (c .before .if1 .left))
 
 pub exporters-sound-spec : {M : Type 1} → statement M
 exporters-sound-spec =
