@@ -8,7 +8,8 @@
  *
  * Tables. A table is an array of 8,192 words and a store of 8,192 bytes. Both are lent to every call, and a call that is lent
  * words and a store that are no sound table answers 1. Between calls the caller may copy, save and restore them. Two calls on
- * one table do not run at the same time, unless both take it as const.
+ * one table do not run at the same time, unless both take it as const. Only a call that takes the store without const changes
+ * it: binding lists stand end to end in it, and move when an exporter before them is removed.
  *
  * GUIDs are two numbers: the little-endian numbers of the first and of the last eight of their sixteen bytes on the wire.
  *
@@ -29,7 +30,7 @@ extern "C" {
 enum {
     RIMONAKH_WORDS = 8192, /* the length of a table's array, in words */
     RIMONAKH_BYTES = 8192, /* the length of a table's store, in bytes */
-    RIMONAKH_LONGEST_LIST = 512, /* the longest binding list of an exporter, in bytes */
+    RIMONAKH_LONGEST_LIST = 2048, /* the longest binding list of an exporter, in bytes */
     RIMONAKH_NO_PING = 0x1000 /* the bit of a block's flags that means no pinging */
 };
 
@@ -44,7 +45,7 @@ enum {
     RIMONAKH_NO_INTERFACE = 6, /* no such live interface */
     RIMONAKH_NO_REFERENCES = 7, /* an entry with zero references */
     RIMONAKH_COUNT_OVERFLOW = 8, /* a count would pass 4,294,967,295 */
-    RIMONAKH_NO_PLACE = 9, /* no free place of a kind that is needed */
+    RIMONAKH_NO_PLACE = 9, /* no free place of a kind that is needed, or no room in the store for a binding list */
     RIMONAKH_TOO_MANY = 10, /* a list of more than 65,535 identifiers */
     RIMONAKH_NO_SET = 11, /* no such live ping set */
     RIMONAKH_STALE = 12, /* a stale sequence number */
@@ -53,7 +54,7 @@ enum {
     RIMONAKH_NO_ROOM = 15, /* the output buffer is too short */
     RIMONAKH_VERSION = 16, /* version not understood */
     RIMONAKH_SETS_USED_UP = 18, /* the set numbers are used up */
-    RIMONAKH_LONG_LIST = 19, /* a binding list of more than 512 bytes */
+    RIMONAKH_LONG_LIST = 19, /* a binding list of more than 2,048 bytes */
     RIMONAKH_NO_CLIENT = 20, /* the client is none of 0 to 7 */
     RIMONAKH_TOO_DEEP = 21, /* references nested deeper than 8 */
     RIMONAKH_NIL_IDENTIFIER = 22, /* the OXID, OID or IPID of a reference is zero */
@@ -217,7 +218,8 @@ typedef struct {
     rimonakh_guid unknown;
 } rimonakh_resolved;
 
-/* Where a next stop stands: in the store, or else in the reference; from byte `from` up to and not with byte `to`. */
+/* Where a next stop stands: in the store, where it holds until the next call that changes the store, or else in the reference; from
+ * byte `from` up to and not with byte `to`. */
 typedef struct {
     uint32_t answer;
     bool in_store;
@@ -387,7 +389,8 @@ rimonakh_finished rimonakh_fragments_finish(rimonakh_fragments state, const uint
 /* Empties the table and sets its clock, in seconds. It looks at nothing but the lengths, and changes words only. */
 uint32_t rimonakh_reset(uint64_t *words, size_t words_len, const uint8_t *store, size_t store_len, uint64_t time);
 
-/* Enters an exporter: its OXID, its remote-unknown IPID, its binding list, which is copied into the store. 3; 13; 14; 19; 9. */
+/* Enters an exporter: its OXID, its remote-unknown IPID, its binding list, which is copied into the store. 3; 13; 14; 19; 9
+ * exactly where 16 exporters are live, or the live lists and this one together pass 8,192 bytes. */
 uint32_t rimonakh_enter_exporter(uint64_t *words, size_t words_len, uint8_t *store, size_t store_len, uint64_t oxid,
                                  uint64_t unknown_low, uint64_t unknown_high, const uint8_t *list, size_t list_len);
 
@@ -456,7 +459,8 @@ rimonakh_resolved rimonakh_resolve_filtered(const uint64_t *words, size_t words_
                                             size_t protocols_len, uint8_t *buffer, size_t buffer_len);
 
 /* Where to go next with a reference: the binding list of its exporter in the store where its OXID is live, else its own list.
- * The reference's refusals; 14 for a custom one. */
+ * A place in the store holds until the next call that takes the store without const, for lists may move: copy the bytes before, or
+ * ask again. The reference's refusals; 14 for a custom one. */
 rimonakh_stop_place rimonakh_next_stop(const uint64_t *words, size_t words_len, const uint8_t *store, size_t store_len,
                                        const uint8_t *reference, size_t reference_len);
 

@@ -9,7 +9,7 @@ use crate::shrink::shrink;
 use crate::subject::Subject;
 use crate::tally::Tally;
 use crate::Differs;
-use model::entries::{Entries, Interface, Way, OBJECTS};
+use model::entries::{Entries, Interface, Way, EXPORTERS, OBJECTS, STORE};
 use model::Guid;
 use std::marker::PhantomData;
 use std::panic::{catch_unwind, AssertUnwindSafe};
@@ -231,7 +231,13 @@ impl<S> Pair<S> {
         objects: usize,
     ) -> Option<&'static str> {
         let event = match (call, reply.number) {
-            (Op::EnterExporter { .. }, 9) => "exporters full",
+            (Op::EnterExporter { .. }, 9) if self.side.entries.exporters.len() == EXPORTERS => {
+                "exporters full"
+            }
+            (Op::EnterExporter { .. }, 9) => "store full",
+            (Op::EnterExporter { .. }, 0) if self.side.entries.list_bytes() == STORE => {
+                "store filled to the last byte"
+            }
             (Op::EnterObject { .. }, 9) => "objects or interfaces full at an object",
             (Op::EnterInterface { .. }, 9) => "interfaces full",
             (Op::ComplexPing { .. }, 9) => "sets full",

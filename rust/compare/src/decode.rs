@@ -5,9 +5,6 @@ use crate::op::halves;
 use model::entries::{Entries, Exporter, Interface, Object, PingSet};
 use model::Guid;
 
-/// Bytes of the store for each exporter.
-pub const SLOT: usize = 512;
-
 /// The words before the rows: clock, next set number and the live numbers of the kinds.
 const HEAD: [&str; 6] = [
     "clock",
@@ -140,11 +137,22 @@ pub fn guid(low: u64, high: u64) -> Guid {
     g
 }
 
-/// The bytes of the list of an exporter's row, as long as its own N says.
+/// The length of the list at a place of the store, as its own N says; where fewer than two bytes are left N is 0.
+fn list_length(store: &[u8], at: usize) -> usize {
+    let n = store.get(at..at + 2);
+    4 + 2 * n.map_or(0, |n| u16::from_le_bytes([n[0], n[1]]) as usize)
+}
+
+/// Where the list of an exporter's row begins: the lists stand end to end, in the order of the rows.
+pub fn list_start(store: &[u8], row: usize) -> usize {
+    (0..row).fold(0, |at, _| at + list_length(store, at))
+}
+
+/// The bytes of the list of an exporter's row, as far as they are there.
 pub fn list(store: &[u8], row: usize) -> Vec<u8> {
-    let slot = &store[SLOT * row..SLOT * (row + 1)];
-    let n = u16::from_le_bytes([slot[0], slot[1]]) as usize;
-    slot[..slot.len().min(4 + 2 * n)].to_vec()
+    let from = list_start(store, row);
+    let to = from + list_length(store, from);
+    store[from.min(store.len())..to.min(store.len())].to_vec()
 }
 
 pub fn entries(words: &[u64], store: &[u8]) -> Entries {
@@ -205,10 +213,13 @@ pub fn encode(e: &Entries, words: &mut [u64], store: &mut [u8]) {
     words[OBJECTS.count] = e.objects.len() as u64;
     words[INTERFACES.count] = e.interfaces.len() as u64;
     words[SETS.count] = e.sets.len() as u64;
+    let mut from = 0;
     for (i, x) in e.exporters.iter().enumerate() {
         let [low, high] = halves(x.unknown);
         EXPORTERS.put_row(words, i, &[x.oxid, low, high]);
-        store[SLOT * i..SLOT * i + x.list.len()].copy_from_slice(&x.list);
+        let to = from + x.list.len();
+        store[from..to].copy_from_slice(&x.list);
+        from = to;
     }
     for (i, s) in e.sets.iter().enumerate() {
         let held = |bits: u128, (row, o): (usize, &Object)| {

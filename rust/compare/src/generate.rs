@@ -5,7 +5,7 @@ use crate::op::Op;
 use crate::random::Random;
 use model::bytes::filtered_list;
 use model::contexts::MARSHALER;
-use model::entries::{Entries, Way, EXPORTERS, INTERFACES, OBJECTS, SETS};
+use model::entries::{Entries, Way, EXPORTERS, INTERFACES, LONGEST_LIST, OBJECTS, SETS, STORE};
 use model::Guid;
 use std::ops::Range;
 
@@ -27,18 +27,17 @@ fn proper_list(random: &mut Random) -> Vec<u8> {
         security.push(random.pick(&[0xFFFF, 0, 1]));
         text(random, &mut security);
     }
-    if random.once_in(8) {
-        // as long as an exporter's list may be, or a word longer
-        let length = 252 + random.below(2);
-        strings.push(7);
-        while strings.len() + security.len() + 1 < length {
-            strings.push(b'a' as u16);
-        }
-        strings.push(0);
-    }
     strings.push(0);
     security.push(0);
     list_bytes(&strings, &security)
+}
+
+/// A list of so many bytes, at least 14: one string binding, and no security binding.
+pub fn long_list(length: usize) -> Vec<u8> {
+    let mut strings = vec![7];
+    strings.resize(length / 2 - 5, b'a' as u16);
+    strings.extend([0, 0]);
+    list_bytes(&strings, &[0])
 }
 
 fn text(random: &mut Random, words: &mut Vec<u16>) {
@@ -222,6 +221,8 @@ pub struct Pools {
     style: usize,
     /// How seldom time passes and what is there goes.
     calm: usize,
+    /// Whether most lists of exporters are long.
+    long: bool,
     /// Whether words and bytes are changed behind the calls.
     pokes: bool,
 }
@@ -240,6 +241,7 @@ impl Pools {
             ipids,
             style: random.below(3),
             calm,
+            long: random.once_in(3),
             pokes,
         }
     }
@@ -254,6 +256,16 @@ impl Pools {
             1 => i << 40,
             _ => u64::MAX - i,
         }
+    }
+
+    /// The list of an exporter: now and then as long as a list may be, or as fills the store, or a word shorter or longer.
+    fn exporter_list(&self, random: &mut Random, e: &Entries) -> Vec<u8> {
+        if random.once_in(4) || !(self.long || random.once_in(8)) {
+            return list(random);
+        }
+        let free = STORE.saturating_sub(e.list_bytes());
+        let length = free.min(LONGEST_LIST) + random.pick(&[0, 0, 2, 4]);
+        long_list(length.saturating_sub(2 * random.below(2)).max(14))
     }
 
     fn oxid(&self, random: &mut Random) -> u64 {
@@ -323,7 +335,7 @@ impl Pools {
         }
         let listed = e.exporters.iter().find(|x| x.oxid == oxid);
         let length = listed.map_or(8, |x| filtered_list(&x.list, &protocols).len());
-        let room = random.pick(&[0, length.saturating_sub(1), length, length + 1, 600]);
+        let room = random.pick(&[0, length.saturating_sub(1), length, length + 1, 2100]);
         Op::ResolveFiltered {
             oxid,
             protocols,
@@ -436,7 +448,7 @@ impl Pools {
             return Some(Op::EnterExporter {
                 oxid: free(random, &|r| self.oxid(r), &oxids)?,
                 unknown: free_ipid(random)?,
-                list: list(random),
+                list: self.exporter_list(random, e),
             });
         }
         if oids.len() < OBJECTS {
@@ -474,7 +486,7 @@ impl Pools {
             0..=9 => Op::EnterExporter {
                 oxid: self.oxid(random),
                 unknown: self.guid(random),
-                list: list(random),
+                list: self.exporter_list(random, e),
             },
             10 if random.once_in(self.calm) => Op::RemoveExporter(self.oxid(random)),
             10..=27 => Op::EnterObject {
@@ -529,7 +541,7 @@ impl Pools {
                 let oxid = self.oxid(random);
                 let listed = e.exporters.iter().find(|x| x.oxid == oxid);
                 let length = listed.map_or(8, |x| x.list.len());
-                let room = random.pick(&[0, length - 1, length, length + 1, 600]);
+                let room = random.pick(&[0, length - 1, length, length + 1, 2100]);
                 Op::Resolve { oxid, room }
             }
             90..=92 => Op::Census,
@@ -605,9 +617,11 @@ impl Pools {
 
     fn poke(&self, random: &mut Random, e: &Entries, words: &[u64], store: &[u8]) -> Op {
         if random.once_in(8) {
-            let slot = random.below(e.exporters.len().max(1));
+            // of a list, or of the free bytes behind the last one
+            let from = decode::list_start(store, random.below(e.exporters.len() + 1));
             let within = 4 + random.below(64);
-            let at = decode::SLOT * slot + random.pick(&[0, 1, 2, 3, within, within]);
+            let at = from + random.pick(&[0, 1, 2, 3, within, within]);
+            let at = at.min(store.len() - 1);
             let value = random.pick(&[0, 1, store[at] ^ 1, store[at].wrapping_add(1), 0xFF]);
             return Op::PokeByte { at, value };
         }

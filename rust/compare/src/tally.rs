@@ -14,8 +14,10 @@ const NUMBERS: [u32; 23] = [
 ];
 
 /// What runs of calls have to reach.
-const EVENTS: [&str; 20] = [
+const EVENTS: [&str; 22] = [
     "exporters full",
+    "store full",
+    "store filled to the last byte",
     "objects or interfaces full at an object",
     "interfaces full",
     "sets full",

@@ -11,6 +11,10 @@ pub const INTERFACES: usize = 256;
 pub const SETS: usize = 32;
 pub const CLIENTS: usize = 8;
 
+/// The longest list of an exporter, and all lists together, in bytes.
+pub const LONGEST_LIST: usize = 2048;
+pub const STORE: usize = 8192;
+
 const NIL: Guid = [0; 16];
 
 #[derive(Clone, Debug, PartialEq, Eq)]
@@ -179,7 +183,13 @@ impl Entries {
             && self
                 .exporters
                 .iter()
-                .all(|x| bytes::list(&x.list).is_ok() && x.list.len() <= 512)
+                .all(|x| bytes::list(&x.list).is_ok() && x.list.len() <= LONGEST_LIST)
+            && self.list_bytes() <= STORE
+    }
+
+    /// The bytes of all lists together.
+    pub fn list_bytes(&self) -> usize {
+        self.exporters.iter().map(|x| x.list.len()).sum()
     }
 
     pub fn enter_exporter(&mut self, oxid: u64, unknown: Guid, list: &[u8]) -> Result<(), u32> {
@@ -187,10 +197,10 @@ impl Entries {
             return Err(3);
         }
         bytes::list(list)?;
-        if list.len() > 512 {
+        if list.len() > LONGEST_LIST {
             return Err(19);
         }
-        if self.exporters.len() == EXPORTERS {
+        if self.exporters.len() == EXPORTERS || self.list_bytes() + list.len() > STORE {
             return Err(9);
         }
         self.exporters.push(Exporter {

@@ -6,7 +6,7 @@ use std::ops::Range;
 
 pub const WORDS: usize = 8192;
 pub const BYTES: usize = 8192;
-const SLOT: usize = 512;
+const LONGEST_LIST: usize = 2048;
 const TIMEOUT: u64 = 360;
 const CLIENTS: usize = 8;
 const ITEM: usize = 24;
@@ -145,9 +145,27 @@ fn all_in(ids: &[u64], sorted: &[u64]) -> bool {
     ids.iter().all(|id| sorted.binary_search(id).is_ok())
 }
 
+/// Where the list of a row begins: the lists stand end to end, each as long as its own N says.
+fn list_start(store: &[u8], row: usize) -> usize {
+    (0..row).fold(0, |at, _| at + stated_length(&store[at..]))
+}
+
 fn list_of(store: &[u8], row: usize) -> &[u8] {
-    let slot = &store[SLOT * row..SLOT * (row + 1)];
-    &slot[..stated_length(slot)]
+    let rest = &store[list_start(store, row)..];
+    &rest[..stated_length(rest)]
+}
+
+/// Whether the first n lists keep the list rules and their bound.
+fn lists_kept(store: &[u8], n: usize) -> bool {
+    let mut rest = store;
+    (0..n).all(|_| {
+        if rest.len() < 4 {
+            return false;
+        }
+        let (list, behind) = rest.split_at(stated_length(rest));
+        rest = behind;
+        list.len() <= LONGEST_LIST && judge_list(list).is_ok()
+    })
 }
 
 fn members(words: &[u64], set: usize) -> u128 {
@@ -198,7 +216,7 @@ pub fn sound(words: &[u64], store: &[u8]) -> bool {
             .iter()
             .all(|&t| t <= clock && !late(t))
         && (0..numbers.len()).all(|s| members(words, s) & free == 0)
-        && (0..oxids.len()).all(|x| judge_list(list_of(store, x)).is_ok())
+        && lists_kept(store, oxids.len())
 }
 
 /// Whether a reference to the interface is held; the public count is looked at first.
@@ -255,14 +273,15 @@ pub fn enter_exporter(
         return Err(3);
     }
     judge_list(list)?;
-    if list.len() > SLOT {
+    if list.len() > LONGEST_LIST {
         return Err(19);
     }
     let n = EXPORTERS.live(words);
-    if n == EXPORTERS.places {
+    let from = list_start(store, n);
+    if n == EXPORTERS.places || from + list.len() > BYTES {
         return Err(9);
     }
-    store[SLOT * n..SLOT * n + list.len()].copy_from_slice(list);
+    store[from..from + list.len()].copy_from_slice(list);
     EXPORTERS.push(words, &[oxid, unknown.low, unknown.high]);
     Ok(())
 }
@@ -295,8 +314,9 @@ pub fn remove_exporter(words: &mut [u64], store: &mut [u8], oxid: u64) -> Result
     judged(words, store)?;
     let row = EXPORTERS.find(words, oxid).ok_or(4u32)?;
     remove_objects(words, |w, o| w[OBJECTS.at(EXPORTER, o)] != oxid);
-    let end = SLOT * EXPORTERS.live(words);
-    store.copy_within(SLOT * (row + 1)..end, SLOT * row);
+    let end = list_start(store, EXPORTERS.live(words));
+    let (to, from) = (list_start(store, row), list_start(store, row + 1));
+    store.copy_within(from..end, to);
     EXPORTERS.remove(words, row);
     Ok(())
 }
@@ -658,7 +678,7 @@ pub fn next_stop(words: &[u64], store: &[u8], reference: &[u8]) -> Result<Stop, 
     }
     Ok(match EXPORTERS.find(words, r.oxid) {
         Some(row) => {
-            let from = SLOT * row;
+            let from = list_start(store, row);
             Stop::Store(from..from + list_of(store, row).len())
         }
         None => Stop::Reference(tail),

@@ -77,7 +77,9 @@ impl Error {
             Error::NoInterface => "no such live interface",
             Error::NoReferences => "an entry with zero references",
             Error::CountOverflow => "a count would pass 4,294,967,295",
-            Error::NoPlace => "no free place of a kind that is needed",
+            Error::NoPlace => {
+                "no free place of a kind that is needed, or no room for a binding list"
+            }
             Error::TooMany => "a list of more than 65,535 identifiers",
             Error::NoSet => "no such live ping set",
             Error::Stale => "stale sequence number",
@@ -86,7 +88,7 @@ impl Error {
             Error::NoRoom => "the output buffer is too short",
             Error::Version => "version not understood",
             Error::SetsUsedUp => "set numbers used up",
-            Error::LongList => "a binding list of more than 512 bytes",
+            Error::LongList => "a binding list of more than 2,048 bytes",
             Error::NoClient => "the client is none of 0 to 7",
             Error::TooDeep => "references nested deeper than 8",
             Error::NilIdentifier => "the OXID, OID or IPID of a reference is zero",

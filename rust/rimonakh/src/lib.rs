@@ -21,7 +21,7 @@
 //! let reference = Reference::read(&bytes[..length])?;
 //! assert_eq!(Reference::binding(&bytes[..length], Part::Strings, 0)?, [7, 0, 0, 0]);
 //! assert_eq!(table.next_stop(&bytes[..length])?, Stop::Exporter(&list));
-//! let mut buffer = [0; 512];
+//! let mut buffer = [0; 2048];
 //! assert_eq!(table.resolve(reference.block.oxid, &mut buffer)?.unknown, unknown);
 //! let set = table.complex_ping(SetId(0), 1, &[reference.block.oid], &[])?.set;
 //! table.clock(1120)?;

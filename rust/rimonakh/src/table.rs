@@ -420,7 +420,7 @@ where
         answered(r.answer, r.resolved)
     }
 
-    /// Where to go next with a reference.
+    /// Where to go next with a reference. A list in the store is borrowed, for it may move when the table changes.
     pub fn next_stop<'a>(&'a self, reference: &'a [u8]) -> Result<Stop<'a>> {
         let (words, store) = (self.words.as_ref(), self.store.as_ref());
         let r = unsafe {

@@ -9,6 +9,7 @@ mod headers;
 mod table;
 
 use crate::decode::guid;
+use crate::generate::long_list;
 use crate::model_side::Model;
 use crate::subject::Library;
 use crate::Differs;
@@ -60,8 +61,30 @@ impl<'a> Arguments<'a> {
         (0..self.number()).map(|_| self.number()).collect()
     }
 
-    /// The hex digits that are left, as bytes.
+    /// The hex digits that are left, as bytes; or `@n`, a list of n words with one binding, then `cut k`, without its last k bytes,
+    /// or `put k` and hex digits, with these bytes from byte k on.
     fn bytes(&self) -> Vec<u8> {
+        let spaces = self.rest.iter().take_while(|b| **b == b' ').count();
+        match self.rest[spaces..] {
+            [b'@', ref rest @ ..] => Arguments { rest }.long_list(),
+            _ => self.digits(),
+        }
+    }
+
+    fn long_list(&mut self) -> Vec<u8> {
+        let mut list = long_list(4 + 2 * self.number() as usize);
+        match self.name() {
+            b"cut" => list.truncate(list.len() - self.number() as usize),
+            b"put" => {
+                let (at, bytes) = (self.number() as usize, self.digits());
+                list[at..at + bytes.len()].copy_from_slice(&bytes);
+            }
+            _ => {}
+        }
+        list
+    }
+
+    fn digits(&self) -> Vec<u8> {
         let digits: Vec<u8> = self
             .rest
             .iter()

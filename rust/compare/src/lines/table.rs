@@ -5,7 +5,8 @@
 //!     E value                 the same, and then a small sound table: 2 exporters, 3 objects, 4 interfaces and 2 sets
 //!     U                       a full table, by calls from a reset: prints its census
 //!     W column row value      a word, by the names of `decode::columns`
-//!     B row offset hex        bytes of the list of an exporter's row
+//!     B row offset hex        bytes from the start of the list of an exporter's row; of the row after the last, free bytes
+//!     b place hex             bytes of the store
 //!     P                       prints the live entries
 //!     G                       the lowest, then the highest bit of each word of a column, and of each byte of the lists, changed: how many
 //!                             leave the table sound
@@ -18,11 +19,13 @@
 //!     z way client room n bytes item  such a list (0 adds, 1 releases) of n times the item and so many bytes more
 //!     Z set sequence oid n m  a complex ping with n times the oid on its list of adds and m times on that of deletes
 //!
-//! J is whether the table is sound. A GUID is its two halves; lists and references are in hex. After an answer stands " kept"
+//! J is whether the table is sound. A GUID is its two halves; lists and references are in hex, `@n` is a list of n words with one
+//! binding. One of over 300 words is printed so, too. After an answer stands " kept"
 //! where the call left every word and byte as it was lent.
 
 use super::{all_seen, hex, text, Answers, Arguments, Seen};
-use crate::decode::{self, encode, guid, EXPORTERS, INTERFACES, OBJECTS, SETS, SLOT};
+use crate::decode::{self, encode, guid, EXPORTERS, INTERFACES, OBJECTS, SETS};
+use crate::generate::long_list;
 use crate::model_side::Model;
 use crate::op::{buffer, Op};
 use crate::subject::{Library, Subject};
@@ -49,7 +52,7 @@ impl Stops for Library {
 }
 
 impl Stops for Model {
-    fn stop(words: &[u64], _: &[u8], reference: &[u8], reply: &crate::op::Reply) -> Place {
+    fn stop(words: &[u64], store: &[u8], reference: &[u8], reply: &crate::op::Reply) -> Place {
         if reply.number != 0 {
             return (false, 0, 0);
         }
@@ -59,7 +62,7 @@ impl Stops for Model {
         }
         let rows = EXPORTERS.rows(words);
         let row = rows.iter().position(|r| r[0] == fields.oxid);
-        let from = SLOT * row.expect("live");
+        let from = decode::list_start(store, row.expect("live"));
         (true, from, from + reply.bytes.len())
     }
 }
@@ -115,7 +118,12 @@ pub fn run<S: Stops>(input: &[u8]) -> String {
                 words[column.expect("a column's name").first + row] = a.number();
             }
             b'B' => {
-                let at = SLOT * a.number() as usize + a.number() as usize;
+                let at = decode::list_start(&store, a.number() as usize) + a.number() as usize;
+                let bytes = a.bytes();
+                store[at..at + bytes.len()].copy_from_slice(&bytes);
+            }
+            b'b' => {
+                let at = a.number() as usize;
                 let bytes = a.bytes();
                 store[at..at + bytes.len()].copy_from_slice(&bytes);
             }
@@ -227,7 +235,8 @@ fn flip_bits<S: Stops>(words: &mut [u64], store: &mut [u8], out: &mut String) {
         let (mut sound, mut all) = (0, 0);
         for row in 0..EXPORTERS.live(words) {
             let length = decode::list(store, row).len();
-            for at in SLOT * row..SLOT * row + length {
+            let from = decode::list_start(store, row);
+            for at in from..from + length {
                 store[at] ^= bit;
                 sound += (S::perform(words, store, &Op::Census).number == 0) as usize;
                 store[at] ^= bit;
@@ -379,7 +388,7 @@ fn called<S: Stops>(
                 "{} length {length} unknown {} buffer {}{rest}",
                 r.number,
                 text(&guid(v[1], v[2])),
-                hex(&r.bytes[..length])
+                list_hex(&r.bytes[..length])
             )
         }
         (_, Op::CountList { items, room, .. }) => {
@@ -394,7 +403,11 @@ fn called<S: Stops>(
         (_, Op::NextStop(reference)) => {
             let (in_store, from, to) = S::stop(words, store, reference, &r);
             let from_which = if in_store { "store" } else { "reference" };
-            format!("{} {from_which} {from} to {to} {}", r.number, hex(&r.bytes))
+            format!(
+                "{} {from_which} {from} to {to} {}",
+                r.number,
+                list_hex(&r.bytes)
+            )
         }
         _ => r.number.to_string(),
     };
@@ -413,6 +426,14 @@ fn runs_of(results: &[u8]) -> String {
     runs.collect::<Vec<String>>().join(" ")
 }
 
+/// A list in hex; one of over 300 words with one binding as its number of words.
+fn list_hex(list: &[u8]) -> String {
+    if list.len() > 604 && list == long_list(list.len()) {
+        return format!("@{}", list.len() / 2 - 2);
+    }
+    hex(list)
+}
+
 /// The live entries, one to a line: the words of each row in hex.
 fn print_entries(words: &[u64], store: &[u8], out: &mut String) {
     writeln!(out, "clock {} next {}", words[0], words[1]).unwrap();
@@ -423,7 +444,7 @@ fn print_entries(words: &[u64], store: &[u8], out: &mut String) {
                 write!(out, " {word:x}").unwrap();
             }
             if kind.count == EXPORTERS.count {
-                write!(out, " {}", hex(&decode::list(store, i))).unwrap();
+                write!(out, " {}", list_hex(&decode::list(store, i))).unwrap();
             }
             out.push('\n');
         }
