@@ -72,7 +72,7 @@ kept-proper p (b ∷ bs) (AllProper.more h r) =
     by-test AllProper (p b) (b ∷ keep p bs) (keep p bs) (λ e. AllProper.more h (kept-proper p bs r)) (λ e. kept-proper p bs r)
 
 -- the words of a part are its bindings in a row and a zero word
-same-lists : (a b : List ℕ) → sameWords a b ≡ true → a ≡ b
+pub same-lists : (a b : List ℕ) → sameWords a b ≡ true → a ≡ b
 unfolding sameWords
 same-lists [] [] e = refl
 same-lists [] (y ∷ b) e = absurd (true-false (sym e))

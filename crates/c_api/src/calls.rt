@@ -1,4 +1,5 @@
 // The calls on a table: an array of 8,192 words and a store of 8,192 bytes.
+use fields::Written;
 use kinds::Guid;
 use kinds::Oid;
 use kinds::Oxid;
@@ -19,6 +20,7 @@ ghost use Rattle.listing.specs.Listing.{listReply};
 ghost use Rattle.pinging.specs.Replies.{pingReply};
 ghost use Rattle.reading.specs.Replies.{resolveReply};
 ghost use Rattle.reading.specs.NextStop.{StopFound};
+ghost use Rattle.saving.specs.Replies.{writtenReply};
 
 // Empties the table and sets its clock.
 #[no_mangle]
@@ -320,4 +322,32 @@ pub extern "C" fn rimonakh_next_stop<'a>(
     ensures { λ r. ⌜ StopFound (memory (now (words .entry)) (now (store .entry))) (now (reference .entry)) r ⌝ }
 {
     resolver::next_stop_place(words, store, reference)
+}
+
+// Writes the live entries as a snapshot, at the front of buffer.
+#[no_mangle]
+pub extern "C" fn rimonakh_write_snapshot<'a>(
+    words: &'a [u64],
+    store: &'a [u8],
+    buffer: &'a mut [u8],
+) -> Written
+    ensures { λ r. ⌜
+        Performed (Call.writeSnapshot (now (buffer .entry))) (memory (now (words .entry)) (now (store .entry)))
+        (writtenReply r (now (buffer .exit))) (memory (now (words .entry)) (now (store .entry))) ⌝ }
+{
+    resolver::write_snapshot(words, store, buffer)
+}
+
+// Loads a snapshot into the table.
+#[no_mangle]
+pub extern "C" fn rimonakh_load_snapshot<'a>(
+    words: &'a mut [u64],
+    store: &'a mut [u8],
+    snapshot: &'a [u8],
+) -> u32
+    ensures { λ r. ⌜
+        Performed (Call.loadSnapshot (now (snapshot .entry))) (memory (now (words .entry)) (now (store .entry))) (numbered r)
+        (memory (now (words .exit)) (now (store .exit))) ⌝ }
+{
+    resolver::load_snapshot(words, store, snapshot)
 }

@@ -3,3 +3,4 @@ pub mod Guids
 pub mod Buckets
 pub mod Rows
 pub mod Members
+pub mod Order

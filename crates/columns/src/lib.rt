@@ -1,6 +1,7 @@
 // Columns: slices of one word for each row.
 mod buckets;
 pub mod members;
+pub mod order;
 pub mod rows;
 
 ghost use mathlib.Core.Path.{_≡_};

@@ -8,7 +8,7 @@ use lib.Dec.{eqb}
 use Rattle.kinds.proofs.Refusing.{by-test}
 use Rattle.lists.specs.Lists.{tabulate}
 use Rattle.lists.proofs.Lists.{map-append, map-tabulate, length-tabulate, tabulate-ext, tabulate-getD}
-use Rattle.rules.specs.Calls.{Call, Counting, reset, enterExporter, removeExporter, enterObject, enterInterface, add, release, dropClient, countList, simplePing, complexPing, clock, resolve, resolveFiltered, census, members, nextStop}
+use Rattle.rules.specs.Calls.{Call, Counting, reset, enterExporter, removeExporter, enterObject, enterInterface, add, release, dropClient, countList, simplePing, complexPing, clock, resolve, resolveFiltered, census, members, nextStop, writeSnapshot, loadSnapshot}
 use Rattle.rules.specs.Items.{itemAt, itemCount, itemsOf, itemCall}
 use Rattle.rules.specs.Rules.{itemNumbers, number, results, done, refused, reply}
 use Rattle.rules.proofs.Stepping.{reply-number}
@@ -93,6 +93,8 @@ same (resolveFiltered x protocols buffer) h k = same-once (resolveFiltered x pro
 same census h k = same-once census h
 same (members s) h k = same-once (members s) h
 same (nextStop s) h k = same-once (nextStop s) h
+same (writeSnapshot buffer) h k = same-once (writeSnapshot buffer) h
+same (loadSnapshot s) h k = same-once (loadSnapshot s) h
 
 -- of every run
 pub all-answers : (cs : List Call) (h : History) → Kept h

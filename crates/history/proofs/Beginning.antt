@@ -14,35 +14,21 @@ use Rattle.lists.proofs.Tests.{true-or-false, and-intro}
 use Rattle.lists.proofs.Lists.{some-map, keep-all, keep-map, map-map, getD-map, length-tabulate, tabulate-ext, tabulate-snoc, map-tabulate, tabulate-getD, every-tabulate}
 use Rattle.lists.proofs.First.{some-first, first-at}
 use Rattle.lists.proofs.Distinct.{eqb-decides, distinct-none, distinct-at}
-use Rattle.lists.proofs.Elements.{In, map-in, every-in, in-every, in-some, some-in, in-none, keep-in, keep-ext-in, map-ext-in}
-use Rattle.rules.specs.Entries.{Exporter, Object, Interface, PingSet, Entries, fresh, oxids, oids}
+use Rattle.lists.proofs.Elements.{In, map-in, every-in, in-every, in-some, some-in, in-none, keep-in, keep-ext-in, map-ext-in, tabulate-in, in-tabulate}
+use Rattle.rules.specs.Entries.{Exporter, Object, Interface, PingSet, Entries, fresh, oxids, oids, Ordered}
 use Rattle.rules.specs.Sound.{sound, held, hasInterface, heardWithin, pingedWithin}
 use Rattle.rules.specs.Rules.{noExporter, noObject}
 use Rattle.rules.proofs.SoundLaws.{Sound, sound-fields}
 use Rattle.rules.proofs.ByRow.{oids-distinct}
 use Rattle.rules.proofs.Keeps.{fresh-sound}
 use Rattle.history.specs.History.{ExporterLife, ObjectLife, InterfaceLife, SetLife, placeOf, exporterAt, objectAt, begunWith, interfaceHeld, setHeld, begin, remaining, atZero, interfacesAtZero, exporterRemoved, unheard, objectGone, liveExporters, liveObjects, liveInterface, liveSet, noExporterLife, noObjectLife, exporterEntry, objectEntry, interfaceEntry, setEntry, live}
-use Rattle.history.specs.Runs.{Ordered, BeginsAt}
+use Rattle.history.specs.Runs.{BeginsAt}
 use Rattle.history.proofs.Lives.{Serials, Named, serials-snoc, life-found, covered, serialOfExporter, serialOfObject, Kept}
 use Rattle.history.proofs.Accounts.{none-left}
 
 -- ---- tables of lives
 
 module _ {A : Type 0} where
-  -- an element of a table
-  tabulate-in : {y : A} (n : ℕ) (f : ℕ → A) → In y (tabulate n f) → (i : ℕ) × (i < n) × (y ≡ f i)
-  unfolding tabulate
-  tabulate-in zero f m = absurd (List·Memᴰ·not-nil m)
-  tabulate-in (suc n) f (List·Memᴰ·head e) = (zero, omega arith, e)
-  tabulate-in (suc n) f (List·Memᴰ·tail m) = let r = tabulate-in n (λ i. f (suc i)) m in let b = r .1 in (suc (r .0), omega arith, r .2)
-
-  -- each is one
-  in-tabulate : (n : ℕ) (f : ℕ → A) (i : ℕ) → i < n → In (f i) (tabulate n f)
-  unfolding tabulate
-  in-tabulate zero f i h = absurd (omega arith)
-  in-tabulate (suc n) f zero h = List·Memᴰ·head refl
-  in-tabulate (suc n) f (suc i) h = List·Memᴰ·tail (in-tabulate n (λ j. f (suc j)) i (omega arith))
-
   -- the serials of lives whose serial is their place
   serials-placed : (serial : A → ℕ) (f : ℕ → A) → ((k : ℕ) → serial (f k) ≡ k) → (n : ℕ) → Serials serial (tabulate n f)
   unfolding tabulate

@@ -4,12 +4,15 @@ use mathlib.Core.Bool.{Bool, true, false, cond}
 use lib.Dec.{eqb}
 use borrow.Author.Tests.{eqb-true}
 use Rattle.kinds.proofs.Refusing.{by-test}
-use Rattle.rules.specs.Calls.{Call, reset, enterExporter, removeExporter, enterObject, enterInterface, add, release, dropClient, countList, simplePing, complexPing, clock, resolve, resolveFiltered, census, members, nextStop}
+use Rattle.rules.specs.Calls.{Call, reset, enterExporter, removeExporter, enterObject, enterInterface, add, release, dropClient, countList, simplePing, complexPing, clock, resolve, resolveFiltered, census, members, nextStop, writeSnapshot, loadSnapshot}
 use Rattle.rules.specs.Items.{itemsOf}
+use Rattle.rules.specs.Snapshot.{entriesOf}
 use Rattle.rules.specs.Rules.{number, next}
+use Rattle.rules.proofs.Keeps.{loaded-sound, loaded-snapshot}
+use Rattle.rules.proofs.Swapping.{loads-ordered}
 use Rattle.history.specs.History.{History, live, lived, feed}
 use Rattle.history.proofs.Lives.{Kept}
-use Rattle.history.proofs.Beginning.{live-fresh, kept-fresh}
+use Rattle.history.proofs.Beginning.{live-begin, kept-begin, live-fresh, kept-fresh}
 use Rattle.history.proofs.Steps.{Step}
 use Rattle.history.proofs.Entering.{exporter-step, object-step, interface-step}
 use Rattle.history.proofs.Leaving.{removal-step, clock-step}
@@ -37,6 +40,11 @@ step (resolveFiltered x protocols buffer) h k a = record { entries = refl; kept 
 step census h k a = record { entries = refl; kept = k }
 step (members s) h k a = record { entries = refl; kept = k }
 step (nextStop r) h k a = record { entries = refl; kept = k }
+step (writeSnapshot buffer) h k a = record { entries = refl; kept = k }
+step (loadSnapshot s) h k a =
+    let sound = loaded-sound s (live h) a in
+    let ordered = loads-ordered s (loaded-snapshot s (live h) a) in
+    record { entries = live-begin (entriesOf s) sound ordered; kept = kept-begin (entriesOf s) sound ordered }
 
 pub record Fed (c : Call) (h : History) : Type 0 where
   pub entries : live (feed h c) ≡ cond (eqb (number c (live h)) 0) (next c (live h)) (live h)

@@ -15,3 +15,4 @@ pub mod Room
 pub mod Demands
 pub mod Runs
 pub mod Orders
+pub mod Swapping

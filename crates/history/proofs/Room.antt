@@ -19,7 +19,7 @@ use Rattle.references.specs.References.{isCustom, isExtended, objectAnswer, ele
 use Rattle.lists.proofs.Tests.{below-or-not}
 use Rattle.rules.specs.Entries.{Exporter, Entries, listBytes, exporterPlaces, objectPlaces, interfacePlaces, setPlaces}
 use Rattle.rules.proofs.ListBytes.{bytes-joined}
-use Rattle.rules.specs.Calls.{Call, reset, enterExporter, removeExporter, enterObject, enterInterface, add, release, dropClient, countList, simplePing, complexPing, clock, resolve, resolveFiltered, census, members, nextStop}
+use Rattle.rules.specs.Calls.{Call, reset, enterExporter, removeExporter, enterObject, enterInterface, add, release, dropClient, countList, simplePing, complexPing, clock, resolve, resolveFiltered, census, members, nextStop, writeSnapshot, loadSnapshot}
 use Rattle.rules.specs.Rules.{refusals, number}
 use Rattle.rules.specs.Contract.{Memory}
 use Rattle.table.specs.View.{view}
@@ -206,6 +206,8 @@ rows (resolveFiltered x protocols buffer) e p = other refl refl (other refl refl
 rows census e p = none
 rows (members s) e p = other refl refl none
 rows (nextStop r) e p = passing (referenceAnswer r) (reference-answer r) (other refl refl none)
+rows (writeSnapshot buffer) e p = other refl refl none
+rows (loadSnapshot s) e p = other refl refl none
 
 -- two equal tests agree
 pub agreed : (a b : Bool) → a ≡ b → agree a b ≡ true

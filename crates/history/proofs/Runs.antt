@@ -10,7 +10,7 @@ use borrow.Author.Tests.{eq-eqb, ne-eqb}
 use Rattle.kinds.specs.Refusals.{order}
 use Rattle.lists.proofs.Tests.{true-or-false, same-or-not, and-left, and-right}
 use Rattle.rules.specs.Entries.{Entries}
-use Rattle.rules.specs.Calls.{Call, reset, enterExporter, removeExporter, enterObject, enterInterface, add, release, dropClient, countList, simplePing, complexPing, clock, resolve, resolveFiltered, census, members, nextStop, Reply}
+use Rattle.rules.specs.Calls.{Call, reset, enterExporter, removeExporter, enterObject, enterInterface, add, release, dropClient, countList, simplePing, complexPing, clock, resolve, resolveFiltered, census, members, nextStop, writeSnapshot, loadSnapshot, Reply}
 use Rattle.rules.specs.Sound.{sound}
 use Rattle.rules.specs.Rules.{refusals, number, next, results, refused, done, reply}
 use Rattle.rules.specs.Contract as contract
@@ -35,10 +35,27 @@ unfolding contract.soundMemory fit
 fits c m s =
     (λ u. and-left (rightLengths m) (sound (view m)) s u && (lengthsOnly c || and-right (rightLengths m) (sound (view m)) s u)) ∙ or-true (lengthsOnly c)
 
--- it is answered by the rules
-pub replied : (c : Call) (m : Memory) → soundMemory m ≡ true → replyTo view c m ≡ reply c (view m)
+-- where answer 1 is not given, the rules answer
+pub fit-reply : (c : Call) (m : Memory) → fit view c m ≡ true → replyTo view c m ≡ reply c (view m)
 unfolding replyTo
-replied c m s = ap (λ (b : Bool). cond b (reply c (view m)) (refused 1 c (view m))) (fits c m s)
+fit-reply c m f = ap (λ (b : Bool). cond b (reply c (view m)) (refused 1 c (view m))) f
+
+-- a sound table is answered by them
+pub replied : (c : Call) (m : Memory) → soundMemory m ≡ true → replyTo view c m ≡ reply c (view m)
+replied c m s = fit-reply c m (fits c m s)
+
+module _ (c : Call) (m m′ : Memory) (r : Reply) (p : Performed c m r m′) (z : r .number ≡ 0) where
+  -- an accepted call is not refused by 1
+  pub accepted-fits : fit view c m ≡ true
+  unfolding replyTo refused
+  accepted-fits =
+      ⊎-elim
+      (λ t. t)
+      (λ f. let n : 1 ≡ 0 = sym (ap (λ (a : Bool). cond a (reply c (view m)) (refused 1 c (view m)) .number) f) ∙ sym (ap (λ (q : Reply). q .number) (p .answered)) ∙ z in absurd (omega arith))
+      (true-or-false (fit view c m))
+
+  pub accepted-reply : r ≡ reply c (view m)
+  accepted-reply = p .answered ∙ fit-reply c m accepted-fits
 
 -- the memory is sound and holds the live entries of the history
 pub record Follows (m : Memory) (h : History) : Type 0 where
@@ -108,22 +125,13 @@ begins-alike (resolveFiltered x protocols buffer) b e f = absurd (true≢false (
 begins-alike census b e f = absurd (true≢false (sym b))
 begins-alike (members s) b e f = absurd (true≢false (sym b))
 begins-alike (nextStop r) b e f = absurd (true≢false (sym b))
+begins-alike (writeSnapshot buffer) b e f = absurd (true≢false (sym b))
+begins-alike (loadSnapshot s) b e f = (refl, refl)
 
 module _ (c : Call) (m m′ : Memory) (r : Reply) (p : Performed c m r m′) (b : begins c ≡ true) (z : r .number ≡ 0) where
-  -- an accepted call is not refused by 1
-  first-fits : fit view c m ≡ true
-  unfolding replyTo refused
-  first-fits =
-      ⊎-elim
-      (λ t. t)
-      (λ f. let n : 1 ≡ 0 = sym (ap (λ (a : Bool). cond a (reply c (view m)) (refused 1 c (view m)) .number) f) ∙ sym (ap (λ (q : Reply). q .number) (p .answered)) ∙ z in absurd (omega arith))
-      (true-or-false (fit view c m))
-
   -- it is answered as on no history
   first-reply : r ≡ reply c (live unbegun)
-  unfolding replyTo
-  first-reply =
-      p .answered ∙ ap (λ (a : Bool). cond a (reply c (view m)) (refused 1 c (view m))) first-fits ∙ begins-alike c b (view m) (live unbegun) .1
+  first-reply = accepted-reply c m m′ r p z ∙ begins-alike c b (view m) (live unbegun) .1
 
   -- the memory that it leaves holds the entries of the history that it begins
   first-follows : Follows m′ (feed unbegun c)

@@ -15,7 +15,7 @@ use Rattle.lists.proofs.Lists.{map-append}
 use Rattle.lists.proofs.Distinct.{eqb-decides, same-eq}
 use Rattle.lists.proofs.Guids.{guid-decides}
 use Rattle.lists.proofs.Elements.{In, every-in, in-every, in-some, some-in, in-keep, map-in, snoc-in, one-in, first-sole}
-use Rattle.rules.specs.Calls.{Call, Counting, adding, releasing, reset, enterExporter, removeExporter, enterObject, enterInterface, add, release, dropClient, countList, simplePing, complexPing, clock, resolve, resolveFiltered, census, members, nextStop}
+use Rattle.rules.specs.Calls.{Call, Counting, adding, releasing, reset, enterExporter, removeExporter, enterObject, enterInterface, add, release, dropClient, countList, simplePing, complexPing, clock, resolve, resolveFiltered, census, members, nextStop, writeSnapshot, loadSnapshot}
 use Rattle.rules.specs.Items.{Item, itemsOf, itemCall}
 use Rattle.rules.specs.Rules.{anyIpid, number}
 use Rattle.rules.proofs.SoundLaws.{none, _and_}
@@ -498,6 +498,8 @@ later (resolveFiltered x protocols buffer) h k b a = later-self h
 later census h k b a = later-self h
 later (members s) h k b a = later-self h
 later (nextStop r) h k b a = later-self h
+later (writeSnapshot buffer) h k b a = later-self h
+later (loadSnapshot s) h k b a = absurd (true≢false b)
 
 -- ---- of the history of any calls
 

@@ -9,8 +9,9 @@ use Rattle.kinds.specs.declared.Guid.{Guid}
 use Rattle.lists.specs.Lists.{keep, some, every, firstOr, firstIndex, tabulate, among, holding}
 use Rattle.lists.specs.Guids.{nil, sameGuid}
 use Rattle.rules.specs.Entries.{Exporter, Object, Interface, PingSet, Entries, fresh, oxids, oids}
-use Rattle.rules.specs.Calls.{Call, Counting, adding, releasing, reset, enterExporter, removeExporter, enterObject, enterInterface, add, release, dropClient, countList, simplePing, complexPing, clock, resolve, resolveFiltered, census, members, nextStop, Reply}
+use Rattle.rules.specs.Calls.{Call, Counting, adding, releasing, reset, enterExporter, removeExporter, enterObject, enterInterface, add, release, dropClient, countList, simplePing, complexPing, clock, resolve, resolveFiltered, census, members, nextStop, writeSnapshot, loadSnapshot, Reply}
 use Rattle.rules.specs.Items.{Item, itemsOf, itemCall}
+use Rattle.rules.specs.Snapshot.{entriesOf}
 use Rattle.rules.specs.Rules.{noExporter, noObject, number, reply, anyIpid}
 
 -- An identifier that went may be entered again, as a new life; so lives name each other by serial numbers, which are never given twice.
@@ -84,7 +85,7 @@ interfaceHeld e i = record { ipid = i .ipid; iid = i .iid; object = placeOf (oid
 abbrev pub setHeld : Entries → PingSet → SetLife
 setHeld e s = record { number = s .number; sequence = s .sequence; pinged = s .pinged; members = map (placeOf (oids e)) (s .members) }
 
--- A history that begins at these entries. A reset begins one at no entries.
+-- A history that begins at these entries. A reset begins one at no entries, a load at those of its snapshot.
 unfoldable pub begin : Entries → History
 begin e =
     record {
@@ -115,6 +116,8 @@ begins (resolveFiltered x protocols buffer) = false
 begins census = false
 begins (members s) = false
 begins (nextStop r) = false
+begins (writeSnapshot buffer) = false
+begins (loadSnapshot s) = true
 
 -- ---- what has gone
 
@@ -335,6 +338,9 @@ lived (resolveFiltered x protocols buffer) h = h
 lived census h = h
 lived (members s) h = h
 lived (nextStop r) h = h
+lived (writeSnapshot buffer) h = h
+-- what the snapshot holds is entered with the load
+lived (loadSnapshot s) h = begin (entriesOf s)
 
 -- a call is accepted exactly where its rules, read on the history's own live entries, refuse nothing
 unfoldable pub feed : History → Call → History

@@ -1,3 +1,4 @@
 pub mod History
 pub mod Runs
 pub mod Orders
+pub mod Swapping

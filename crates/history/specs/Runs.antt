@@ -1,4 +1,4 @@
--- Demand 3: the state after a whole run of calls that begins with an accepted reset. Statements only.
+-- Demand 3: the state after a whole run of calls that begins with an accepted reset or load. Statements only.
 use Prim.Native.Nat.{ℕ, _+_}
 use mathlib.Core.Path.{_≡_}
 use mathlib.Core.Bool.{Bool, true, false, cond, not, _&&_, _||_}
@@ -7,10 +7,10 @@ use lib.ListN.{length, getD}
 use lib.Dec.{eqb, ltb, leb}
 use Rattle.kinds.specs.Refusals.{Row, order}
 use Rattle.bindings.specs.Bindings.{joined}
-use Rattle.lists.specs.Lists.{keep, every, distinct, among, some, tabulate}
+use Rattle.lists.specs.Lists.{keep, every, distinct, some, tabulate}
 use Rattle.lists.specs.Guids.{sameGuid}
-use Rattle.rules.specs.Entries.{Exporter, Object, Interface, PingSet, Entries, fresh, oxids, oids, setNumbers, ipids, countOf, exporterPlaces, objectPlaces, interfacePlaces, setPlaces}
-use Rattle.rules.specs.Calls.{Call, reset, enterExporter, removeExporter, enterObject, enterInterface, add, release, dropClient, countList, simplePing, complexPing, clock, resolve, resolveFiltered, census, members, nextStop, Reply}
+use Rattle.rules.specs.Entries.{Exporter, Object, Interface, PingSet, Entries, fresh, oxids, oids, setNumbers, ipids, Ordered, countOf, exporterPlaces, objectPlaces, interfacePlaces, setPlaces}
+use Rattle.rules.specs.Calls.{Call, reset, enterExporter, removeExporter, enterObject, enterInterface, add, release, dropClient, countList, simplePing, complexPing, clock, resolve, resolveFiltered, census, members, nextStop, writeSnapshot, loadSnapshot, Reply}
 use Rattle.rules.specs.Items.{itemAt, itemCount, itemCall}
 use Rattle.rules.specs.Sound.{sound}
 use Rattle.rules.specs.Rules.{isLiveExporter, isLiveObject, interfaceOf, refusals, number}
@@ -61,7 +61,7 @@ countsGranted h e =
 abbrev pub isLatest : History → ObjectLife → Bool
 isLatest h o = every (λ (p : ObjectLife). not (eqb (o .oid) (p .oid)) || leb (p .serial) (o .serial)) (h .objects)
 
--- an object entered since the last accepted reset is gone exactly when its interfaces reached zero, its exporter was removed, or, being
+-- an object entered since the last accepted reset or load is gone exactly when its interfaces reached zero, its exporter was removed, or, being
 -- pinged, it stayed unheard; a life is there where its OID is live and was not entered again
 unfoldable pub goneExactly : History → Entries → Bool
 goneExactly h e =
@@ -92,6 +92,8 @@ needsFullKind (resolveFiltered x protocols buffer) e = false
 needsFullKind census e = false
 needsFullKind (members s) e = false
 needsFullKind (nextStop r) e = false
+needsFullKind (writeSnapshot buffer) e = false
+needsFullKind (loadSnapshot s) e = false
 
 -- a call that is answered by n: room is refused, once nothing earlier in the call's order refuses, exactly when a kind it needs has as
 -- many live entries as places, for an exporter also when the live lists and the new one together pass 8,192 bytes (document 02, request 12)
@@ -135,6 +137,8 @@ answered (resolveFiltered x protocols buffer) r = once (resolveFiltered x protoc
 answered census r = once census r
 answered (members s) r = once (members s) r
 answered (nextStop s) r = once (nextStop s) r
+answered (writeSnapshot buffer) r = once (writeSnapshot buffer) r
+answered (loadSnapshot s) r = once (loadSnapshot s) r
 
 -- of a run's calls with their replies
 unfoldable pub answeredAll : List Call → List Reply → List Answered
@@ -176,7 +180,7 @@ pub record AfterRun (cs : List Call) (rs : List Reply) (m : Memory) : Type 0 whe
   -- of the answer of whatever call is performed next
   pub room : (c : Call) (r : Reply) (m′ : Memory) → Performed c m r m′ → roomExactly (r .number) c (view m) ≡ true
 
--- demand 3: over every run on any memory whose first call is a reset that is accepted
+-- demand 3: over every run on any memory whose first call is a reset or a load that is accepted
 abbrev pub WholeRun : Type 0
 WholeRun =
     (c : Call) (r : Reply) (cs : List Call) (rs : List Reply) (m₀ m : Memory)
@@ -185,16 +189,12 @@ WholeRun =
     → Run (c ∷ cs) (r ∷ rs) m₀ m
     → AfterRun (c ∷ cs) (r ∷ rs) m
 
--- what has gone in a history stays gone after any call but an accepted reset; so what was unheard at an accepted clock is gone at every later one
+-- what has gone in a history stays gone after any call but an accepted reset or load; so what was unheard at an accepted clock is gone at every later one
 abbrev pub StaysGone : Type 0
 StaysGone =
     (cs : List Call) (c : Call)
     → (begins c && eqb (number c (live (historyOf cs))) 0) ≡ false
     → staysGone (historyOf cs) (feed (historyOf cs) c) ≡ true
-
--- the members of each set stand in the order of the objects, each once
-abbrev pub Ordered : Entries → Type 0
-Ordered e = map (λ (s : PingSet). keep (among (s .members)) (oids e)) (e .sets) ≡ map (λ (s : PingSet). s .members) (e .sets)
 
 -- a history that begins at sound entries has exactly these for its live entries
 abbrev pub BeginsAt : Type 0

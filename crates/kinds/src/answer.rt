@@ -61,5 +61,8 @@ pub const TOO_DEEP: u32 = 21;
 // An OXID, OID or IPID of a reference is zero.
 pub const NIL_IDENTIFIER: u32 = 22;
 
+// Bytes that are the snapshot of no sound table.
+pub const NO_SNAPSHOT: u32 = 23;
+
 // A list has no binding of the number asked for.
 pub const NO_BINDING: u32 = 24;

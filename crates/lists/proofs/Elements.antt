@@ -1,10 +1,12 @@
 -- Laws of the elements of a list: what holds of each, and the only one that passes a test.
+use Prim.Native.Nat.{ℕ, zero, suc, _<_}
 use mathlib.Core.Path.{_≡_, refl, sym, ap, _∙_}
 use mathlib.Core.Bool.{Bool, true, false, cond, not, _&&_, and-true, or-true, true≢false}
 use mathlib.Core.List.{List, [], _∷_, _++_, map, List·Memᴰ, List·Memᴰ·head, List·Memᴰ·tail, List·Memᴰ·not-nil, List·Memᴰ·eq-of-singleton, List·Memᴰ·append-cases, Memᴰ·append-right, Memᴰ·map, Memᴰ·of-map}
 use mathlib.Core.Logic.{_⊎_, inl, inr, ⊎-elim}
+use native.Mathlib.Omega.{arith}
 use lib.ListN.{length}
-use Rattle.lists.specs.Lists.{keep, some, every, firstOr, distinct}
+use Rattle.lists.specs.Lists.{keep, some, every, firstOr, distinct, tabulate}
 use Rattle.lists.proofs.Tests.{true-or-false, and-intro, and-left, and-right, or-cases}
 use Rattle.lists.proofs.Lists.{some-map, none-some, keep-all, keep-none, map-map}
 use Rattle.lists.proofs.Distinct.{Decides, same-eq, distinct-head, distinct-tail}
@@ -84,6 +86,23 @@ snoc-in xs m = ⊎-elim (λ n. inl n) (λ n. inr (List·Memᴰ·eq-of-singleton 
 -- the last one
 pub in-last : {A : Type 0} (xs : List A) (z : A) → In z (xs ++ (z ∷ []))
 in-last xs z = Memᴰ·append-right xs (List·Memᴰ·head refl)
+
+-- ---- tables
+
+module _ {A : Type 0} where
+  -- an element of a table of a function
+  pub tabulate-in : {y : A} (n : ℕ) (f : ℕ → A) → In y (tabulate n f) → (i : ℕ) × (i < n) × (y ≡ f i)
+  unfolding tabulate
+  tabulate-in zero f m = absurd (List·Memᴰ·not-nil m)
+  tabulate-in (suc n) f (List·Memᴰ·head e) = (zero, omega arith, e)
+  tabulate-in (suc n) f (List·Memᴰ·tail m) = let r = tabulate-in n (λ i. f (suc i)) m in let b = r .1 in (suc (r .0), omega arith, r .2)
+
+  -- each is one
+  pub in-tabulate : (n : ℕ) (f : ℕ → A) (i : ℕ) → i < n → In (f i) (tabulate n f)
+  unfolding tabulate
+  in-tabulate zero f i h = absurd (omega arith)
+  in-tabulate (suc n) f zero h = List·Memᴰ·head refl
+  in-tabulate (suc n) f (suc i) h = List·Memᴰ·tail (in-tabulate n (λ j. f (suc j)) i (omega arith))
 
 -- ---- two functions that agree on the elements
 

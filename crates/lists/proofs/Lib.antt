@@ -4,3 +4,5 @@ pub mod First
 pub mod Distinct
 pub mod Elements
 pub mod Guids
+pub mod Order
+pub mod Rising

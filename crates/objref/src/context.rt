@@ -1,6 +1,5 @@
 // The context in the object data of a custom reference.
 use crate::data;
-use crate::line;
 use contexts::Context;
 use contexts::Property;
 use kinds::answer;
@@ -9,11 +8,11 @@ pub fn report(s: &[u8], n: usize) {
     let r = Context::read(s);
     let context = r.context;
     let id = context.id;
-    line::identifier(n, b"context id: ", id);
-    line::bits(n, b"reserved: 0x", context.reserved);
-    line::bits(n, b"marshal flags: 0x", context.marshal);
-    line::number(n, b"frozen: ", context.frozen);
-    line::number(n, b"properties: ", context.count);
+    print::line::identifier(n, b"context id: ", id);
+    print::line::bits(n, b"reserved: 0x", context.reserved);
+    print::line::bits(n, b"marshal flags: 0x", context.marshal);
+    print::line::number(n, b"frozen: ", context.frozen);
+    print::line::number(n, b"properties: ", context.count);
     properties(s, n);
 }
 
@@ -33,7 +32,7 @@ fn properties(s: &[u8], n: usize) {
 }
 
 fn fields(p: Property, k: usize, n: usize) {
-    line::named(n, b"property ");
+    print::line::named(n, b"property ");
     print::decimal(k as u64);
     print::text(b": class ");
     let clsid = p.clsid;

@@ -1,6 +1,5 @@
 // The object data of a custom reference, and the data of an element.
 use crate::context;
-use crate::line;
 use kinds::Guid;
 ghost use Prim.Native.Nat.{_≤_};
 
@@ -9,14 +8,14 @@ pub fn object(clsid: Guid, s: &[u8], n: usize) {
     if contexts::is_marshaler(clsid) {
         context::report(s, n);
     } else {
-        line::named(n, b"object data: ");
+        print::line::named(n, b"object data: ");
         content(s, n);
     }
 }
 
 // Data that is a reference is printed by itself.
 pub fn element(id: Guid, s: &[u8], n: usize) {
-    line::named(n, b"element 0: ");
+    print::line::named(n, b"element 0: ");
     print::guid(id);
     print::text(b", ");
     if elements::is_reference(s) {
@@ -56,7 +55,7 @@ fn row_end(at: usize, n: usize) -> usize
 
 // The bytes from number at.
 fn row(at: usize, s: &[u8], n: usize) {
-    line::named(n, b"  ");
+    print::line::named(n, b"  ");
     print::hex(at as u64, 2);
     print::text(b":");
     spaced(s);

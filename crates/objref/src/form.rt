@@ -1,5 +1,4 @@
 // The fixed fields of a reference.
-use crate::line;
 use references::Block;
 use references::Reference;
 
@@ -7,23 +6,23 @@ use references::Reference;
 pub fn fields(r: Reference, n: usize) {
     form(r.flags, n);
     let iid = r.iid;
-    line::identifier(n, b"IID: ", iid);
+    print::line::identifier(n, b"IID: ", iid);
     let clsid = r.clsid;
     if r.flags == Reference::CUSTOM {
-        line::identifier(n, b"CLSID: ", clsid);
-        line::number(n, b"extension size: ", r.extension);
-        line::number(n, b"size: ", r.size);
+        print::line::identifier(n, b"CLSID: ", clsid);
+        print::line::number(n, b"extension size: ", r.extension);
+        print::line::number(n, b"size: ", r.size);
         return;
     }
     let block = r.block;
     block_fields(block, n);
     if r.flags == Reference::HANDLER {
-        line::identifier(n, b"CLSID: ", clsid);
+        print::line::identifier(n, b"CLSID: ", clsid);
     }
 }
 
 fn form(f: u32, n: usize) {
-    line::margin(n);
+    print::line::margin(n);
     match f {
         1 => print::text(b"form: standard\n"),
         2 => print::text(b"form: handler\n"),
@@ -34,18 +33,18 @@ fn form(f: u32, n: usize) {
 
 fn block_fields(b: Block, n: usize) {
     flags(b, n);
-    line::number(n, b"public references: ", b.public);
+    print::line::number(n, b"public references: ", b.public);
     let oxid = b.oxid;
-    line::wide(n, b"OXID: 0x", oxid.0);
+    print::line::wide(n, b"OXID: 0x", oxid.0);
     let oid = b.oid;
-    line::wide(n, b"OID: 0x", oid.0);
+    print::line::wide(n, b"OID: 0x", oid.0);
     let ipid = b.ipid;
-    line::identifier(n, b"IPID: ", ipid);
+    print::line::identifier(n, b"IPID: ", ipid);
 }
 
 // The block's flags, with the no-ping bit in words.
 fn flags(b: Block, n: usize) {
-    line::named(n, b"block flags: 0x");
+    print::line::named(n, b"block flags: 0x");
     print::hex(b.flags as u64, 8);
     if b.no_ping() {
         print::text(b" (no ping)");

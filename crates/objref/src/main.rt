@@ -6,9 +6,6 @@ use references::Reference;
 mod context;
 mod data;
 mod form;
-mod line;
-mod list;
-mod words;
 
 fn main() {
     let mut input = [0u8; 65537];
@@ -54,7 +51,7 @@ fn single(s: &[u8], n: usize) {
         let clsid = reference.clsid;
         data::object(clsid, references::tail(s), n);
     } else {
-        list::parts(s, n);
+        print::list::parts(references::tail(s), n);
     }
     if reference.flags == Reference::EXTENDED {
         let id = reference.element;

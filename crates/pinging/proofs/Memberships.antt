@@ -1,76 +1,27 @@
--- The members of a set by the rows of the objects and by their OIDs, and how they change in a complex ping.
+-- The members of a set by the rows of the objects, and how they change in a complex ping.
 use Prim.Native.Nat.{ℕ, _<_, _≤_}
 use mathlib.Core.Path.{_≡_, refl, sym, ap, _∙_}
 use mathlib.Core.Bool.{Bool, true, false, cond, not, _&&_, _||_, and-false, or-true}
-use mathlib.Core.List.{List, [], _∷_, _++_, map}
+use mathlib.Core.List.{List, [], _∷_, _++_}
 use mathlib.Core.Logic.{⊎-elim}
 use native.Mathlib.Omega.{arith}
-use borrow.Author.Tests.{eqb-true, eq-eqb, ne-eqb, ltb-true, lt-ltb, le-ltb}
+use borrow.Author.Tests.{eqb-true, eq-eqb, ne-eqb, lt-ltb, le-ltb}
 use lib.Dec.{eqb, ltb}
-use lib.ListN.{length, getD, List·getD-eq-default}
+use lib.ListN.{length, getD}
 use Rattle.kinds.proofs.Refusing.{true-false}
-use Rattle.lists.specs.Lists.{tabulate, keep, nonzero, some, distinct, firstIndex, among}
-use Rattle.columns.specs.Members.{hasMember, memberRows, InWords, MemberPut}
+use Rattle.lists.specs.Lists.{keep, some, firstIndex, among}
+use Rattle.columns.specs.Members.{hasMember, InWords, MemberPut}
 use Rattle.columns.specs.declared.members.Members.{Members}
-use Rattle.lists.proofs.Tests.{true-or-false, below-or-not, and-left}
-use Rattle.lists.proofs.Lists.{every-at, every-tabulate, some-map, some-keep, some-tabulate, none-some, some-one, some-append, keep-map, keep-ext-on, tabulate-getD, map-tabulate}
+use Rattle.lists.proofs.Tests.{true-or-false, below-or-not}
+use Rattle.lists.proofs.Lists.{some-one, some-append}
 use Rattle.lists.proofs.First.{first-at}
-use Rattle.lists.proofs.Distinct.{eqb-decides, distinct-at, first-same}
-use Rattle.columns.proofs.members.Bits.{below-holds, members-below}
+use Rattle.lists.proofs.Distinct.{eqb-decides, first-same}
 use Rattle.rules.specs.Sound.{proper}
-use Rattle.rules.proofs.Groups.{fine-distinct}
 use Rattle.pinging.specs.Pinging.{MembersUpdated}
 use Rattle.table.specs.View.{memberValues}
+use Rattle.calls.proofs.Members.{ids-distinct, member-among, members-kept}
 
 module _ (ids : List ℕ) (p : proper ids ≡ true) where
-  ids-nonzero : nonzero ids ≡ true
-  ids-nonzero = and-left (nonzero ids) (distinct eqb ids) p
-
-  ids-distinct : distinct eqb ids ≡ true
-  ids-distinct = fine-distinct eqb 0 ids p
-
-  -- an OID stands in no other row
-  one-row : (k j : ℕ) → k < length ids → getD ids k 0 ≡ getD ids j 0 → j ≡ k
-  one-row k j h e =
-      ⊎-elim
-      (λ (b : j < length ids). distinct-at eqb eqb-decides ids 0 ids-distinct j k b h (sym e))
-      (λ (b : length ids ≤ j).
-      absurd (true-false (sym (every-at (λ (n : ℕ). not (eqb n 0)) ids 0 k h ids-nonzero) ∙ ap not (eq-eqb (getD ids k 0) 0 (e ∙ List·getD-eq-default ids 0 b)))))
-      (below-or-not j (length ids))
-
-  -- the OID of a row is among the members' just where the row is a member
-  pub member-among : (m : Members) (k : ℕ) → k < length ids → length ids ≤ 128 → among (memberValues ids m) (getD ids k 0) ≡ hasMember m k
-  unfolding memberRows
-  member-among m k h l =
-      some-map (eqb (getD ids k 0)) (λ j. getD ids j 0) (memberRows m)
-      ∙ some-keep (λ j. eqb (getD ids k 0) (getD ids j 0)) (hasMember m) (tabulate 128 (λ j. j))
-      ∙ ⊎-elim
-      (λ (t : hasMember m k ≡ true). some-tabulate test 128 (λ j. j) k (omega arith) (rw (t, eqb-decides .self (getD ids k 0))) ∙ sym t)
-      (λ (f : hasMember m k ≡ false). none-some test (tabulate 128 (λ j. j)) (every-tabulate (λ j. not (test j)) 128 (λ j. j) (λ j b. ap not (other f j))) ∙ sym f)
-      (true-or-false (hasMember m k))
-    where
-      test : ℕ → Bool
-      test j = hasMember m j && eqb (getD ids k 0) (getD ids j 0)
-
-      other : hasMember m k ≡ false → (j : ℕ) → test j ≡ false
-      other f j =
-          ⊎-elim
-          (λ (t : eqb (getD ids k 0) (getD ids j 0) ≡ true). rw (one-row k j h (eqb-true _ _ t), f))
-          (λ (t : eqb (getD ids k 0) (getD ids j 0) ≡ false). rw t (and-false (hasMember m j)))
-          (true-or-false (eqb (getD ids k 0) (getD ids j 0)))
-
-  -- members below the number of OIDs are the OIDs that a test keeps, where the test says who is a member
-  pub members-kept : (m : Members) (q : ℕ → Bool) → length ids ≤ 128 → ((j : ℕ) → length ids ≤ j → hasMember m j ≡ false)
-      → ((j : ℕ) → j < length ids → hasMember m j ≡ q (getD ids j 0)) → memberValues ids m ≡ keep q ids
-  members-kept m q l none same =
-      let n = length ids in
-      let value : ℕ → ℕ = λ j. getD ids j 0 in
-      ap (map value)
-      (members-below n m (below-holds n m none) l
-      ∙ keep-ext-on (λ j. ltb j n) (hasMember m) (λ j. q (value j)) (λ j b. same j (ltb-true j n b)) (tabulate n (λ j. j)) (every-tabulate (λ j. ltb j n) n (λ j. j) (λ j b. lt-ltb j n b)))
-      ∙ sym (keep-map q value (tabulate n (λ j. j)))
-      ∙ ap (keep q) (map-tabulate value n (λ j. j) ∙ tabulate-getD ids 0)
-
   -- ---- the rows of a list of OIDs
 
   -- an OID stands at the row that is found for it
@@ -85,7 +36,7 @@ module _ (ids : List ℕ) (p : proper ids ≡ true) where
       found b =
           ⊎-elim
           (λ (t : eqb (getD ids j 0) oid ≡ true).
-          t ∙ sym (eq-eqb j (firstIndex (eqb oid) ids) (sym (first-same eqb eqb-decides ids 0 j ids-distinct b) ∙ ap (λ (o : ℕ). firstIndex (eqb o) ids) (eqb-true _ _ t))))
+          t ∙ sym (eq-eqb j (firstIndex (eqb oid) ids) (sym (first-same eqb eqb-decides ids 0 j (ids-distinct ids p) b) ∙ ap (λ (o : ℕ). firstIndex (eqb o) ids) (eqb-true _ _ t))))
           (λ (f : eqb (getD ids j 0) oid ≡ false).
           f
           ∙ sym
@@ -154,13 +105,13 @@ module _ (ids : List ℕ) (p : proper ids ≡ true) where
   -- adds, then deletes: the OIDs that stay or join, and are not deleted
   pub new-members : (adds dels : List ℕ) (m a r : Members) → length ids ≤ 128 → ((j : ℕ) → length ids ≤ j → hasMember m j ≡ false) → MembersUpdated true ids adds m a → MembersUpdated false ids dels a r
       → memberValues ids r ≡ keep (λ (o : ℕ). (among (memberValues ids m) o || among adds o) && not (among dels o)) ids
-  new-members adds dels m a r l none p q =
-      members-kept r (λ o. (among (memberValues ids m) o || among adds o) && not (among dels o)) l
-      (λ j h. q .rows j ∙ rw (le-ltb j (length ids) h) (p .rows j ∙ rw (le-ltb j (length ids) h) (none j h)))
+  new-members adds dels m a r l none joins leaves =
+      members-kept ids p r (λ o. (among (memberValues ids m) o || among adds o) && not (among dels o)) l
+      (λ j h. leaves .rows j ∙ rw (le-ltb j (length ids) h) (joins .rows j ∙ rw (le-ltb j (length ids) h) (none j h)))
       (λ j h.
-      q .rows j
-      ∙ ap (cond (ltb j (length ids) && among dels (getD ids j 0)) false) (p .rows j)
-      ∙ rw (lt-ltb j (length ids) h, member-among m j h l) (chosen (hasMember m j) (among adds (getD ids j 0)) (among dels (getD ids j 0))))
+      leaves .rows j
+      ∙ ap (cond (ltb j (length ids) && among dels (getD ids j 0)) false) (joins .rows j)
+      ∙ rw (lt-ltb j (length ids) h, member-among ids p m j h l) (chosen (hasMember m j) (among adds (getD ids j 0)) (among dels (getD ids j 0))))
     where
       chosen : (w a d : Bool) → cond d false (cond a true w) ≡ ((w || a) && not d)
       chosen w a true = sym (and-false (w || a))

@@ -2,6 +2,10 @@
 use kinds::Guid;
 use libc::STDOUT_FILENO;
 
+pub mod line;
+pub mod list;
+mod words;
+
 pub fn text(s: &[u8]) {
     io::write_all(STDOUT_FILENO, s);
 }

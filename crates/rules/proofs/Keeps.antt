@@ -13,11 +13,13 @@ use Rattle.bindings.specs.Bindings.{listAnswer}
 use Rattle.lists.specs.Lists.{every, distinct, holding, among}
 use Rattle.lists.specs.Guids.{sameGuid}
 use Rattle.rules.specs.Entries.{Entries, exporterPlaces, fresh, oxids, oids, listBytes}
-use Rattle.rules.specs.Calls.{Counting, adding, releasing, reset, enterExporter, removeExporter, enterObject, enterInterface, add, release, dropClient, countList, simplePing, complexPing, clock, resolve, resolveFiltered, census, members, nextStop}
+use Rattle.rules.specs.Calls.{Counting, adding, releasing, reset, enterExporter, removeExporter, enterObject, enterInterface, add, release, dropClient, countList, simplePing, complexPing, clock, resolve, resolveFiltered, census, members, nextStop, writeSnapshot, loadSnapshot}
 use Rattle.rules.specs.Items.{Item, itemsOf, itemCall}
 use Rattle.rules.specs.Sound.{longestList, storeBytes, sound}
+use Rattle.rules.specs.Snapshot.{entriesOf, isSnapshot}
 use Rattle.rules.specs.Rules.{counted, itemsDone, refusals, number, next, anyIpid}
 use Rattle.rules.specs.Contract.{Keeps}
+use Rattle.rules.proofs.SoundLaws.{clause-at}
 use Rattle.rules.proofs.Groups.{Grouped, grouped, sound-grouped}
 use Rattle.rules.proofs.Counts.{entered-held}
 use Rattle.rules.proofs.Entering.{exporter-entered, object-entered, interface-entered, counts-added}
@@ -74,6 +76,15 @@ items-grouped w c [] e g = g
 items-grouped w c (t ∷ ts) e g =
     items-grouped w c ts _ (by-test Grouped (eqb (number (itemCall w c t) e) 0) _ e (λ h. counted-grouped w c (t .ipid) (t .public) (t .private) e g) (λ h. g))
 
+-- an accepted load is of a snapshot, whose entries are sound
+pub loaded-snapshot : (b : List ℕ) (e : Entries) → number (loadSnapshot b) e ≡ 0 → isSnapshot b ≡ true
+unfolding number refusals
+loaded-snapshot b e h = not-false (isSnapshot b) (passed _ 23 _ (omega arith) h .0)
+
+pub loaded-sound : (b : List ℕ) (e : Entries) → number (loadSnapshot b) e ≡ 0 → sound (entriesOf b) ≡ true
+unfolding isSnapshot
+loaded-sound b e h = clause-at _ 2 (loaded-snapshot b e h)
+
 -- each accepted call leaves sound entries
 pub keeps : Keeps
 unfolding next
@@ -94,3 +105,5 @@ keeps (resolveFiltered x protocols buffer) e s h = s
 keeps census e s h = s
 keeps (members k) e s h = s
 keeps (nextStop r) e s h = s
+keeps (writeSnapshot buffer) e s h = s
+keeps (loadSnapshot b) e s h = loaded-sound b e h

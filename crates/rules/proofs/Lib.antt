@@ -15,3 +15,8 @@ pub mod Filtered
 pub mod ByRow
 pub mod PingRows
 pub mod Cases
+pub mod SnapshotReading
+pub mod SnapshotSorting
+pub mod SnapshotSizes
+pub mod SnapshotRising
+pub mod Swapping

@@ -134,7 +134,7 @@ tabulate-append {A} (suc a) b f =
     ∙ ap (λ (l : List A). tabulate a (λ i. f (suc i)) ++ l) (tabulate-ext b (λ i. f (suc (a + i))) (λ i. f (suc a + i)) (λ i h. let r : suc (a + i) ≡ suc a + i = omega arith in ap f r)))
 
 -- a field behind the first bytes
-field-back : (s t : List ℕ) (at w : ℕ) → field (s ++ t) (length s + at) w ≡ field t at w
+pub field-back : (s t : List ℕ) (at w : ℕ) → field (s ++ t) (length s + at) w ≡ field t at w
 unfolding field
 field-back s t at w = λ u. cond (tests u) (bytesNumber (take w (drop-append-add s t at u))) 0
   where

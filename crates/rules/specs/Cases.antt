@@ -1,4 +1,5 @@
--- Document 01, "Both sides of each edge": the cases marked [P], in its order, as one table with one statement.
+-- Document 01, "Both sides of each edge": the cases marked [P], in its order, and those of document 02's snapshots, as one table with one
+-- statement.
 use Prim.Native.Nat.{ℕ}
 use mathlib.Core.Path.{_≡_}
 use mathlib.Core.Bool.{Bool, true, false, cond}
@@ -9,20 +10,22 @@ use Rattle.kinds.specs.declared.Guid.{Guid}
 use Rattle.bindings.specs.Bindings.{bindingsOf, partWords, listLength, listAnswer}
 use Rattle.bindings.specs.declared.Part.the-variants.{Strings, Security}
 use Rattle.references.specs.References.{referenceAnswer}
-use Rattle.rules.specs.Entries.{PingSet, Entries, withClock, withObjects, withInterfaces, withSets}
-use Rattle.rules.specs.Calls.{Call, add, release, complexPing, clock, Reply}
+use Rattle.rules.specs.Entries.{Interface, PingSet, Entries, fresh, withClock, withObjects, withInterfaces, withSets}
+use Rattle.rules.specs.Calls.{Call, add, release, complexPing, clock, writeSnapshot, loadSnapshot, Reply}
 use Rattle.rules.specs.Sound.{sound}
+use Rattle.rules.specs.Snapshot.{sections, snapshotBytes}
 use Rattle.rules.specs.Rules.{enteredCounts, next, refused, reply}
 
--- ---- a case: what is asked, and what document 01 says that it gives
+-- ---- a case: what is asked, and what the documents say that it gives
 
 pub data Question : Type 0 where
   -- these bytes as a reference
   asReference : List ℕ → Question
   -- these bytes as a binding list
   asList : List ℕ → Question
-  -- a call on live entries
+  -- a call on live entries, and one with an output buffer
   called : Call → Entries → Question
+  writes : Call → Entries → Question
 
 pub data Outcome : Type 0 where
   -- a number alone
@@ -31,8 +34,14 @@ pub data Outcome : Type 0 where
   parts : (strings security : List (List ℕ)) (bytes : ℕ) → Outcome
   -- of a call: its number, its values as in its `results`, and the live entries that it leaves
   replied : (number : ℕ) (values : List ℕ) (left : Entries) → Outcome
+  -- of a call with a buffer: its number, its values, and the buffer that it leaves
+  wrote : (number : ℕ) (values buffer : List ℕ) → Outcome
 
--- a call is refused by 1 where the entries are not sound, and a refused call leaves them
+-- a call is refused by 1 where the entries are not sound
+abbrev pub judged : Call → Entries → Reply
+judged c e = cond (sound e) (reply c e) (refused 1 c e)
+
+-- a refused call leaves them
 unfoldable pub outcome : Question → Outcome
 outcome (asReference s) = answer (referenceAnswer s)
 outcome (asList s) =
@@ -40,8 +49,11 @@ outcome (asList s) =
     (parts (bindingsOf Strings (partWords s Strings)) (bindingsOf Security (partWords s Security)) (listLength s))
     (answer (listAnswer s))
 outcome (called c e) =
-    let r : Reply = cond (sound e) (reply c e) (refused 1 c e) in
+    let r : Reply = judged c e in
     replied (r .number) (r .values) (cond (eqb (r .number) 0) (next c e) e)
+outcome (writes c e) =
+    let r : Reply = judged c e in
+    wrote (r .number) (r .values) (r .buffer)
 
 pub record Case : Type 0 where
   pub question : Question
@@ -96,6 +108,21 @@ isStale last = replied 12 (0 ∷ 0 ∷ []) (oneOfEach false 3 last)
 abbrev pub withoutObject : Entries → Entries
 withoutObject e = withObjects [] (withInterfaces [] e)
 
+-- the snapshot of a table fresh at clock 100: 02 00, 64 and seven 00, 01 and seven 00, then eight 00
+unfoldable pub freshSnapshot : List ℕ
+freshSnapshot =
+    (0x02 ∷ 0x00 ∷ [])
+    ++ (0x64 ∷ replicate 7 0x00)
+    ++ (0x01 ∷ replicate 7 0x00)
+    ++ replicate 8 0x00
+
+-- an object with two interfaces, of these IPIDs
+unfoldable pub twoInterfaces : (first second : ℕ) → Entries
+twoInterfaces first second = withInterfaces (held first ∷ held second ∷ []) (oneOfEach false 3 5)
+  where
+    held : ℕ → Interface
+    held low = record { ipid = record { low = low; high = 0 }; iid = ipid; object = 0x41; counts = enteredCounts 3 }
+
 -- ---- the table
 
 unfoldable pub cases : List Case
@@ -122,8 +149,19 @@ cases =
     -- count 4,294,967,295, add 1: 8; add 0 and 0: done
     ∷ called (add 0 ipid 1 0) (oneOfEach false 4294967295 5) is replied 8 [] (oneOfEach false 4294967295 5)
     ∷ called (add 0 ipid 0 0) (oneOfEach false 4294967295 5) is replied 0 [] (oneOfEach false 4294967295 5)
+    -- document 02: a table fresh at clock 100 gives exactly 26 bytes, the buffer's rest is kept; 25 are too few
+    ∷ writes (writeSnapshot (replicate 27 0xFF)) (fresh 100) is wrote 0 (26 ∷ []) (freshSnapshot ++ (0xFF ∷ []))
+    ∷ writes (writeSnapshot (replicate 25 0xFF)) (fresh 100) is wrote 15 (0 ∷ []) (replicate 25 0xFF)
+    -- these bytes are loaded; with one byte more they are the snapshot of no table
+    ∷ called (loadSnapshot freshSnapshot) (oneOfEach false 3 5) is replied 0 [] (fresh 100)
+    ∷ called (loadSnapshot (freshSnapshot ++ (0x00 ∷ []))) (oneOfEach false 3 5) is replied 23 [] (oneOfEach false 3 5)
+    -- IPIDs rise by their bytes in order: 00 01 comes before 01 00
+    ∷ called (loadSnapshot (snapshotBytes (twoInterfaces 0x0001 0x0100))) (fresh 0) is replied 0 [] (twoInterfaces 0x0100 0x0001)
+    ∷ called (loadSnapshot (sections (twoInterfaces 0x0001 0x0100))) (fresh 0) is replied 23 [] (fresh 0)
+    -- a member stands once
+    ∷ called (loadSnapshot (sections (withSets (oneSet 5 (0x41 ∷ 0x41 ∷ []) ∷ []) (oneOfEach false 3 5)))) (fresh 0) is replied 23 [] (fresh 0)
     ∷ []
 
--- every case gives what document 01 says
+-- every case gives what the documents say
 abbrev pub CasesHold : Type 0
 CasesHold = map (λ (c : Case). outcome (c .question)) cases ≡ map (λ (c : Case). c .given) cases

@@ -6,7 +6,7 @@ use mathlib.Core.List.{List}
 use lib.ListN.{length}
 use lib.Dec.{eqb}
 use Rattle.rules.specs.Entries.{Entries}
-use Rattle.rules.specs.Calls.{Call, reset, enterExporter, removeExporter, enterObject, enterInterface, add, release, dropClient, countList, simplePing, complexPing, clock, resolve, resolveFiltered, census, members, nextStop, Reply}
+use Rattle.rules.specs.Calls.{Call, reset, enterExporter, removeExporter, enterObject, enterInterface, add, release, dropClient, countList, simplePing, complexPing, clock, resolve, resolveFiltered, census, members, nextStop, writeSnapshot, loadSnapshot, Reply}
 use Rattle.rules.specs.Sound.{sound}
 use Rattle.rules.specs.Rules.{number, next, refused, reply}
 
@@ -23,7 +23,7 @@ rightLengths m = eqb (length (m .words)) 8192 && eqb (length (m .store)) 8192
 abbrev pub Whole : List ℕ → Type 0
 Whole xs = length xs ≡ 8192
 
--- a reset looks at lengths only
+-- a reset and a load look at lengths only
 abbrev pub lengthsOnly : Call → Bool
 lengthsOnly (reset t) = true
 lengthsOnly (enterExporter x u b) = false
@@ -42,6 +42,8 @@ lengthsOnly (resolveFiltered x protocols buffer) = false
 lengthsOnly census = false
 lengthsOnly (members s) = false
 lengthsOnly (nextStop r) = false
+lengthsOnly (writeSnapshot buffer) = false
+lengthsOnly (loadSnapshot s) = true
 
 -- an accepted call leaves sound entries
 abbrev pub Keeps : Type 0

@@ -2,10 +2,12 @@ pub mod Entries
 pub mod Calls
 pub mod Items
 pub mod Sound
+pub mod Snapshot
 pub mod Rules
 pub mod PingRows
 pub mod Contract
 pub mod OneByOne
 pub mod EitherOrder
 pub mod Filtering
+pub mod Swapping
 pub mod Cases

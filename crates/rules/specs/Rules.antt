@@ -14,9 +14,10 @@ use Rattle.references.specs.References.{referenceAnswer, referenceAt, isCustom,
 use Rattle.lists.specs.Lists.{keep, some, every, firstOr, among}
 use Rattle.lists.specs.Guids.{nil, sameGuid}
 use Rattle.rules.specs.Entries.{Exporter, Object, Interface, PingSet, Entries, exporterPlaces, objectPlaces, interfacePlaces, setPlaces, countLimit, sequenceLimit, fresh, oxids, oids, setNumbers, interfaceIpids, ipids, listBytes, withClock, withNext, withExporters, withObjects, withInterfaces, withSets, heardAt, publicOf, privateOf, atCount, atCounts, pingedAt, withSequence, withMembers, withMembersOf}
-use Rattle.rules.specs.Calls.{Call, Counting, adding, releasing, reset, enterExporter, removeExporter, enterObject, enterInterface, add, release, dropClient, countList, simplePing, complexPing, clock, resolve, resolveFiltered, census, members, nextStop, Reply, Results, only}
+use Rattle.rules.specs.Calls.{Call, Counting, adding, releasing, reset, enterExporter, removeExporter, enterObject, enterInterface, add, release, dropClient, countList, simplePing, complexPing, clock, resolve, resolveFiltered, census, members, nextStop, writeSnapshot, loadSnapshot, Reply, Results, only}
 use Rattle.rules.specs.Items.{Item, itemSize, itemCount, itemsOf, itemCall}
 use Rattle.rules.specs.Sound.{longestList, storeBytes, held, hasInterface, heardWithin, pingedWithin}
+use Rattle.rules.specs.Snapshot.{snapshotBytes, entriesOf, isSnapshot}
 
 -- ---- tests on the entries
 
@@ -164,6 +165,8 @@ refusals (resolveFiltered x protocols buffer) e =
 refusals census e = []
 refusals (members s) e = not (isLiveSet e s) gives 11 ∷ []
 refusals (nextStop r) e = passes (referenceAnswer r) ∷ isCustom (field r 4 4) gives 14 ∷ []
+refusals (writeSnapshot buffer) e = ltb (length buffer) (length (snapshotBytes e)) gives 15 ∷ []
+refusals (loadSnapshot s) e = not (isSnapshot s) gives 23 ∷ []
 
 unfoldable pub number : Call → Entries → ℕ
 number c e = order (refusals c e)
@@ -279,6 +282,9 @@ next (resolveFiltered x protocols buffer) e = e
 next census e = e
 next (members s) e = e
 next (nextStop r) e = e
+next (writeSnapshot buffer) e = e
+-- what was there is forgotten; the entries stand in the snapshot's order
+next (loadSnapshot s) e = entriesOf s
 
 -- ---- what an accepted call answers
 
@@ -346,6 +352,9 @@ results (nextStop r) e =
       front = [];
       buffer = [];
     }
+-- the snapshot's length; the snapshot at the front of the buffer
+results (writeSnapshot buffer) e = record { values = length (snapshotBytes e) ∷ []; part = []; front = snapshotBytes e; buffer = buffer }
+results (loadSnapshot s) e = only []
 
 -- document 01, "Answer numbers": a refusal returns its number, zero in every other result, an empty part, and keeps the buffer
 unfoldable pub refused : ℕ → Call → Entries → Reply

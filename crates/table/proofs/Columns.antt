@@ -78,6 +78,15 @@ module _ (ws : List ℕ) (size : length ws ≡ 8192) where
       map-map (λ (i : Interface). i .ipid) asInterface (rows interfaceKind ws (interfaceCount ws))
       ∙ guid-rows interfaceKind ws (interfaceCount ws) 0 (omega arith) (omega arith) (omega arith)
 
+  -- the halves of the IPIDs
+  pub ipid-lows-column : map (λ (i : Interface). i .ipid .low) (interfacesOf ws) ≡ take (interfaceCount ws) (drop 768 ws)
+  unfolding interfacesOf
+  ipid-lows-column = field-column interfaceKind ws (interfaceCount ws) 0 asInterface (λ i. i .ipid .low) (λ r. refl) (omega arith) (omega arith) (omega arith)
+
+  pub ipid-highs-column : map (λ (i : Interface). i .ipid .high) (interfacesOf ws) ≡ take (interfaceCount ws) (drop 1024 ws)
+  unfolding interfacesOf
+  ipid-highs-column = field-column interfaceKind ws (interfaceCount ws) 1 asInterface (λ i. i .ipid .high) (λ r. refl) (omega arith) (omega arith) (omega arith)
+
   pub interface-objects-column : map (λ (i : Interface). i .object) (interfacesOf ws) ≡ take (interfaceCount ws) (drop 1792 ws)
   unfolding interfacesOf
   interface-objects-column = field-column interfaceKind ws (interfaceCount ws) 4 asInterface (λ i. i .object) (λ r. refl) (omega arith) (omega arith) (omega arith)

@@ -8,8 +8,9 @@ use lib.Dec.{eqb}
 use lib.ListN.{length, getD, set, drop, length-map, length-drop}
 use lib.Seq.{getD-drop, getD-set-other, drop-set-add}
 use Rattle.lists.specs.Lists.{some, every, tabulate}
-use Rattle.columns.specs.Rows.{rowAt}
+use Rattle.columns.specs.Rows.{rowAt, rows}
 use Rattle.lists.proofs.Lists.{every-ext, some-not, map-set, tabulate-getD}
+use Rattle.lists.proofs.Elements.{In, map-in, tabulate-in}
 use Rattle.columns.proofs.rows.Laws.{rowAt-getD, length-row}
 use Rattle.rules.specs.Entries.{Interface, countOf, withCount}
 use Rattle.rules.specs.Sound.{held}
@@ -41,6 +42,17 @@ count-word ws i k h b =
 -- there are nine
 nine : (ws : List ℕ) (i : ℕ) → length (map low32 (drop 5 (rowAt interfaceKind ws i))) ≡ 9
 nine ws i = length-map (drop 5 (rowAt interfaceKind ws i)) low32 ∙ length-drop 5 (rowAt interfaceKind ws i) ∙ (let q = length-row interfaceKind ws i in omega arith)
+
+pub nine-counts : (ws : List ℕ) (i : ℕ) → i < interfaceCount ws → length (getD (interfacesOf ws) i noInterface .counts) ≡ 9
+nine-counts ws i h = ap (λ (r : Interface). length (r .counts)) (interface-at ws i noInterface h) ∙ nine ws i
+
+-- of each interface
+pub nine-each : (ws : List ℕ) (x : Interface) → In x (interfacesOf ws) → length (x .counts) ≡ 9
+unfolding interfacesOf rows
+nine-each ws x m =
+    let r = map-in asInterface (rows interfaceKind ws (interfaceCount ws)) m in
+    let j = tabulate-in (interfaceCount ws) (rowAt interfaceKind ws) (r .1) in
+    ap (λ (i : Interface). length (i .counts)) (r .2 ∙ ap asInterface (j .2)) ∙ nine ws (j .0)
 
 -- an interface is held where not every count is zero
 pub zero-counts : (ws : List ℕ) (i : ℕ) → i < interfaceCount ws

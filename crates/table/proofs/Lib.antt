@@ -5,3 +5,4 @@ pub mod Sizes
 pub mod Counts
 pub mod Columns
 pub mod LiveRows
+pub mod Fitting

@@ -30,7 +30,7 @@ places : (ws : List ℕ) → objectCount ws < 129
 places ws = omega arith
 
 -- a word of the array is below 2 ^ 64
-word-fits : (m : Memory) → wordsFit m ≡ true → (x : ℕ) → getD (m .words) x 0 < 2 ^ 64
+pub word-fits : (m : Memory) → wordsFit m ≡ true → (x : ℕ) → getD (m .words) x 0 < 2 ^ 64
 word-fits m h x = ltb-true (getD (m .words) x 0) (2 ^ 64) (every-at-or (λ (w : ℕ). ltb w (2 ^ 64)) (m .words) 0 x refl h)
 
 -- distinct OIDs at distinct rows

@@ -5,3 +5,4 @@ pub mod Counts
 pub mod Sizes
 pub mod FreePlaces
 pub mod Placed
+pub mod Fitting

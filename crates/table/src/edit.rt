@@ -8,6 +8,7 @@ use columns::rows::Kind;
 use kinds::Guid;
 use kinds::Oid;
 use kinds::Oxid;
+use kinds::SetId;
 ghost use mathlib.Core.Path.{_≡_};
 ghost use mathlib.Core.Bool.{true, not};
 ghost use Prim.Native.Nat.{_+_, _-_, _^_, _<_, _≤_};
@@ -19,9 +20,9 @@ ghost use Rattle.bindings.specs.Bindings.{listAnswer};
 ghost use Rattle.rules.specs.Rules.{makeSet, enteredCounts};
 ghost use Rattle.table.specs.View.{exporterCount, objectCount, interfaceCount, setCount, listStart, memory, view, oidsOf, clockOf, nextOf, memberValues};
 ghost use Rattle.rules.specs.PingRows.{changeSet};
-ghost use Rattle.table.specs.Edits.{Pushed, Pulled, membersBelow, Became, addExporter, addObject, addInterface, dropExporter, dropObject, dropInterface, dropSet, changeObject, changeInterface, MembersCut};
+ghost use Rattle.table.specs.Edits.{Pushed, Pulled, membersBelow, Became, addExporter, addObject, addInterface, addSet, dropExporter, dropObject, dropInterface, dropSet, changeObject, changeInterface, MembersCut};
 ghost use Rattle.rules.specs.Contract.{Whole};
-ghost use Rattle.rules.specs.Entries.{objectPlaces, interfacePlaces, setPlaces, exporterPlaces, heardAt, withCount, pingedAt, withSequence, withMembers, withClock, fresh};
+ghost use Rattle.rules.specs.Entries.{objectPlaces, interfacePlaces, setPlaces, exporterPlaces, heardAt, withCount, pingedAt, withSequence, withMembers, withClock, withNext, fresh};
 ghost use Rattle.rules.specs.Sound.{storeBytes};
 
 // Enters a row after the n live ones of a kind, whose count is the word at.
@@ -49,6 +50,19 @@ fn mark(no_ping: bool) -> u64
     if no_ping { 1 } else { 0 }
 }
 
+// An object.
+pub fn add_object(words: &mut [u64], oid: Oid, oxid: Oxid, no_ping: bool, heard: u64)
+    requires { ⌜ Whole (now words) × (objectCount (now words) < objectPlaces) × (membersBelow (now words) ≡ true) ⌝ }
+    ensures { λ _. ⌜
+        Became
+        (addObject (record { oid = oid .0; exporter = oxid .0; noping = «no_ping»; heard = heard }))
+        (now (words .entry)) (now (words .exit)) ⌝ }
+{
+    let n = find::object_count(words);
+    let row = [oid.0, oxid.0, mark(no_ping), heard];
+    push_row(words, layout::object_kind(), layout::OBJECTS, n, &row);
+}
+
 // An object, heard now.
 pub fn put_object(words: &mut [u64], oid: Oid, oxid: Oxid, no_ping: bool)
     requires { ⌜ Whole (now words) × (objectCount (now words) < objectPlaces) × (membersBelow (now words) ≡ true) ⌝ }
@@ -57,16 +71,16 @@ pub fn put_object(words: &mut [u64], oid: Oid, oxid: Oxid, no_ping: bool)
         (addObject (record { oid = oid .0; exporter = oxid .0; noping = «no_ping»; heard = clockOf (now (words .entry)) }))
         (now (words .entry)) (now (words .exit)) ⌝ }
 {
-    let n = find::object_count(words);
-    let row = [oid.0, oxid.0, mark(no_ping), words[layout::CLOCK]];
-    push_row(words, layout::object_kind(), layout::OBJECTS, n, &row);
+    let clock = find::clock(words);
+    add_object(words, oid, oxid, no_ping, clock);
 }
 
-pub fn put_interface(words: &mut [u64], ipid: Guid, iid: Guid, oid: Oid, public: u32)
-    requires { ⌜ Whole (now words) × (interfaceCount (now words) < interfacePlaces) ⌝ }
+// An interface with its nine counts.
+pub fn add_interface(words: &mut [u64], ipid: Guid, iid: Guid, oid: Oid, counts: &[u32])
+    requires { ⌜ Whole (now words) × (interfaceCount (now words) < interfacePlaces) × (length (now counts) ≡ 9) ⌝ }
     ensures { λ _. ⌜
         Became
-        (addInterface (record { ipid = ipid; iid = iid; object = oid .0; counts = enteredCounts public }))
+        (addInterface (record { ipid = ipid; iid = iid; object = oid .0; counts = now (counts .entry) }))
         (now (words .entry)) (now (words .exit)) ⌝ }
 {
     let n = find::interface_count(words);
@@ -76,17 +90,49 @@ pub fn put_interface(words: &mut [u64], ipid: Guid, iid: Guid, oid: Oid, public:
         iid.low,
         iid.high,
         oid.0,
-        public as u64,
-        0,
-        0,
-        0,
-        0,
-        0,
-        0,
-        0,
-        0,
+        counts[0] as u64,
+        counts[1] as u64,
+        counts[2] as u64,
+        counts[3] as u64,
+        counts[4] as u64,
+        counts[5] as u64,
+        counts[6] as u64,
+        counts[7] as u64,
+        counts[8] as u64,
     ];
     push_row(words, layout::interface_kind(), layout::INTERFACES, n, &row);
+}
+
+// An interface with a public count, and no private references.
+pub fn put_interface(words: &mut [u64], ipid: Guid, iid: Guid, oid: Oid, public: u32)
+    requires { ⌜ Whole (now words) × (interfaceCount (now words) < interfacePlaces) ⌝ }
+    ensures { λ _. ⌜
+        Became
+        (addInterface (record { ipid = ipid; iid = iid; object = oid .0; counts = enteredCounts public }))
+        (now (words .entry)) (now (words .exit)) ⌝ }
+{
+    let counts = [public, 0, 0, 0, 0, 0, 0, 0, 0];
+    add_interface(words, ipid, iid, oid, &counts);
+}
+
+// A set, with its members by the objects' rows. The next set number stays.
+pub fn add_set(words: &mut [u64], number: SetId, sequence: u16, pinged: u64, members: Members)
+    requires { ⌜ Whole (now words) × (setCount (now words) < setPlaces) ⌝ }
+    ensures { λ _. ⌜
+        Became
+        (addSet (record { number = number .0; sequence = sequence; pinged = pinged; members = memberValues (oidsOf (now (words .entry))) members }))
+        (now (words .entry)) (now (words .exit)) ⌝ }
+{
+    let n = find::set_count(words);
+    let row = [number.0, sequence as u64, pinged, members.low, members.high];
+    push_row(words, layout::set_kind(), layout::SETS, n, &row);
+}
+
+pub fn set_next(words: &mut [u64], number: u64)
+    requires { ⌜ Whole (now words) ⌝ }
+    ensures { λ _. ⌜ Became (withNext number) (now (words .entry)) (now (words .exit)) ⌝ }
+{
+    words[layout::NEXT_SET] = number;
 }
 
 // A set with the next number, which grows by one: pinged now, with sequence number 0 and no member.
@@ -94,11 +140,10 @@ pub fn put_set(words: &mut [u64])
     requires { ⌜ Whole (now words) × (setCount (now words) < setPlaces) × (nextOf (now words) < 2 ^ 64 - 1) ⌝ }
     ensures { λ _. ⌜ Became makeSet (now (words .entry)) (now (words .exit)) ⌝ }
 {
-    let n = find::set_count(words);
-    let next = words[layout::NEXT_SET];
-    let row = [next, 0, words[layout::CLOCK], 0, 0];
-    push_row(words, layout::set_kind(), layout::SETS, n, &row);
-    words[layout::NEXT_SET] = next + 1;
+    let next = find::next_set(words);
+    let clock = find::clock(words);
+    add_set(words, SetId(next), 0, clock, Members { low: 0, high: 0 });
+    set_next(words, next + 1);
 }
 
 // An exporter, with its list behind the live ones.

@@ -8,7 +8,7 @@ use kinds::Oxid;
 use kinds::SetId;
 ghost use mathlib.Core.Path.{_≡_};
 ghost use mathlib.Core.Bool.{true, _||_};
-ghost use mathlib.Core.List.{List};
+ghost use mathlib.Core.List.{List, map};
 ghost use lib.ListN.{length, getD};
 ghost use lib.Dec.{eqb};
 ghost use Rattle.lists.specs.Guids.{nil, sameGuid};
@@ -16,10 +16,10 @@ ghost use Rattle.table.specs.Edits.{membersAt};
 ghost use Rattle.rules.specs.Contract.{Whole};
 ghost use Prim.Native.Nat.{ℕ, _<_, _≤_, min};
 ghost use Rattle.lists.specs.Lists.{some, every};
-ghost use Rattle.rules.specs.Entries.{Interface, countOf, exporterRow, objectRow, interfaceRow, setRow, ipids, exporterPlaces, objectPlaces, interfacePlaces, setPlaces};
+ghost use Rattle.rules.specs.Entries.{Interface, PingSet, oxids, countOf, exporterRow, objectRow, interfaceRow, setRow, ipids, exporterPlaces, objectPlaces, interfacePlaces, setPlaces};
 ghost use Rattle.rules.specs.Sound.{listsKept, held, heardWithin, pingedWithin};
 ghost use Rattle.rules.specs.Rules.{noExporter, noObject, noInterface, noSet, isLiveObject};
-ghost use Rattle.table.specs.View.{exporterCount, objectCount, interfaceCount, setCount, clockOf, nextOf, listStart, exportersOf, objectsOf, interfacesOf, setsOf, memory, view, Holds};
+ghost use Rattle.table.specs.View.{exporterCount, objectCount, interfaceCount, setCount, clockOf, nextOf, listStart, exportersOf, objectsOf, interfacesOf, setsOf, oidsOf, memory, view, Holds};
 ghost use Rattle.table.specs.Counts.{countsAt};
 
 // The time of the table.
@@ -75,15 +75,49 @@ pub fn set_count(words: &[u64]) -> usize
     capped(words[layout::SETS], limits::SET_PLACES)
 }
 
+// The live identifiers, in the order of the rows.
+pub fn oxids(words: &[u64]) -> &[u64]
+    requires { ⌜ Whole (now words) ⌝ }
+    ensures { λ r. ⌜ Holds (λ e. now r ≡ oxids e) (now (words .entry)) ⌝ }
+{
+    layout::column(words, layout::OXIDS, exporter_count(words))
+}
+
+pub fn oids(words: &[u64]) -> &[u64]
+    requires { ⌜ Whole (now words) ⌝ }
+    ensures { λ r. ⌜ now r ≡ oidsOf (now (words .entry)) ⌝ }
+{
+    layout::column(words, layout::OIDS, object_count(words))
+}
+
+pub fn set_numbers(words: &[u64]) -> &[u64]
+    requires { ⌜ Whole (now words) ⌝ }
+    ensures { λ r. ⌜ now r ≡ map (λ (s : PingSet). s .number) (setsOf (now (words .entry))) ⌝ }
+{
+    layout::column(words, layout::SET_NUMBERS, set_count(words))
+}
+
+// The halves of the interfaces' IPIDs.
+pub fn ipid_lows(words: &[u64]) -> &[u64]
+    requires { ⌜ Whole (now words) ⌝ }
+    ensures { λ r. ⌜ now r ≡ map (λ (i : Interface). i .ipid .low) (interfacesOf (now (words .entry))) ⌝ }
+{
+    layout::column(words, layout::IPID_LOWS, interface_count(words))
+}
+
+pub fn ipid_highs(words: &[u64]) -> &[u64]
+    requires { ⌜ Whole (now words) ⌝ }
+    ensures { λ r. ⌜ now r ≡ map (λ (i : Interface). i .ipid .high) (interfacesOf (now (words .entry))) ⌝ }
+{
+    layout::column(words, layout::IPID_HIGHS, interface_count(words))
+}
+
 // The row of the exporter with an OXID; the number of live exporters where there is none.
 pub fn exporter_row(words: &[u64], oxid: Oxid) -> usize
     requires { ⌜ Whole (now words) ⌝ }
     ensures { λ r. ⌜ Holds (λ e. r ≡ exporterRow e (oxid .0)) (now (words .entry)) ⌝ }
 {
-    columns::index_of(
-        layout::column(words, layout::OXIDS, exporter_count(words)),
-        oxid.0,
-    )
+    columns::index_of(oxids(words), oxid.0)
 }
 
 // The row of the object with an OID; the number of live objects where there is none.
@@ -91,10 +125,7 @@ pub fn object_row(words: &[u64], oid: Oid) -> usize
     requires { ⌜ Whole (now words) ⌝ }
     ensures { λ r. ⌜ Holds (λ e. r ≡ objectRow e (oid .0)) (now (words .entry)) ⌝ }
 {
-    columns::index_of(
-        layout::column(words, layout::OIDS, object_count(words)),
-        oid.0,
-    )
+    columns::index_of(oids(words), oid.0)
 }
 
 // The row of the set with a number; the number of live sets where there is none.
@@ -102,10 +133,7 @@ pub fn set_row(words: &[u64], set: SetId) -> usize
     requires { ⌜ Whole (now words) ⌝ }
     ensures { λ r. ⌜ Holds (λ e. r ≡ setRow e (set .0)) (now (words .entry)) ⌝ }
 {
-    columns::index_of(
-        layout::column(words, layout::SET_NUMBERS, set_count(words)),
-        set.0,
-    )
+    columns::index_of(set_numbers(words), set.0)
 }
 
 // The row of the interface with an IPID; the number of live interfaces where there is none.
@@ -153,6 +181,28 @@ pub fn interface_object(words: &[u64], i: usize) -> Oid
     ensures { λ r. ⌜ r .0 ≡ getD (interfacesOf (now (words .entry))) i noInterface .object ⌝ }
 {
     Oid(words[layout::INTERFACE_OBJECTS + i])
+}
+
+// The IPID of interface i.
+pub fn ipid(words: &[u64], i: usize) -> Guid
+    requires { ⌜ Whole (now words) × (i < interfaceCount (now words)) ⌝ }
+    ensures { λ r. ⌜ r ≡ getD (interfacesOf (now (words .entry))) i noInterface .ipid ⌝ }
+{
+    Guid {
+        low: words[layout::IPID_LOWS + i],
+        high: words[layout::IPID_HIGHS + i],
+    }
+}
+
+// The IID of interface i.
+pub fn iid(words: &[u64], i: usize) -> Guid
+    requires { ⌜ Whole (now words) × (i < interfaceCount (now words)) ⌝ }
+    ensures { λ r. ⌜ r ≡ getD (interfacesOf (now (words .entry))) i noInterface .iid ⌝ }
+{
+    Guid {
+        low: words[layout::IID_LOWS + i],
+        high: words[layout::IID_HIGHS + i],
+    }
 }
 
 // The object of an interface, its public count and the private one of a client.
@@ -223,6 +273,22 @@ pub fn object_exporter(words: &[u64], i: usize) -> Oxid
     Oxid(words[layout::OBJECT_EXPORTERS + i])
 }
 
+// Whether object i has the no-ping mark.
+pub fn is_unpinged(words: &[u64], i: usize) -> bool
+    requires { ⌜ Whole (now words) × (i < objectCount (now words)) ⌝ }
+    ensures { λ r. ⌜ r ≡ getD (objectsOf (now (words .entry))) i noObject .noping ⌝ }
+{
+    words[layout::NO_PING_MARKS + i] != 0
+}
+
+// The time object i was last heard.
+pub fn heard(words: &[u64], i: usize) -> u64
+    requires { ⌜ Whole (now words) × (i < objectCount (now words)) ⌝ }
+    ensures { λ r. ⌜ r ≡ getD (objectsOf (now (words .entry))) i noObject .heard ⌝ }
+{
+    words[layout::HEARD_TIMES + i]
+}
+
 // Object i is not pinged, or was heard under 360 seconds before a time.
 pub fn is_heard_within(words: &[u64], i: usize, time: u64) -> bool
     requires { ⌜ Whole (now words) × (i < objectCount (now words)) ⌝ }
@@ -247,10 +313,23 @@ pub fn are_live<'a>(words: &'a [u64], ids: &'a [u64]) -> bool
     requires { ⌜ Whole (now words) ⌝ }
     ensures { λ r. ⌜ Holds (λ e. r ≡ every (isLiveObject e) (now (ids .entry))) (now (words .entry)) ⌝ }
 {
-    columns::all_in(
-        ids,
-        layout::column(words, layout::OIDS, object_count(words)),
-    )
+    columns::all_in(ids, oids(words))
+}
+
+// The number of set i.
+pub fn set_number(words: &[u64], i: usize) -> SetId
+    requires { ⌜ Whole (now words) × (i < setCount (now words)) ⌝ }
+    ensures { λ r. ⌜ r .0 ≡ getD (setsOf (now (words .entry))) i noSet .number ⌝ }
+{
+    SetId(words[layout::SET_NUMBERS + i])
+}
+
+// The time of the last ping of set i.
+pub fn pinged(words: &[u64], i: usize) -> u64
+    requires { ⌜ Whole (now words) × (i < setCount (now words)) ⌝ }
+    ensures { λ r. ⌜ r ≡ getD (setsOf (now (words .entry))) i noSet .pinged ⌝ }
+{
+    words[layout::PING_TIMES + i]
 }
 
 // The sequence number of set i.
@@ -270,6 +349,14 @@ pub fn members(words: &[u64], i: usize) -> Members
         low: words[layout::MEMBER_LOWS + i],
         high: words[layout::MEMBER_HIGHS + i],
     }
+}
+
+// The OXID of exporter i.
+pub fn oxid(words: &[u64], i: usize) -> Oxid
+    requires { ⌜ Whole (now words) × (i < exporterCount (now words)) ⌝ }
+    ensures { λ r. ⌜ ((s : List ℕ) → r .0 ≡ getD (exportersOf (now (words .entry)) s) i noExporter .oxid) ⌝ }
+{
+    Oxid(words[layout::OXIDS + i])
 }
 
 // The remote-unknown IPID of exporter i.

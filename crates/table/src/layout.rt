@@ -59,7 +59,11 @@ pub const IPID_LOWS: usize = 768;
 
 pub const IPID_HIGHS: usize = IPID_LOWS + INTERFACE_PLACES;
 
-pub const INTERFACE_OBJECTS: usize = IPID_LOWS + 4 * INTERFACE_PLACES;
+pub const IID_LOWS: usize = IPID_HIGHS + INTERFACE_PLACES;
+
+pub const IID_HIGHS: usize = IID_LOWS + INTERFACE_PLACES;
+
+pub const INTERFACE_OBJECTS: usize = IID_HIGHS + INTERFACE_PLACES;
 
 // The public counts; the private ones of clients 0 to 7 follow, a column for each.
 pub const COUNTS: usize = INTERFACE_OBJECTS + INTERFACE_PLACES;

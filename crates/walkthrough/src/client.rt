@@ -87,9 +87,9 @@ fn resolve_udp<'a>(words: &'a [u64], store: &'a [u8], oxid: Oxid) {
     print::text(b" bytes\n");
 }
 
-// So many periods of two minutes have passed since 8 o'clock.
+// So many periods of two minutes have passed since the table was reset.
 fn pass<'a>(words: &'a mut [u64], store: &'a [u8], periods: u32) {
-    let r = resolver::clock(words, store, 28800 + 120 * periods as u64);
+    let r = resolver::clock(words, store, server::OPENED + 120 * periods as u64);
     say::step(r.answer, b"clock: two minutes later");
     say::counted(b", ", r.objects as u64);
     say::counted(b" objects, ", r.interfaces as u64);
@@ -153,11 +153,16 @@ fn share<'a>(words: &'a mut [u64], store: &'a [u8]) {
     );
 }
 
-// Pings every two minutes, and gives the references back at the end. The object stays until another client's references are
-// dropped.
-pub fn stay<'a>(words: &'a mut [u64], store: &'a [u8], reference: &'a [u8]) {
+// Pings every two minutes until noon; its set.
+pub fn stay<'a>(words: &'a mut [u64], store: &'a [u8], reference: &'a [u8]) -> SetId {
     let set = take_up(words, store, reference);
     wait(words, store, set, 0, 4, true);
+    set
+}
+
+// Pings once more, and gives the references back. The object stays until another client's references are dropped.
+pub fn leave<'a>(words: &'a mut [u64], store: &'a [u8], set: SetId) {
+    ping(words, store, set);
     share(words, store);
     give_back(words, store);
     count_members(words, store, set);

@@ -1,19 +1,39 @@
 // One reference through a day. A server registers and enters a tank level group, and its reference goes out in bytes. A client
-// reads it, asks where to go next, resolves, takes more references, pings every two minutes from a set, and gives the references
-// back; the object ends once the references of another client, which is lost, are dropped. Then the same with a client that falls
-// silent. Each step is printed with its answer number.
+// reads it, asks where to go next, resolves, takes more references and pings every two minutes from a set. At noon the gateway's
+// box is swapped: another one loads its snapshot, and serves on. The client gives the references back; the object ends once the
+// references of another client, which is lost, are dropped. Then the same with a client that falls silent. Each step is printed
+// with its answer number.
+use kinds::SetId;
 
 mod client;
 mod say;
 mod server;
 
 fn main() {
+    let mut snapshot = [0u8; server::SNAPSHOT];
+    let set = until_noon(&mut snapshot);
+    after_noon(&snapshot, set);
+}
+
+// The first box; the client's set.
+fn until_noon(snapshot: &mut [u8]) -> SetId {
     let mut words = [0u64; 8192];
     let mut store = [0u8; 8192];
     let mut reference = [0u8; server::REFERENCE];
     server::open(&mut words, &mut store);
     server::offer(&mut words, &store, &mut reference);
-    client::stay(&mut words, &store, &reference);
+    let set = client::stay(&mut words, &store, &reference);
+    server::save(&words, &store, snapshot);
+    set
+}
+
+// The box that takes over.
+fn after_noon(snapshot: &[u8], set: SetId) {
+    let mut words = [0u64; 8192];
+    let mut store = [0u8; 8192];
+    let mut reference = [0u8; server::REFERENCE];
+    server::take_over(&mut words, &mut store, snapshot);
+    client::leave(&mut words, &store, set);
     server::count(&words, &store);
     say::chapter(b"the next client falls silent");
     server::offer(&mut words, &store, &mut reference);

@@ -14,6 +14,12 @@ pub const OID: u64 = 0x7E0A;
 // The bytes of the reference: header, object block and binding list.
 pub const REFERENCE: usize = 108;
 
+// The bytes of the snapshot at noon: one exporter, one object, one interface, one set with a member.
+pub const SNAPSHOT: usize = 225;
+
+// Eight minutes to noon, in seconds of the day.
+pub const OPENED: u64 = 42720;
+
 // The IPID of the group's interface.
 pub fn ipid() -> Guid {
     Guid {
@@ -39,7 +45,7 @@ fn put_bindings(list: &mut [u8]) {
     );
 }
 
-// Registers at 8 o'clock.
+// Registers at eight minutes to noon.
 pub fn open<'a>(words: &'a mut [u64], store: &'a mut [u8]) {
     let mut list = [0u8; 44];
     put_bindings(&mut list);
@@ -48,8 +54,8 @@ pub fn open<'a>(words: &'a mut [u64], store: &'a mut [u8]) {
         high: 0x4600000000000001,
     };
     say::done(
-        resolver::reset(words, store, 28800),
-        b"server: resets its table at 8 o'clock",
+        resolver::reset(words, store, OPENED),
+        b"server: resets its table at eight minutes to noon",
     );
     say::done(
         resolver::enter_exporter(words, store, Oxid(OXID), unknown, &list),
@@ -87,6 +93,22 @@ fn write(reference: &mut [u8]) {
     say::step(r.answer, b"server: writes the reference");
     say::counted(b", ", r.length as u64);
     print::text(b" bytes\n");
+}
+
+// The snapshot of the box that goes.
+pub fn save<'a>(words: &'a [u64], store: &'a [u8], snapshot: &'a mut [u8]) {
+    let r = resolver::write_snapshot(words, store, snapshot);
+    say::step(r.answer, b"server: writes a snapshot of its table at noon");
+    say::counted(b", ", r.length as u64);
+    print::text(b" bytes\n");
+}
+
+// The box that comes.
+pub fn take_over<'a>(words: &'a mut [u64], store: &'a mut [u8], snapshot: &'a [u8]) {
+    say::done(
+        resolver::load_snapshot(words, store, snapshot),
+        b"server: loads it into another box, which takes over",
+    );
 }
 
 // What is live.

@@ -7,6 +7,7 @@ use lib.ListN.{length, getD, set, replicate}
 use lib.Seq.{map-set-same, getD-set-same}
 use Rattle.kinds.specs.declared.Guid.{Guid}
 use Rattle.lists.specs.Lists.{tabulate}
+use Rattle.lists.proofs.Lists.{tabulate-ext, tabulate-getD, map-tabulate}
 use Rattle.columns.specs.Rows.{rowAt}
 use Rattle.columns.specs.Members.{memberRows}
 use Rattle.columns.specs.declared.members.Members.{Members}
@@ -14,7 +15,7 @@ use Rattle.columns.proofs.members.Bits.{members-none}
 use Rattle.columns.proofs.members.Making.{zero-member}
 use Rattle.rules.specs.Entries.{withNext, Object, Interface, PingSet, heardAt, pingedAt, withSequence, withMembers}
 use Rattle.rules.specs.Rules.{enteredCounts, makeSet, noObject, noInterface, noSet}
-use Rattle.table.specs.View.{objectKind, interfaceKind, setKind, objectCount, interfaceCount, setCount, asObject, asInterface, asSet, objectsOf, interfacesOf, setsOf, oidsOf, memberValues}
+use Rattle.table.specs.View.{objectKind, interfaceKind, setKind, objectCount, interfaceCount, setCount, asObject, asInterface, asSet, objectsOf, interfacesOf, setsOf, oidsOf, memberValues, clockOf, nextOf, memory, view}
 use Rattle.rules.specs.PingRows.{changeSet}
 use Rattle.table.specs.Edits.{Only, Pushed, Pulled, Became, addInterface, addSet, dropInterface, dropSet, changeObject, changeInterface}
 use Rattle.table.proofs.edit.Rows.{live, noRows, only-word, only-stored, only-stored-two, live-stored, live-stored-two, made-pushed, made-pulled, made-changed}
@@ -29,11 +30,14 @@ module _ (ws ws′ : List ℕ) where
   interface-pushed n r e b p = became-interfaces ws ws′ _ (p .only) (made-pushed interfaceKind 4 asInterface ws ws′ n e r p b)
 
   -- an interface by its fields
-  pub interface-entered : (n : ℕ) (ipid iid : Guid) (oid p : ℕ) → p < 2 ^ 32 → n ≡ interfaceCount ws → n < 256
-      → Pushed interfaceKind 4 n (ipid .low ∷ ipid .high ∷ iid .low ∷ iid .high ∷ oid ∷ p ∷ replicate 8 0) ws ws′
-      → Became (addInterface (record { ipid = ipid; iid = iid; object = oid; counts = enteredCounts p })) ws ws′
-  interface-entered n ipid iid oid p h e b q =
-      let m : p % 2 ^ 32 ≡ p = omega arith in
+  pub interface-added : (n : ℕ) (ipid iid : Guid) (oid : ℕ) (cs : List ℕ) → length cs ≡ 9 → ((k : ℕ) → getD cs k 0 < 2 ^ 32) → n ≡ interfaceCount ws → n < 256
+      → Pushed interfaceKind 4 n (ipid .low ∷ ipid .high ∷ iid .low ∷ iid .high ∷ oid ∷ tabulate 9 (λ k. getD cs k 0)) ws ws′
+      → Became (addInterface (record { ipid = ipid; iid = iid; object = oid; counts = cs })) ws ws′
+  interface-added n ipid iid oid cs nine h e b q =
+      let m : map (λ (w : ℕ). w % 2 ^ 32) (tabulate 9 (λ k. getD cs k 0)) ≡ cs =
+      map-tabulate (λ (w : ℕ). w % 2 ^ 32) 9 (λ k. getD cs k 0)
+      ∙ tabulate-ext 9 _ (λ k. getD cs k 0) (λ k l. let z = h k in omega arith)
+      ∙ rw (← nine) (tabulate-getD cs 0) in
       rw m at (interface-pushed n _ e b q)
 
   -- an interface goes
@@ -52,15 +56,12 @@ module _ (ws ws′ : List ℕ) where
   unfolding setsOf
   set-pushed n r e b p = became-sets ws ws′ _ (p .only) (made-pushed setKind 5 (asSet (oidsOf ws)) ws ws′ n e r p b)
 
-  -- a new set, with the next number
-  pub set-made : (n : ℕ) → 1 < length ws′ → n ≡ setCount ws → n < 32 → Pushed setKind 5 n (getD ws 1 0 ∷ 0 ∷ getD ws 0 0 ∷ 0 ∷ 0 ∷ []) ws ws′
-      → Became makeSet ws (set ws′ 1 (getD ws 1 0 + 1))
-  set-made n l e b p s =
-      let v = getD ws 1 0 + 1 in
-      let none : Members = record { low = 0; high = 0 } in
-      let z : memberRows none ≡ [] = members-none none (zero-member none refl refl) in
-      became-next ws′ (set ws′ 1 v) v (only-word noRows 1 ws′ v) (getD-set-same ws′ 1 v 0 l) s
-      ∙ ap (withNext v) (rw z at (set-pushed n _ e b p s))
+  -- a set by its fields
+  pub set-added : (n number q t : ℕ) (m : Members) → q < 65536 → n ≡ setCount ws → n < 32 → Pushed setKind 5 n (number ∷ q ∷ t ∷ m .low ∷ m .high ∷ []) ws ws′
+      → Became (addSet (record { number = number; sequence = q; pinged = t; members = memberValues (oidsOf ws) m })) ws ws′
+  set-added n number q t m h e b p =
+      let z : q % 65536 ≡ q = omega arith in
+      rw z at (set-pushed n _ e b p)
 
   -- a set goes
   pub set-pulled : (n i : ℕ) → n ≡ setCount ws → Pulled setKind 5 n i ws ws′ → Became (dropSet i) ws ws′
@@ -81,6 +82,17 @@ module _ (ws ws′ : List ℕ) where
       let os = made-changed objectKind 3 asObject ws ws′ noObject f i r h e g in
       became-objects ws ws′ _ o os
       (sets-kept objectKind 3 ws ws′ o refl (ap (map _) os ∙ map-set-same (λ (x : Object). x .oid) (objectsOf ws) i _ noObject (same _)))
+
+-- a new set: added with the next number, which then grows
+pub set-made : (ws ws₁ ws₂ : List ℕ) (next clock : ℕ) → next ≡ nextOf ws → clock ≡ clockOf ws
+    → Became (addSet (record { number = next; sequence = 0; pinged = clock; members = memberValues (oidsOf ws) (record { low = 0; high = 0 }) })) ws ws₁
+    → Became (withNext (next + 1)) ws₁ ws₂ → Became makeSet ws ws₂
+set-made ws ws₁ ws₂ next clock e f a b s =
+    let none : Members = record { low = 0; high = 0 } in
+    let z : memberRows none ≡ [] = members-none none (zero-member none refl refl) in
+    b s
+    ∙ ap (withNext (next + 1)) (rw z at (a s))
+    ∙ (λ u. withNext (e u + 1) (addSet (record { number = e u; sequence = 0; pinged = f u; members = [] }) (view (memory ws s))))
 
 -- ---- stores of words of a row
 

@@ -1,0 +1,60 @@
+-- `loading::is_snapshot_of`: the buffer holds the table's own snapshot, which is compared.
+use mathlib.Core.Path.{_≡_, sym, ap, _∙_}
+use native.Mathlib.Omega.{arith}
+use Prim.Native.Nat.{ℕ}
+use mathlib.Core.List.{List}
+use lib.ListN.{length, length-replicate}
+use Rattle.bindings.specs.Bindings.{sameWords}
+use lib.Seq.{length-take-le}
+use Rattle.table.specs.View.{memory}
+use Rattle.loading.proofs.Loading.{lent, written-inside, written-own}
+use borrow.Author.Needs.{needs}
+use Rattle.loading.proofs.is_snapshot_of.Statement.{statement}
+use Rattle.loading.proofs.is_snapshot_of.Tie as tie
+
+slice-aggregate-write-snapshot-step : tie.Need-slice-aggregate-write-snapshot-step
+slice-aggregate-write-snapshot-step c = search needs
+
+write-snapshot-step-requires : tie.Need-write-snapshot-step-requires
+write-snapshot-step-requires c κs = search needs
+
+array-share-prefix-own : tie.Need-array-share-prefix-own
+array-share-prefix-own c =
+    let st = c .before .before .before .before .before .before in
+    let ws = st .args .words .now in
+    let store = st .args .store .now in
+    let w = c .before .write-snapshot-step .ensures in
+    let l = lent ws store (st .pre) (λ i. let z = c .before .before .before .before .before .shared-slice-known .given i in omega arith) (λ i. let z = c .before .before .before .before .shared-slice-known2 .given i in omega arith) in
+    written-inside (memory ws store) (st .pre) l _ _ _ (length-replicate {A = ℕ} 64698 0) w
+
+slice-aggregate-same-bytes : tie.Need-slice-aggregate-same-bytes
+slice-aggregate-same-bytes c =
+    let st = c .before .before .before .before .before .before .before in
+    let ws = st .args .words .now in
+    let store = st .args .store .now in
+    let w = c .before .before .write-snapshot-step .ensures in
+    let l = lent ws store (st .pre) (λ i. let z = c .before .before .before .before .before .before .shared-slice-known .given i in omega arith) (λ i. let z = c .before .before .before .before .before .shared-slice-known2 .given i in omega arith) in
+    sym (length-take-le _ _ (written-inside (memory ws store) (st .pre) l _ _ _ (length-replicate {A = ℕ} 64698 0) w))
+
+same-bytes-requires : tie.Need-same-bytes-requires
+same-bytes-requires c κs = search needs
+
+returns : tie.Need-returns
+returns c =
+    let st = c .before .before .before .before .before .before .before .before in
+    let ws = st .args .words .now in
+    let store = st .args .store .now in
+    let w = c .before .before .before .write-snapshot-step .ensures in
+    let l = lent ws store (st .pre) (λ i. let z = c .before .before .before .before .before .before .before .shared-slice-known .given i in omega arith) (λ i. let z = c .before .before .before .before .before .before .shared-slice-known2 .given i in omega arith) in
+    c .same-bytes .ensures ∙ ap (λ (x : List ℕ). sameWords x (st .args .s .now)) (written-own (memory ws store) (st .pre) l _ _ _ (length-replicate {A = ℕ} 64698 0) w)
+
+pub is-snapshot-of-spec : {M : Type 1} → statement M
+is-snapshot-of-spec =
+    tie.close
+    (tie.spec
+    slice-aggregate-write-snapshot-step
+    write-snapshot-step-requires
+    array-share-prefix-own
+    slice-aggregate-same-bytes
+    same-bytes-requires
+    returns)

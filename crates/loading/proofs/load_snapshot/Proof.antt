@@ -1,0 +1,91 @@
+-- `loading::load_snapshot`: wrong lengths are refused, then bytes that are no snapshot; else what was read is copied.
+use borrow.Author.Needs.{needs}
+use mathlib.Core.Path.{_≡_, refl, sym, ap, _∙_}
+use mathlib.Core.Bool.{true}
+use native.Mathlib.Omega.{arith}
+use borrow.Author.Tests.{eq-eqb, ne-eqb, not-true, not-false}
+use lib.ListN.{length}
+use Rattle.rules.specs.Calls.{Call}
+use Rattle.rules.specs.Rules.{results, refused, done}
+use Rattle.rules.proofs.Performing.{unfit}
+use Rattle.rules.specs.Contract.{fit}
+use Rattle.table.specs.View.{memory, view}
+use Rattle.loading.proofs.Loading.{copied-all, load-refused, load-accepted}
+use Rattle.loading.proofs.load_snapshot.Statement.{statement}
+use Rattle.loading.proofs.load_snapshot.Tie as tie
+
+returns : tie.Need-returns
+unfolding refused results fit
+returns c =
+    let a = c .before .before .before .before .args in
+    unfit view (Call.loadSnapshot (a .snapshot .now)) (memory (a .words .now) (a .store .now)) (rw (ne-eqb _ _ (c .if1 .taken)))
+
+returns-2 : tie.Need-returns-2
+unfolding refused results fit
+returns-2 c =
+    let a = c .before .before .before .before .before .args in
+    unfit view (Call.loadSnapshot (a .snapshot .now)) (memory (a .words .now) (a .store .now)) (rw (eq-eqb _ _ (c .before .if1 .left), ne-eqb _ _ (c .if2 .taken)))
+
+slice-aggregate-read-snapshot : tie.Need-slice-aggregate-read-snapshot
+slice-aggregate-read-snapshot c = search needs
+
+slice-aggregate-read-snapshot-2 : tie.Need-slice-aggregate-read-snapshot-2
+slice-aggregate-read-snapshot-2 c = search needs
+
+read-snapshot-requires : tie.Need-read-snapshot-requires
+read-snapshot-requires c κs = search needs
+
+returns-3 : tie.Need-returns-3
+unfolding refused results
+returns-3 c =
+    let a = c .before .before .before .before .before .before .before .before .before .before .before .args in
+    load-refused (a .snapshot .now) (memory (a .words .now) (a .store .now)) (c .before .before .before .before .before .before .before .if1 .left) (c .before .before .before .before .before .before .if2 .left)
+    (sym (c .before .before .before .read-snapshot .ensures .accepted) ∙ not-true _ (c .if3 .taken))
+
+slice-aggregate-copy-words : tie.Need-slice-aggregate-copy-words
+slice-aggregate-copy-words c = search needs
+
+copy-words-requires : tie.Need-copy-words-requires
+copy-words-requires c κs = search needs
+
+slice-aggregate-copy : tie.Need-slice-aggregate-copy
+slice-aggregate-copy c = search needs
+
+copy-requires : tie.Need-copy-requires
+copy-requires c κs = search needs
+
+same-length : tie.Need-same-length
+same-length c = search needs
+
+same-length-2 : tie.Need-same-length-2
+same-length-2 c = search needs
+
+returns-4 : tie.Need-returns-4
+unfolding done results
+returns-4 c =
+    let a = c .before .before .before .before .before .before .before .before .before .before .before .before .before .before .before .before .before .before .before .before .before .args in
+    let h = c .before .before .before .before .before .before .before .before .before .before .before .before .before .read-snapshot in
+    let t : h .result ≡ true = not-false _ (c .before .before .before .before .before .before .before .before .before .before .if3 .left) in
+    let words = c .before .before .before .before .before .before .before .copy-words .ensures in
+    let store = c .before .before .copy .ensures ∙ copied-all _ (h .last .1 .0) (omega arith) in
+    load-accepted (a .snapshot .now) (memory (a .words .now) (a .store .now)) (c .before .before .before .before .before .before .before .before .before .before .before .before .before .before .before .before .before .if1 .left) (c .before .before .before .before .before .before .before .before .before .before .before .before .before .before .before .before .if2 .left) _ _
+    (sym (h .ensures .accepted) ∙ t) (ap length words ∙ omega arith) (ap length store ∙ omega arith)
+    ((λ u. view (memory (words u) (store u))) ∙ h .ensures .entries t)
+
+pub load-snapshot-spec : {M : Type 1} → statement M
+load-snapshot-spec =
+    tie.close
+    (tie.spec
+    returns
+    returns-2
+    slice-aggregate-read-snapshot
+    slice-aggregate-read-snapshot-2
+    read-snapshot-requires
+    returns-3
+    slice-aggregate-copy-words
+    copy-words-requires
+    slice-aggregate-copy
+    copy-requires
+    same-length
+    same-length-2
+    returns-4)

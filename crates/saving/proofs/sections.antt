@@ -1,0 +1,2 @@
+-- Sections of a snapshot.
+pub mod Parts

@@ -1,0 +1,72 @@
+-- `sections::put_sets`: what is left from row k on is the whole.
+use Prim.Native.Nat.{_-_, _≤_}
+use native.Mathlib.Omega.{arith}
+use lib.ListN.{length, drop}
+use Rattle.rules.specs.Snapshot.{inRow}
+use Rattle.table.specs.View.{setCount}
+use Rattle.snapshot_rows.specs.Rows.{setRow}
+use borrow.Author.Needs.{needs}
+use Rattle.snapshot_rows.proofs.Writing.{Left, left-all, left-none, row-end, next-live, next-room, next-put}
+use Rattle.saving.proofs.sections.put_sets.Statement.{statement}
+use Rattle.saving.proofs.sections.put_sets.Tie as tie
+
+abbrev Inv-loop : tie.InvT-loop
+Inv-loop words objects rows buffer₀ at next₀ k₀ buffer next k = (k ≤ length rows) × Left buffer₀ at (inRow (setRow words) rows) buffer next (inRow (setRow words) (drop k rows))
+
+abbrev μ-loop : tie.MeasureT-loop
+μ-loop words objects rows buffer₀ at next₀ k₀ buffer next k = length rows - k
+
+loop-holds : tie.Need-loop-holds Inv-loop μ-loop
+loop-holds c = (omega arith, left-all _ _ _)
+
+mul-put-set : tie.Need-mul-put-set Inv-loop μ-loop
+mul-put-set c = search needs
+
+shared-slice-read-put-set : tie.Need-shared-slice-read-put-set Inv-loop μ-loop
+shared-slice-read-put-set c = search needs
+
+put-set-requires : tie.Need-put-set-requires Inv-loop μ-loop
+put-set-requires c κs =
+    let start = c .before .before .before .before .before .before .before .before in
+    let l = c .before .before .before .loop in
+    let rows = start .args .rows .now in
+    let row = setRow (start .args .words .now) in
+    (start .pre .0, next-live row rows (setCount (start .args .words .now)) (start .pre .1) (l .k) (omega arith), next-room row rows (setCount (start .args .words .now)) (start .pre .1) (l .k) (omega arith) (start .pre .2) (l .inv .1))
+
+add-k : tie.Need-add-k Inv-loop μ-loop
+add-k c = search needs
+
+loop-less : tie.Need-loop-less Inv-loop μ-loop
+loop-less c = search needs
+
+loop-again : tie.Need-loop-again Inv-loop μ-loop
+loop-again c =
+    let start = c .before .before .before .before .before .before .before .before .before .before .before in
+    let l = c .before .before .before .before .before .before .loop in
+    let rows = start .args .rows .now in
+    let row = setRow (start .args .words .now) in
+    (omega arith, next-put row rows (setCount (start .args .words .now)) (start .pre .1) (l .k) (omega arith) (start .pre .2) (l .inv .1) (c .before .before .put-set .ensures))
+
+same-length : tie.Need-same-length Inv-loop μ-loop
+same-length c = search needs
+
+returns : tie.Need-returns Inv-loop μ-loop
+returns c =
+    let l = c .before .loop in
+    left-none (row-end _ (c .before .before .before .before .before .before .args .rows .now) (l .k) (omega arith)) (l .inv .1)
+
+pub put-sets-spec : {M : Type 1} → statement M
+put-sets-spec =
+    tie.close
+    (tie.spec
+    Inv-loop
+    μ-loop
+    loop-holds
+    mul-put-set
+    shared-slice-read-put-set
+    put-set-requires
+    add-k
+    loop-less
+    loop-again
+    same-length
+    returns)

@@ -1,0 +1,2 @@
+-- Members counted.
+pub mod Counting

@@ -1,0 +1,42 @@
+// Reads the snapshot of a table from standard input and prints what it holds, for people: the clock and the next set number, then
+// exporters, objects, interfaces and ping sets, one to a line.
+use kinds::answer;
+
+mod rows;
+mod sections;
+
+// The length of the longest snapshot.
+const LONGEST: usize = 64698;
+
+fn main() {
+    let mut input = [0u8; LONGEST + 1];
+    whole(&mut input);
+}
+
+// Reads into a buffer that is one byte longer than a snapshot may be.
+fn whole(input: &mut [u8]) {
+    let n = io::read_full(0, input);
+    report(&input[..n]);
+}
+
+fn report(s: &[u8]) {
+    let number = load(s);
+    if number == answer::DONE {
+        sections::print_all(s);
+    } else {
+        refused(number);
+    }
+}
+
+// Whether the bytes are a snapshot: the number of a load into a table of our own.
+fn load(s: &[u8]) -> u32 {
+    let mut words = [0u64; 8192];
+    let mut store = [0u8; 8192];
+    resolver::load_snapshot(&mut words, &mut store, s)
+}
+
+fn refused(number: u32) {
+    print::text(b"refused ");
+    print::decimal(number as u64);
+    print::text(b": the bytes are not the snapshot of any sound table\n");
+}

@@ -1,0 +1,3 @@
+-- The bytes of entries.
+pub mod Bytes
+pub mod Members

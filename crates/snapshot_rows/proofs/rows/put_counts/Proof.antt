@@ -1,0 +1,81 @@
+-- `rows::put_counts`: what is left from count k on is the whole.
+use Prim.Native.Nat.{_-_, _≤_}
+use mathlib.Core.Path.{refl}
+use native.Mathlib.Omega.{arith}
+use lib.ListN.{drop}
+use Rattle.lists.specs.Lists.{tabulate}
+use Rattle.rules.specs.Snapshot.{inRow}
+use Rattle.snapshot_rows.specs.Rows.{countRow}
+use lib.ListN.{getD}
+use Rattle.fields.proofs.Laws.{length-encode}
+use Rattle.rules.specs.Entries.{countOf}
+use Rattle.rules.specs.Rules.{noInterface}
+use Rattle.table.specs.View.{interfacesOf}
+use borrow.Author.Needs.{needs}
+use Rattle.snapshot_rows.proofs.Writing.{Left, left-all, left-same, left-step, left-none, left-room}
+use Rattle.snapshot_rows.proofs.rows.Bytes.{wrote-number, numbered-next, numbered-end}
+use Rattle.snapshot_rows.proofs.rows.put_counts.Statement.{statement}
+use Rattle.snapshot_rows.proofs.rows.put_counts.Tie as tie
+
+abbrev Inv-loop : tie.InvT-loop
+Inv-loop words i buffer₀ at next₀ k₀ buffer next k = (k ≤ 9) × Left buffer₀ at (inRow (countRow words i) (tabulate 9 (λ j. j))) buffer next (inRow (countRow words i) (drop k (tabulate 9 (λ j. j))))
+
+abbrev μ-loop : tie.MeasureT-loop
+μ-loop words i buffer₀ at next₀ k₀ buffer next k = 9 - k
+
+loop-holds : tie.Need-loop-holds Inv-loop μ-loop
+loop-holds c = (omega arith, left-all _ _ _)
+
+count-requires : tie.Need-count-requires Inv-loop μ-loop
+count-requires c κs = search needs
+
+write-u32-requires : tie.Need-write-u32-requires Inv-loop μ-loop
+write-u32-requires c κs = search needs
+
+add-next : tie.Need-add-next Inv-loop μ-loop
+add-next c =
+    let start = c .before .before .before .before .before .before .before .before .before in
+    let l = c .before .before .before .before .before .before .loop in
+    let row = countRow (start .args .words .now) (start .args .i) in
+    let left = left-same (numbered-next row 9 (l .k) (omega arith)) (l .inv .1) in
+    let room = left-room (row (l .k)) _ (start .pre .2) left in
+    let n = length-encode 4 (countOf (l .k) (getD (interfacesOf (start .args .words .now)) (start .args .i) noInterface)) in
+    omega arith
+
+add-k : tie.Need-add-k Inv-loop μ-loop
+add-k c = search needs
+
+loop-less : tie.Need-loop-less Inv-loop μ-loop
+loop-less c = search needs
+
+loop-again : tie.Need-loop-again Inv-loop μ-loop
+loop-again c =
+    let start = c .before .before .before .before .before .before .before .before .before in
+    let l = c .before .before .before .before .before .before .loop in
+    let row = countRow (start .args .words .now) (start .args .i) in
+    let left = left-same (numbered-next row 9 (l .k) (omega arith)) (l .inv .1) in
+    (omega arith, left-step (row (l .k)) _ (start .pre .2) left (wrote-number 4 (c .before .before .before .count .ensures) (c .before .before .write-u32 .ensures) refl))
+
+same-length : tie.Need-same-length Inv-loop μ-loop
+same-length c = search needs
+
+returns : tie.Need-returns Inv-loop μ-loop
+returns c =
+    let l = c .before .loop in
+    left-none (numbered-end _ 9 (l .k) (omega arith)) (l .inv .1)
+
+pub put-counts-spec : {M : Type 1} → statement M
+put-counts-spec =
+    tie.close
+    (tie.spec
+    Inv-loop
+    μ-loop
+    loop-holds
+    count-requires
+    write-u32-requires
+    add-next
+    add-k
+    loop-less
+    loop-again
+    same-length
+    returns)

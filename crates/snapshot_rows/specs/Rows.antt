@@ -1,0 +1,50 @@
+-- The bytes in a snapshot of the entry at a row.
+use Prim.Native.Nat.{ℕ}
+use mathlib.Core.Path.{_≡_}
+use mathlib.Core.Bool.{true, cond}
+use mathlib.Core.List.{List, [], map}
+use lib.ListN.{getD}
+use Rattle.fields.specs.Fields.{encode}
+use Rattle.lists.specs.Order.{rising}
+use Rattle.columns.specs.Members.{hasMember}
+use Rattle.columns.specs.declared.members.Members.{Members}
+use Rattle.rules.specs.Entries.{Object, countOf}
+use Rattle.rules.specs.Rules.{noExporter, noObject, noInterface, noSet}
+use Rattle.rules.specs.Snapshot.{objectBefore, membersInOrder, exporterBytes, objectBytes, interfaceBytes, setBytes}
+use Rattle.rules.specs.Sound.{proper}
+use Rattle.rules.specs.Contract.{Whole}
+use Rattle.table.specs.View.{exportersOf, objectsOf, interfacesOf, setsOf, oidsOf}
+use Rattle.table.specs.Edits.{membersBelow}
+use Rattle.snapshot_rows.specs.Keys.{InOrder}
+
+abbrev pub exporterRow : List ℕ → List ℕ → ℕ → List ℕ
+exporterRow ws store i = exporterBytes (getD (exportersOf ws store) i noExporter)
+
+abbrev pub objectRow : List ℕ → ℕ → List ℕ
+objectRow ws i = objectBytes (getD (objectsOf ws) i noObject)
+
+abbrev pub interfaceRow : List ℕ → ℕ → List ℕ
+interfaceRow ws i = interfaceBytes (getD (interfacesOf ws) i noInterface)
+
+-- count k of interface i
+abbrev pub countRow : List ℕ → ℕ → ℕ → List ℕ
+countRow ws i k = encode 4 (countOf k (getD (interfacesOf ws) i noInterface))
+
+-- the OIDs of the objects in rising order
+abbrev pub risingOids : List ℕ → List ℕ
+risingOids ws = map (λ (o : Object). o .oid) (rising objectBefore (objectsOf ws))
+
+abbrev pub setRow : List ℕ → ℕ → List ℕ
+setRow ws i = setBytes (membersInOrder (risingOids ws) (getD (setsOf ws) i noSet))
+
+-- the OID of the object at row j, where it is a member
+abbrev pub memberRow : List ℕ → Members → ℕ → List ℕ
+memberRow ws m j = cond (hasMember m j) (encode 8 (getD (objectsOf ws) j noObject .oid)) []
+
+-- the rows of the objects in rising order, in a table whose OIDs are nonzero and distinct, and where every member bit stands at a live
+-- object's row
+pub record ObjectsSorted (ws rows : List ℕ) : Type 0 where
+  pub whole : Whole ws
+  pub order : InOrder objectBefore noObject (objectsOf ws) rows
+  pub ids : proper (oidsOf ws) ≡ true
+  pub below : membersBelow ws ≡ true

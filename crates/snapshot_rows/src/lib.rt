@@ -1,0 +1,3 @@
+// The rows of a snapshot: the order in which entries stand, and the bytes of one entry.
+pub mod order;
+pub mod rows;

@@ -1,0 +1,21 @@
+-- `find::ipid_highs`: a column.
+use Rattle.table.proofs.judge.Clauses.{column-read}
+use Rattle.table.proofs.Columns.{ipid-highs-column}
+use borrow.Author.Needs.{needs}
+use Rattle.table.proofs.find.ipid_highs.Statement.{statement}
+use Rattle.table.proofs.find.ipid_highs.Tie as tie
+
+interface-count-requires : tie.Need-interface-count-requires
+interface-count-requires c κs = search needs
+
+column-requires : tie.Need-column-requires
+column-requires c κs = search needs
+
+returns : tie.Need-returns
+returns c =
+    let start = c .before .before .before in
+    let ws = start .args .words .now in
+    column-read ws 1024 (c .column .ensures) (c .before .interface-count .ensures .0) (ipid-highs-column ws (start .pre))
+
+pub ipid-highs-spec : {M : Type 1} → statement M
+ipid-highs-spec = tie.close (tie.spec interface-count-requires column-requires returns)

@@ -1,0 +1,21 @@
+-- `find::ipid_lows`: a column.
+use Rattle.table.proofs.judge.Clauses.{column-read}
+use Rattle.table.proofs.Columns.{ipid-lows-column}
+use borrow.Author.Needs.{needs}
+use Rattle.table.proofs.find.ipid_lows.Statement.{statement}
+use Rattle.table.proofs.find.ipid_lows.Tie as tie
+
+interface-count-requires : tie.Need-interface-count-requires
+interface-count-requires c κs = search needs
+
+column-requires : tie.Need-column-requires
+column-requires c κs = search needs
+
+returns : tie.Need-returns
+returns c =
+    let start = c .before .before .before in
+    let ws = start .args .words .now in
+    column-read ws 768 (c .column .ensures) (c .before .interface-count .ensures .0) (ipid-lows-column ws (start .pre))
+
+pub ipid-lows-spec : {M : Type 1} → statement M
+ipid-lows-spec = tie.close (tie.spec interface-count-requires column-requires returns)

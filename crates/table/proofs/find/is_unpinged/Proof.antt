@@ -1,0 +1,28 @@
+-- `find::is_unpinged`: a word of the object's row.
+use native.Mathlib.Omega.{arith}
+use Rattle.columns.proofs.rows.Laws.{rowAt-getD}
+use Rattle.rules.specs.Rules.{noObject}
+use Rattle.table.specs.View.{objectKind}
+use Rattle.table.proofs.LiveRows.{object-at}
+use borrow.Author.Needs.{needs}
+use Rattle.table.proofs.find.is_unpinged.Statement.{statement}
+use Rattle.table.proofs.find.is_unpinged.Tie as tie
+
+add-result : tie.Need-add-result
+add-result c = search needs
+
+mul-result : tie.Need-mul-result
+mul-result c = search needs
+
+shared-slice-read-result : tie.Need-shared-slice-read-result
+shared-slice-read-result c = search needs
+
+returns : tie.Need-returns
+returns c =
+    let start = c .before in
+    let ws = start .args .words .now in
+    let i = start .args .i in
+    rw (object-at ws i noObject (start .pre .1), rowAt-getD objectKind ws i 2 (omega arith))
+
+pub is-unpinged-spec : {M : Type 1} → statement M
+is-unpinged-spec = tie.close (tie.spec add-result mul-result shared-slice-read-result returns)

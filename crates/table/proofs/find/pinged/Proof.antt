@@ -1,0 +1,30 @@
+-- `find::pinged`: a word of the set's row.
+use mathlib.Core.Path.{sym, ap, _∙_}
+use native.Mathlib.Omega.{arith}
+use Rattle.columns.proofs.rows.Laws.{rowAt-getD}
+use Rattle.rules.specs.Entries.{PingSet}
+use Rattle.rules.specs.Rules.{noSet}
+use Rattle.table.specs.View.{setKind}
+use Rattle.table.proofs.LiveRows.{set-at}
+use borrow.Author.Needs.{needs}
+use Rattle.table.proofs.find.pinged.Statement.{statement}
+use Rattle.table.proofs.find.pinged.Tie as tie
+
+add-result : tie.Need-add-result
+add-result c = search needs
+
+mul-result : tie.Need-mul-result
+mul-result c = search needs
+
+shared-slice-read-result : tie.Need-shared-slice-read-result
+shared-slice-read-result c = search needs
+
+returns : tie.Need-returns
+returns c =
+    let start = c .before in
+    let ws = start .args .words .now in
+    let i = start .args .i in
+    sym (ap (λ (r : PingSet). r .pinged) (set-at ws i noSet (start .pre .1)) ∙ rowAt-getD setKind ws i 2 (omega arith))
+
+pub pinged-spec : {M : Type 1} → statement M
+pinged-spec = tie.close (tie.spec add-result mul-result shared-slice-read-result returns)

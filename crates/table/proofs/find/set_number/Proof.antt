@@ -1,0 +1,30 @@
+-- `find::set_number`: a word of the set's row.
+use mathlib.Core.Path.{sym, ap, _∙_}
+use native.Mathlib.Omega.{arith}
+use Rattle.columns.proofs.rows.Laws.{rowAt-getD}
+use Rattle.rules.specs.Entries.{PingSet}
+use Rattle.rules.specs.Rules.{noSet}
+use Rattle.table.specs.View.{setKind}
+use Rattle.table.proofs.LiveRows.{set-at}
+use borrow.Author.Needs.{needs}
+use Rattle.table.proofs.find.set_number.Statement.{statement}
+use Rattle.table.proofs.find.set_number.Tie as tie
+
+add-t3 : tie.Need-add-t3
+add-t3 c = search needs
+
+mul-t4 : tie.Need-mul-t4
+mul-t4 c = search needs
+
+shared-slice-read-t6 : tie.Need-shared-slice-read-t6
+shared-slice-read-t6 c = search needs
+
+returns : tie.Need-returns
+returns c =
+    let start = c .before in
+    let ws = start .args .words .now in
+    let i = start .args .i in
+    sym (ap (λ (r : PingSet). r .number) (set-at ws i noSet (start .pre .1)) ∙ rowAt-getD setKind ws i 0 (omega arith))
+
+pub set-number-spec : {M : Type 1} → statement M
+set-number-spec = tie.close (tie.spec add-t3 mul-t4 shared-slice-read-t6 returns)
