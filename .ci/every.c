@@ -351,6 +351,15 @@ static void calls(void) {
     IS(found.length, sizeof list - 4);
     IS(found.unknown.high, 0x62);
     IS(buffer[2], 1);
+    static uint8_t snapshot[RIMONAKH_LONGEST_SNAPSHOT];
+    rimonakh_written saved = rimonakh_write_snapshot(TABLE, snapshot, sizeof snapshot);
+    IS(saved.answer, 0);
+    IS(saved.length, 18 + 2 + 26 + sizeof list + 2 + 25 + 2 + 2 * 76 + 2 + 20 + 8);
+    IS(snapshot[2], 1000 & 0xFF);
+    IS(rimonakh_write_snapshot(TABLE, snapshot, saved.length - 1).answer, RIMONAKH_NO_ROOM);
+    IS(rimonakh_reset(TABLE, 7), 0);
+    IS(rimonakh_load_snapshot(TABLE, snapshot, saved.length - 1), RIMONAKH_NO_SNAPSHOT);
+    IS(rimonakh_load_snapshot(TABLE, snapshot, saved.length), 0);
     rimonakh_released gone = rimonakh_release(TABLE, 3, 0x71, 0x72, 9, 2);
     IS(gone.answer, 0);
     IS(gone.public_refs, 6);

@@ -1,8 +1,8 @@
 /*
  * One reference through a day. A server registers and enters a tank level group, the reference goes out in bytes, a client
- * reads it, asks where to go next, resolves, takes more references, pings every two minutes from a set, the clock runs, the
- * references are given back and the object ends. Then the same with a client that falls silent. Each step is printed with its
- * answer number.
+ * reads it, asks where to go next, resolves, takes more references, pings every two minutes from a set, the clock runs. At noon
+ * the gateway's box is swapped: another one loads its snapshot, and serves on. The references are given back and the object
+ * ends. Then the same with a client that falls silent. Each step is printed with its answer number.
  *
  *     cc -Iinclude examples/day.c target/staticlib/libc_api.a -o day && ./day
  */
@@ -11,11 +11,15 @@
 #include <inttypes.h>
 #include <stdio.h>
 
-/* The server's table: both buffers are ours, and are lent to every call. */
-static uint64_t words[RIMONAKH_WORDS];
-static uint8_t store[RIMONAKH_BYTES];
+/* The server's table: both buffers are ours, and are lent to every call. One in the box that goes, one in the box that comes. */
+struct box {
+    uint64_t words[RIMONAKH_WORDS];
+    uint8_t store[RIMONAKH_BYTES];
+};
+static struct box boxes[2];
+static struct box *box = &boxes[0];
 
-#define TABLE words, RIMONAKH_WORDS, store, RIMONAKH_BYTES
+#define TABLE box->words, RIMONAKH_WORDS, box->store, RIMONAKH_BYTES
 
 /* Identifiers that the server chose. */
 static const uint64_t OXID = 0x1101;
@@ -80,7 +84,7 @@ static void next_stop(const uint8_t *reference, size_t length) {
     rimonakh_stop_place stop = rimonakh_next_stop(TABLE, reference, length);
     step("client: asks where to go next", stop.answer);
     printf(", %s, ", stop.in_store ? "the exporter's list" : "the reference's own list");
-    print_address((stop.in_store ? store : reference) + stop.from, stop.to - stop.from);
+    print_address((stop.in_store ? box->store : reference) + stop.from, stop.to - stop.from);
     printf("\n");
 }
 
@@ -110,6 +114,17 @@ static uint64_t take_up(const uint8_t *reference, size_t length) {
     step("client: pings with the object in a new set", pinged.answer);
     printf(", set %" PRIu64 ", backoff %u\n", pinged.set, (unsigned)pinged.backoff);
     return pinged.set;
+}
+
+/* The box is swapped: its snapshot is loaded into the other one, which then serves. */
+static void swap_box(void) {
+    static uint8_t snapshot[RIMONAKH_LONGEST_SNAPSHOT];
+    rimonakh_written written = rimonakh_write_snapshot(TABLE, snapshot, sizeof snapshot);
+    step("server: writes a snapshot of its table at noon", written.answer);
+    printf(", %zu bytes\n", written.length);
+    box = &boxes[1];
+    done("server: loads it into another box, which takes over",
+         rimonakh_load_snapshot(TABLE, snapshot, written.length));
 }
 
 /* The clock runs for two minutes. */
@@ -143,13 +158,13 @@ static void count_members(uint64_t set) {
 int main(void) {
     uint8_t list[RIMONAKH_LONGEST_LIST];
     uint8_t reference[1024];
-    uint64_t time = 8 * 3600;
+    uint64_t time = 12 * 3600 - 4 * 120;
     size_t list_len = tcp_list("10.1.4.20[49500]", list);
     size_t length;
     rimonakh_resolved resolved;
     uint64_t set;
 
-    done("server: resets its table at 8 o'clock", rimonakh_reset(TABLE, time));
+    done("server: resets its table at eight minutes to noon", rimonakh_reset(TABLE, time));
     done("server: registers as exporter",
          rimonakh_enter_exporter(TABLE, OXID, UNKNOWN.low, UNKNOWN.high, list, list_len));
 
@@ -159,6 +174,8 @@ int main(void) {
         two_minutes(&time);
         done("client: pings its set", rimonakh_simple_ping(TABLE, set));
     }
+    swap_box();
+    done("client: pings its set", rimonakh_simple_ping(TABLE, set));
     done("client 1: takes 1 private reference", rimonakh_add(TABLE, 1, IPID.low, IPID.high, 0, 1));
     give_back();
     count_members(set);

@@ -7,7 +7,7 @@
  * do not overlap. A pointer to const is only read.
  *
  * Tables. A table is an array of 8,192 words and a store of 8,192 bytes. Both are lent to every call, and a call that is lent
- * words and a store that are no sound table answers 1. Between calls the caller may copy, save and restore them. Two calls on
+ * words and a store that are no sound table answers 1, save a reset and a load of a snapshot. Between calls the caller may copy, save and restore them. Two calls on
  * one table do not run at the same time, unless both take it as const. Only a call that takes the store without const changes
  * it: binding lists stand end to end in it, and move when an exporter before them is removed.
  *
@@ -31,6 +31,7 @@ enum {
     RIMONAKH_WORDS = 8192, /* the length of a table's array, in words */
     RIMONAKH_BYTES = 8192, /* the length of a table's store, in bytes */
     RIMONAKH_LONGEST_LIST = 2048, /* the longest binding list of an exporter, in bytes */
+    RIMONAKH_LONGEST_SNAPSHOT = 64698, /* the longest snapshot of a table, in bytes */
     RIMONAKH_NO_PING = 0x1000 /* the bit of a block's flags that means no pinging */
 };
 
@@ -58,6 +59,7 @@ enum {
     RIMONAKH_NO_CLIENT = 20, /* the client is none of 0 to 7 */
     RIMONAKH_TOO_DEEP = 21, /* references nested deeper than 8 */
     RIMONAKH_NIL_IDENTIFIER = 22, /* the OXID, OID or IPID of a reference is zero */
+    RIMONAKH_NO_SNAPSHOT = 23, /* the bytes are not the snapshot of any sound table */
     RIMONAKH_NO_BINDING = 24 /* no binding, extension, element or property of this number */
 };
 
@@ -470,6 +472,19 @@ rimonakh_counts rimonakh_census(const uint64_t *words, size_t words_len, const u
 /* The number of members of a ping set, by its number. 11. */
 rimonakh_member_count rimonakh_members(const uint64_t *words, size_t words_len, const uint8_t *store, size_t store_len,
                                        uint64_t set);
+
+/* Writes the snapshot of the table at the front of buffer, keeps the rest, and answers its length, which is at most
+ * RIMONAKH_LONGEST_SNAPSHOT. The snapshot is the live entries as bytes, in one form: numbers little-endian, sections each after
+ * its count of two bytes (2, clock, next set number; exporters; objects; interfaces; sets), each section and each list of members
+ * rising by identifier, IPIDs by their bytes. 15. */
+rimonakh_written rimonakh_write_snapshot(const uint64_t *words, size_t words_len, const uint8_t *store,
+                                         size_t store_len, uint8_t *buffer, size_t buffer_len);
+
+/* Loads a snapshot, which is read: the table then has its live entries, clock and next set number, whatever array and store held
+ * before; as a reset it looks at nothing of them but the lengths. It takes less than 150 KiB of stack. 23 where the bytes are not
+ * the snapshot of any sound table. */
+uint32_t rimonakh_load_snapshot(uint64_t *words, size_t words_len, uint8_t *store, size_t store_len,
+                                const uint8_t *snapshot, size_t snapshot_len);
 
 #ifdef __cplusplus
 }

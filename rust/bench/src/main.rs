@@ -3,8 +3,11 @@
 
 use plain::bytes as pb;
 use plain::fragments as pf;
+use plain::snapshot as ps;
 use plain::table as pt;
-use rimonakh::{Block, FragmentReader, Guid, Item, Oid, Oxid, Reference, SetId, Table};
+use rimonakh::{
+    Block, FragmentReader, Guid, Item, Oid, Oxid, Reference, SetId, Table, LONGEST_SNAPSHOT,
+};
 use std::hint::black_box;
 use std::time::Instant;
 
@@ -252,7 +255,7 @@ fn in_fragments() {
 fn tables() {
     let (words, store) = full_table();
     let mut table = Table::over(words.clone(), store.clone());
-    let (mut w, s) = (words, store);
+    let (mut w, mut s) = (words, store);
     assert_eq!(table.census().map(|c| c.sets), Ok(32));
     measure(
         "judge a full table (census)",
@@ -375,6 +378,30 @@ fn tables() {
     }
     assert_eq!(table.words(), w);
     assert_eq!(table.store(), s);
+    snapshots(&mut table, &mut w, &mut s);
+}
+
+/// Writes the snapshot of a table, and loads it.
+fn snapshots<W, S>(table: &mut Table<W, S>, w: &mut [u64], s: &mut [u8])
+where
+    W: AsRef<[u64]> + AsMut<[u64]>,
+    S: AsRef<[u8]> + AsMut<[u8]>,
+{
+    let (mut ours, mut theirs) = (vec![0; LONGEST_SNAPSHOT], vec![0; ps::LONGEST]);
+    measure(
+        "write the snapshot of a full table",
+        20,
+        || keep(table.write_snapshot(black_box(&mut ours))),
+        || keep(ps::write(w, s, black_box(&mut theirs))),
+    );
+    assert_eq!(ours, theirs);
+    ours.truncate(table.write_snapshot(&mut theirs).unwrap());
+    measure(
+        "load the snapshot of a full table",
+        20,
+        || keep(table.load_snapshot(black_box(&ours))),
+        || keep(ps::load(w, s, black_box(&ours))),
+    );
 }
 
 fn main() {

@@ -2,7 +2,7 @@
 
 use crate::decode;
 use crate::generate::Pools;
-use crate::op::{Op, Reply, Side};
+use crate::op::{buffer, Op, Reply, Side};
 use crate::orders::either;
 use crate::random::Random;
 use crate::shrink::shrink;
@@ -10,6 +10,7 @@ use crate::subject::Subject;
 use crate::tally::Tally;
 use crate::Differs;
 use model::entries::{Entries, Interface, Way, EXPORTERS, OBJECTS, STORE};
+use model::snapshot;
 use model::Guid;
 use std::marker::PhantomData;
 use std::panic::{catch_unwind, AssertUnwindSafe};
@@ -90,10 +91,17 @@ impl<S: Subject> Pair<S> {
         let answer = answered.map_err(|_| "it panicked".to_string())?;
         let last = self.last_sequence(call);
         let objects = self.side.entries.objects.len();
+        let loads = self.loads(call);
         let demanded = self.side.perform(op);
         self.tally.count(demanded.number);
         if let Some(event) = self.event(call, &demanded, last, objects) {
             self.tally.event(event);
+        }
+        if let Some(event) = loads {
+            self.tally.event(match demanded.number {
+                0 => event,
+                _ => "snapshots refused",
+            });
         }
         if answer != demanded {
             return Err(format!("answered {answer:?}\n  demanded {demanded:?}"));
@@ -205,7 +213,81 @@ impl<S: Subject> Pair<S> {
     }
 }
 
+impl<S: Subject> Pair<S> {
+    /// The box is swapped: its snapshot is loaded into another memory, which held anything. Then both serve the same calls, answer
+    /// the same, and have the same snapshot.
+    fn swap_box(&mut self, pools: &Pools, random: &mut Random) -> Result<(), String> {
+        const ROOM: usize = 65_000;
+        let snapshot_of = |memory: &mut Memory| {
+            let (words, store) = (&mut memory.words[..LENGTH], &mut memory.store[..LENGTH]);
+            let r = S::perform(words, store, &Op::WriteSnapshot { room: ROOM });
+            let length = r.values[0] as usize;
+            let kept = r.number == 0 && r.bytes[length..] == buffer(ROOM)[length..];
+            kept.then(|| r.bytes[..length].to_vec())
+        };
+        let mut other = Memory {
+            words: (0..=LENGTH).map(|_| random.word()).collect(),
+            store: random.bytes(LENGTH + 1),
+        };
+        let written = snapshot_of(&mut self.memory).ok_or("no snapshot")?;
+        if written != snapshot::write(&self.side.entries) {
+            return Err(format!("another snapshot: {written:?}"));
+        }
+        let perform = |memory: &mut Memory, call: &Op| {
+            let (words, store) = (&mut memory.words[..LENGTH], &mut memory.store[..LENGTH]);
+            S::perform(words, store, call)
+        };
+        for _ in 0..6 {
+            let bytes = pools.snapshot(random, &self.side.entries);
+            let demanded = snapshot::read(&bytes).err().unwrap_or(0);
+            let before = other.clone();
+            let number = perform(&mut other, &Op::LoadSnapshot(bytes.clone())).number;
+            let left = match number {
+                0 => snapshot_of(&mut other).as_ref() == Some(&bytes),
+                _ => other == before,
+            };
+            if number != demanded || !left {
+                return Err(format!("{number} for {demanded}, of {bytes:?}"));
+            }
+            self.tally.count(number);
+        }
+        let load = perform(&mut other, &Op::LoadSnapshot(written));
+        if load.number != 0 {
+            return Err(format!("the load is refused by {}", load.number));
+        }
+        for _ in 0..10 {
+            let call = pools.plain_call(random, &self.side.entries);
+            let (here, there) = (
+                perform(&mut self.memory.clone(), &call),
+                perform(&mut other, &call),
+            );
+            if here != there {
+                return Err(format!("{call:?}: {here:?}, and in the other {there:?}"));
+            }
+            self.step(&call)?;
+        }
+        if snapshot_of(&mut other) != snapshot_of(&mut self.memory) {
+            return Err("the boxes have other snapshots".to_string());
+        }
+        Ok(())
+    }
+}
+
 impl<S> Pair<S> {
+    /// What an accepted load of a snapshot reaches.
+    fn loads(&self, call: &Op) -> Option<&'static str> {
+        let Op::LoadSnapshot(bytes) = call else {
+            return None;
+        };
+        Some(if !self.side.sound {
+            "snapshots loaded over an unsound table"
+        } else if *bytes != snapshot::write(&self.side.entries) {
+            "snapshots loaded with something changed"
+        } else {
+            "snapshots loaded"
+        })
+    }
+
     /// The sequence number of the set that a complex ping names.
     fn last_sequence(&self, call: &Op) -> Option<u16> {
         let Op::ComplexPing { set, .. } = call else {
@@ -289,6 +371,7 @@ fn run<S: Subject>(seed: u64, length: usize, pokes: bool) -> Result<Tally, Diffe
     let mut random = Random::new(seed);
     let pools = Pools::new(&mut random, pokes);
     let mut steps: Vec<Op> = Vec::new();
+    let mut saved = snapshot::write(&Entries::empty(1000));
     let mut pair = match Pair::<S>::new(seed) {
         Ok(pair) => pair,
         Err(difference) => return Err(report::<S>(seed, &steps, &difference)),
@@ -297,6 +380,9 @@ fn run<S: Subject>(seed: u64, length: usize, pokes: bool) -> Result<Tally, Diffe
         let mut next = pools.steps(&mut random, &pair.side.entries, pair.words(), pair.store());
         if !pair.side.sound && random.once_in(3) {
             next = vec![Op::Reset(1000)];
+            if random.once_in(2) {
+                next = vec![Op::LoadSnapshot(saved.clone())];
+            }
         }
         for op in next {
             let done = pair.step(&op);
@@ -307,6 +393,16 @@ fn run<S: Subject>(seed: u64, length: usize, pokes: bool) -> Result<Tally, Diffe
         }
         if pair.side.sound && random.once_in(12) {
             pair.either_order(&pools, &mut random)?;
+        }
+        if pair.side.sound && random.once_in(40) {
+            saved = snapshot::write(&pair.side.entries);
+        }
+        if pair.side.sound && !pools.pokes && random.once_in(60) {
+            pair.swap_box(&pools, &mut random).map_err(|difference| {
+                println!("FAILED: {} with its box swapped: {difference}", S::NAME);
+                Differs
+            })?;
+            pair.tally.event("boxes swapped");
         }
     }
     Ok(pair.tally)

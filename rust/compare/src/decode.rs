@@ -3,6 +3,7 @@
 
 use crate::op::halves;
 use model::entries::{Entries, Exporter, Interface, Object, PingSet};
+use model::snapshot::sorted;
 use model::Guid;
 
 /// The words before the rows: clock, next set number and the live numbers of the kinds.
@@ -242,16 +243,6 @@ pub fn encode(e: &Entries, words: &mut [u64], store: &mut [u8]) {
         row.extend(x.private.map(u64::from));
         INTERFACES.put_row(words, i, &row);
     }
-}
-
-/// The same entries in the order of their identifiers.
-fn sorted(e: &Entries) -> Entries {
-    let mut e = e.clone();
-    e.exporters.sort_by_key(|x| x.oxid);
-    e.objects.sort_by_key(|o| o.oid);
-    e.interfaces.sort_by_key(|i| i.ipid);
-    e.sets.sort_by_key(|s| s.number);
-    e
 }
 
 /// Whether the same entries are live, in whatever order.

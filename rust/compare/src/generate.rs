@@ -6,6 +6,7 @@ use crate::random::Random;
 use model::bytes::filtered_list;
 use model::contexts::MARSHALER;
 use model::entries::{Entries, Way, EXPORTERS, INTERFACES, LONGEST_LIST, OBJECTS, SETS, STORE};
+use model::snapshot::{sections, sorted};
 use model::Guid;
 use std::ops::Range;
 
@@ -212,6 +213,36 @@ pub fn property(random: &mut Random, bytes: &mut Vec<u8>) {
 
 // ---- calls
 
+/// Entries with one thing changed: an order, a time, a number, a count, a name, a row twice. They may be sound still.
+fn alter(random: &mut Random, e: &mut Entries) {
+    let one = |n: usize, random: &mut Random| random.below(n.max(1));
+    let (x, o) = (one(e.exporters.len(), random), one(e.objects.len(), random));
+    let (i, s) = (one(e.interfaces.len(), random), one(e.sets.len(), random));
+    let time = e.clock.wrapping_sub(random.pick(&[0, 359, 360, u64::MAX]));
+    match random.below(16) {
+        0 => e.exporters.reverse(),
+        1 => e.objects.reverse(),
+        2 => e.interfaces.sort_by_key(|i| u128::from_le_bytes(i.ipid)),
+        3 => e.sets.reverse(),
+        4 => e.clock = e.clock.saturating_add(random.pick(&[1, 359, 360])),
+        5 => e.next_set = random.pick(&[0, 1, e.next_set.wrapping_sub(1), u64::MAX]),
+        6 if x < e.exporters.len() => e.exporters[x].list = list(random),
+        7 if x < e.exporters.len() => e.exporters.insert(x, e.exporters[x].clone()),
+        8 if o < e.objects.len() => e.objects[o].heard = time,
+        9 if o < e.objects.len() => e.objects[o].no_ping = !e.objects[o].no_ping,
+        10 if o < e.objects.len() => e.objects[o].exporter ^= 1,
+        11 if i < e.interfaces.len() => e.interfaces[i].public = random.pick(&[0, 1, u32::MAX]),
+        12 if i < e.interfaces.len() => e.interfaces[i].iid = random.bytes(16).try_into().unwrap(),
+        13 if s < e.sets.len() => e.sets[s].pinged = time,
+        14 if s < e.sets.len() => {
+            let oids: Vec<u64> = e.objects.iter().map(|o| o.oid).chain([0]).collect();
+            e.sets[s].members.insert(random.pick(&oids));
+        }
+        15 if s < e.sets.len() => e.sets[s].sequence = random.word() as u16,
+        _ => {}
+    }
+}
+
 /// Which identifiers a run uses, and how often it makes which call.
 pub struct Pools {
     exporters: usize,
@@ -224,7 +255,7 @@ pub struct Pools {
     /// Whether most lists of exporters are long.
     long: bool,
     /// Whether words and bytes are changed behind the calls.
-    pokes: bool,
+    pub pokes: bool,
 }
 
 impl Pools {
@@ -341,6 +372,19 @@ impl Pools {
             protocols,
             room,
         }
+    }
+
+    /// Bytes to load: the snapshot of these entries, often with one thing changed, or with bytes damaged.
+    pub fn snapshot(&self, random: &mut Random, e: &Entries) -> Vec<u8> {
+        let mut e = sorted(e);
+        if random.once_in(2) {
+            alter(random, &mut e);
+        }
+        let mut bytes = sections(&e);
+        if random.once_in(3) {
+            damage(random, &mut bytes);
+        }
+        bytes
     }
 
     /// Two adds or releases on different IPIDs, mostly releases of all that two interfaces of one object have left.
@@ -477,7 +521,7 @@ impl Pools {
         })
     }
 
-    fn plain_call(&self, random: &mut Random, e: &Entries) -> Op {
+    pub fn plain_call(&self, random: &mut Random, e: &Entries) -> Op {
         if let Some(op) = self.filling_call(random, e) {
             return op;
         }
@@ -544,7 +588,12 @@ impl Pools {
                 let room = random.pick(&[0, length - 1, length, length + 1, 2100]);
                 Op::Resolve { oxid, room }
             }
-            90..=92 => Op::Census,
+            90 => {
+                let length = sections(e).len();
+                let room = random.pick(&[0, 26, length - 1, length, length + 1, 65_000]);
+                Op::WriteSnapshot { room }
+            }
+            91..=92 => Op::Census,
             93..=94 => Op::Members(self.set(random, e)),
             95..=98 => {
                 let oxid = self.oxid(random);
@@ -557,6 +606,7 @@ impl Pools {
             _ if random.once_in(10 * self.calm) => {
                 Op::Reset(random.pick(&[0, 1000, u64::MAX - 2000, e.clock / 2]))
             }
+            _ if random.once_in(3) => Op::LoadSnapshot(self.snapshot(random, e)),
             _ => Op::Census,
         }
     }

@@ -69,6 +69,11 @@ pub enum Op {
     Census,
     Members(u64),
     NextStop(Vec<u8>),
+    /// With a buffer of so many bytes.
+    WriteSnapshot {
+        room: usize,
+    },
+    LoadSnapshot(Vec<u8>),
     /// A call that is lent so many words and bytes.
     Lent {
         words: usize,
@@ -132,6 +137,7 @@ impl Op {
                     Op::ComplexPing { .. } => (2, 0),
                     Op::Resolve { room, .. } | Op::ResolveFiltered { room, .. } => (3, *room),
                     Op::CountList { room, .. } => (0, *room),
+                    Op::WriteSnapshot { room } => (1, *room),
                     Op::Members(_) | Op::NextStop(_) => (1, 0),
                     _ => (0, 0),
                 };
@@ -156,7 +162,7 @@ impl Side {
     pub fn perform(&mut self, op: &Op) -> Reply {
         let results = match op {
             Op::Lent { call, .. } => return call.reply(Err(1)),
-            Op::Reset(_) => self.accepted(op),
+            Op::Reset(_) | Op::LoadSnapshot(_) => self.accepted(op),
             _ if !self.sound => Err(1),
             _ => self.accepted(op),
         };
@@ -252,6 +258,15 @@ impl Side {
             Op::NextStop(ref reference) => e.next_stop(reference).map(|stop| match stop {
                 Stop::Exporter(list) => (vec![1], list),
                 Stop::Own(list) => (vec![0], list),
+            }),
+            Op::WriteSnapshot { room } => {
+                let mut out = buffer(room);
+                let answer = e.write_snapshot(&mut out);
+                answer.map(|length| (vec![length as u64], out))
+            }
+            Op::LoadSnapshot(ref bytes) => e.load_snapshot(bytes).map(|()| {
+                self.sound = true;
+                none(())
             }),
             Op::Lent { .. } | Op::PokeWord { .. } | Op::PokeByte { .. } => {
                 unreachable!("not a call")

@@ -124,6 +124,12 @@ impl Subject for Library {
                 Stop::Exporter(list) => (vec![1], list.to_vec()),
                 Stop::Own(list) => (vec![0], list.to_vec()),
             }),
+            Op::WriteSnapshot { room } => {
+                let mut out = buffer(room);
+                let answer = table.write_snapshot(&mut out);
+                answer.map(|length| (vec![length as u64], out))
+            }
+            Op::LoadSnapshot(ref bytes) => table.load_snapshot(bytes).map(none),
             Op::Lent { .. } | Op::PokeWord { .. } | Op::PokeByte { .. } => {
                 unreachable!("not a call")
             }
@@ -191,6 +197,11 @@ fn zeros(words: &mut [u64], store: &mut [u8], op: &Op) -> bool {
                 r.resolved.length == 0
                     && r.resolved.unknown == rimonakh::Guid::NIL
                     && out == buffer(room)
+            }
+            Op::WriteSnapshot { room } => {
+                let mut out = buffer(room);
+                let r = ffi::rimonakh_write_snapshot(w, n, s, m, out.as_mut_ptr(), out.len());
+                r.length == 0 && out == buffer(room)
             }
             Op::NextStop(ref reference) => {
                 let (r, l) = (reference.as_ptr(), reference.len());
@@ -307,6 +318,12 @@ impl Subject for Plain {
                     p::Stop::Reference(r) => (vec![0], reference[r].to_vec()),
                 })
             }
+            Op::WriteSnapshot { room } => {
+                let mut out = buffer(room);
+                let answer = plain::snapshot::write(words, store, &mut out);
+                answer.map(|length| (vec![length as u64], out))
+            }
+            Op::LoadSnapshot(ref bytes) => plain::snapshot::load(words, store, bytes).map(none),
             Op::Lent { .. } | Op::PokeWord { .. } | Op::PokeByte { .. } => {
                 unreachable!("not a call")
             }

@@ -9,12 +9,12 @@ pub struct Tally {
 }
 
 /// The numbers of documents 01 and 02 that are given; 17 no longer is.
-const NUMBERS: [u32; 23] = [
-    0, 1, 2, 3, 4, 5, 6, 7, 8, 9, 10, 11, 12, 13, 14, 15, 16, 18, 19, 20, 21, 22, 24,
+const NUMBERS: [u32; 24] = [
+    0, 1, 2, 3, 4, 5, 6, 7, 8, 9, 10, 11, 12, 13, 14, 15, 16, 18, 19, 20, 21, 22, 23, 24,
 ];
 
 /// What runs of calls have to reach.
-const EVENTS: [&str; 22] = [
+const EVENTS: [&str; 26] = [
     "exporters full",
     "store full",
     "store filled to the last byte",
@@ -37,6 +37,10 @@ const EVENTS: [&str; 22] = [
     "next stops in the store",
     "next stops in the reference",
     "tables unsound",
+    "snapshots loaded with something changed",
+    "snapshots loaded over an unsound table",
+    "snapshots refused",
+    "boxes swapped",
 ];
 
 impl Tally {

@@ -1,6 +1,7 @@
 //! The live entries, what sound means, and the calls.
 
 use crate::bytes;
+use crate::snapshot;
 use crate::Guid;
 use std::collections::{BTreeSet, HashSet};
 use std::hash::Hash;
@@ -501,6 +502,17 @@ impl Entries {
             interfaces: self.interfaces.len(),
             sets: self.sets.len(),
         }
+    }
+
+    /// Writes the snapshot; answers its length.
+    pub fn write_snapshot(&self, buffer: &mut [u8]) -> Result<usize, u32> {
+        bytes::put(&snapshot::write(self), buffer)
+    }
+
+    /// Becomes what a snapshot holds.
+    pub fn load_snapshot(&mut self, bytes: &[u8]) -> Result<(), u32> {
+        *self = snapshot::read(bytes)?;
+        Ok(())
     }
 
     pub fn members(&self, number: u64) -> Result<usize, u32> {

@@ -3,6 +3,7 @@
 
 pub mod bytes;
 pub mod fragments;
+pub mod snapshot;
 pub mod table;
 
 /// A GUID, as the little-endian numbers of its first and its last eight bytes.

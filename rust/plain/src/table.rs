@@ -11,36 +11,36 @@ const TIMEOUT: u64 = 360;
 const CLIENTS: usize = 8;
 const ITEM: usize = 24;
 
-const CLOCK: usize = 0;
-const NEXT_SET: usize = 1;
+pub(crate) const CLOCK: usize = 0;
+pub(crate) const NEXT_SET: usize = 1;
 
 /// Rows of a kind: where their count and their columns stand.
-struct Kind {
+pub(crate) struct Kind {
     count: usize,
     base: usize,
-    places: usize,
-    width: usize,
+    pub(crate) places: usize,
+    pub(crate) width: usize,
 }
 
-const EXPORTERS: Kind = Kind {
+pub(crate) const EXPORTERS: Kind = Kind {
     count: 2,
     base: 16,
     places: 16,
     width: 3,
 };
-const OBJECTS: Kind = Kind {
+pub(crate) const OBJECTS: Kind = Kind {
     count: 3,
     base: 256,
     places: 128,
     width: 4,
 };
-const INTERFACES: Kind = Kind {
+pub(crate) const INTERFACES: Kind = Kind {
     count: 4,
     base: 768,
     places: 256,
     width: 6 + CLIENTS,
 };
-const SETS: Kind = Kind {
+pub(crate) const SETS: Kind = Kind {
     count: 5,
     base: 64,
     places: 32,
@@ -48,37 +48,40 @@ const SETS: Kind = Kind {
 };
 
 // the first column of exporters, objects and sets: their identifier
-const ID: usize = 0;
+pub(crate) const ID: usize = 0;
 // columns of exporters
-const UNKNOWN_LOW: usize = 1;
-const UNKNOWN_HIGH: usize = 2;
+pub(crate) const UNKNOWN_LOW: usize = 1;
+pub(crate) const UNKNOWN_HIGH: usize = 2;
 // columns of objects
-const EXPORTER: usize = 1;
-const NO_PING: usize = 2;
-const HEARD: usize = 3;
+pub(crate) const EXPORTER: usize = 1;
+pub(crate) const NO_PING: usize = 2;
+pub(crate) const HEARD: usize = 3;
 // columns of interfaces
-const IPID_LOW: usize = 0;
-const IPID_HIGH: usize = 1;
-const OBJECT: usize = 4;
-const PUBLIC: usize = 5;
+pub(crate) const IPID_LOW: usize = 0;
+pub(crate) const IPID_HIGH: usize = 1;
+pub(crate) const IID_LOW: usize = 2;
+pub(crate) const IID_HIGH: usize = 3;
+pub(crate) const OBJECT: usize = 4;
+pub(crate) const PUBLIC: usize = 5;
 const PRIVATE: usize = 6; // of client 0, then those of the others
-                          // columns of sets
-const SEQUENCE: usize = 1;
-const PINGED: usize = 2;
+pub(crate) const COUNT_COLUMNS: Range<usize> = PUBLIC..PRIVATE + CLIENTS;
+// columns of sets
+pub(crate) const SEQUENCE: usize = 1;
+pub(crate) const PINGED: usize = 2;
 const MEMBERS_LOW: usize = 3;
 const MEMBERS_HIGH: usize = 4;
 
 impl Kind {
-    fn live(&self, words: &[u64]) -> usize {
+    pub(crate) fn live(&self, words: &[u64]) -> usize {
         (words[self.count] as usize).min(self.places)
     }
 
-    fn at(&self, column: usize, row: usize) -> usize {
+    pub(crate) fn at(&self, column: usize, row: usize) -> usize {
         self.base + column * self.places + row
     }
 
     /// The live words of a column.
-    fn column<'a>(&self, words: &'a [u64], column: usize) -> &'a [u64] {
+    pub(crate) fn column<'a>(&self, words: &'a [u64], column: usize) -> &'a [u64] {
         &words[self.at(column, 0)..self.at(column, self.live(words))]
     }
 
@@ -87,7 +90,7 @@ impl Kind {
         self.column(words, ID).iter().position(|&x| x == id)
     }
 
-    fn push(&self, words: &mut [u64], row: &[u64]) {
+    pub(crate) fn push(&self, words: &mut [u64], row: &[u64]) {
         let n = self.live(words);
         for (column, &x) in row.iter().enumerate() {
             words[self.at(column, n)] = x;
@@ -150,7 +153,7 @@ fn list_start(store: &[u8], row: usize) -> usize {
     (0..row).fold(0, |at, _| at + stated_length(&store[at..]))
 }
 
-fn list_of(store: &[u8], row: usize) -> &[u8] {
+pub(crate) fn list_of(store: &[u8], row: usize) -> &[u8] {
     let rest = &store[list_start(store, row)..];
     &rest[..stated_length(rest)]
 }
@@ -168,13 +171,13 @@ fn lists_kept(store: &[u8], n: usize) -> bool {
     })
 }
 
-fn members(words: &[u64], set: usize) -> u128 {
+pub(crate) fn members(words: &[u64], set: usize) -> u128 {
     let low = words[SETS.at(MEMBERS_LOW, set)];
     let high = words[SETS.at(MEMBERS_HIGH, set)];
     low as u128 | (high as u128) << 64
 }
 
-fn put_members(words: &mut [u64], set: usize, bits: u128) {
+pub(crate) fn put_members(words: &mut [u64], set: usize, bits: u128) {
     words[SETS.at(MEMBERS_LOW, set)] = bits as u64;
     words[SETS.at(MEMBERS_HIGH, set)] = (bits >> 64) as u64;
 }
@@ -221,10 +224,12 @@ pub fn sound(words: &[u64], store: &[u8]) -> bool {
 
 /// Whether a reference to the interface is held; the public count is looked at first.
 fn is_held(words: &[u64], row: usize) -> bool {
-    (PUBLIC..PRIVATE + CLIENTS).any(|column| words[INTERFACES.at(column, row)] as u32 != 0)
+    COUNT_COLUMNS
+        .into_iter()
+        .any(|column| words[INTERFACES.at(column, row)] as u32 != 0)
 }
 
-fn judged(words: &[u64], store: &[u8]) -> Result<(), u32> {
+pub(crate) fn judged(words: &[u64], store: &[u8]) -> Result<(), u32> {
     if sound(words, store) {
         Ok(())
     } else {

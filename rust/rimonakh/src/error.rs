@@ -28,11 +28,12 @@ pub enum Error {
     NoClient = 20,
     TooDeep = 21,
     NilIdentifier = 22,
+    NoSnapshot = 23,
     NoBinding = 24,
 }
 
 impl Error {
-    const ALL: [Error; 22] = [
+    const ALL: [Error; 23] = [
         Error::Unsound,
         Error::ClockBack,
         Error::BadIdentifier,
@@ -54,6 +55,7 @@ impl Error {
         Error::NoClient,
         Error::TooDeep,
         Error::NilIdentifier,
+        Error::NoSnapshot,
         Error::NoBinding,
     ];
 
@@ -92,6 +94,7 @@ impl Error {
             Error::NoClient => "the client is none of 0 to 7",
             Error::TooDeep => "references nested deeper than 8",
             Error::NilIdentifier => "the OXID, OID or IPID of a reference is zero",
+            Error::NoSnapshot => "the bytes are not the snapshot of any sound table",
             Error::NoBinding => "no binding, extension, element or property of this number",
         }
     }

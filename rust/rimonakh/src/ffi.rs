@@ -416,6 +416,22 @@ extern "C" {
         reference: *const u8,
         reference_len: usize,
     ) -> StopPlace;
+    pub fn rimonakh_write_snapshot(
+        words: *const u64,
+        words_len: usize,
+        store: *const u8,
+        store_len: usize,
+        buffer: *mut u8,
+        buffer_len: usize,
+    ) -> Written;
+    pub fn rimonakh_load_snapshot(
+        words: *mut u64,
+        words_len: usize,
+        store: *mut u8,
+        store_len: usize,
+        snapshot: *const u8,
+        snapshot_len: usize,
+    ) -> u32;
 
     pub fn rimonakh_fragments_none() -> Fragments;
     pub fn rimonakh_fragments_push(

@@ -26,6 +26,12 @@
 //! let set = table.complex_ping(SetId(0), 1, &[reference.block.oid], &[])?.set;
 //! table.clock(1120)?;
 //! table.simple_ping(set)?;
+//!
+//! // another box takes over
+//! let mut other = Table::new(0);
+//! other.load_snapshot(&table.snapshot()?)?;
+//! assert_eq!(other.snapshot()?, table.snapshot()?);
+//! let mut table = other;
 //! assert!(table.release(0, reference.block.ipid, 5, 0)?.object_went);
 //! assert_eq!(table.add(0, ipid, 1, 0), Err(Error::NoInterface));
 //! assert_eq!(wire_code(&table.add(0, ipid, 1, 0)), 0x800401FB);
@@ -45,7 +51,9 @@ pub use error::{wire_code, Error};
 pub use fragments::FragmentReader;
 pub use headers::{Extension, Extensions, OrpcThat, OrpcThis, Read};
 pub use ids::{Guid, Oid, Oxid, SetId};
-pub use table::{Counts, Item, Pinged, Released, Resolved, Stop, Table, BYTES, WORDS};
+pub use table::{
+    Counts, Item, Pinged, Released, Resolved, Stop, Table, BYTES, LONGEST_SNAPSHOT, WORDS,
+};
 
 /// `Ok` is answer 0.
 pub type Result<T> = std::result::Result<T, Error>;

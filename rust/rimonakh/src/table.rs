@@ -9,6 +9,9 @@ pub const WORDS: usize = 8192;
 /// The length of a table's store of binding lists, in bytes.
 pub const BYTES: usize = 8192;
 
+/// The length of the longest snapshot, in bytes.
+pub const LONGEST_SNAPSHOT: usize = 64_698;
+
 /// Numbers of each kind: of live entries, or of those that went.
 #[repr(C)]
 #[derive(Clone, Copy, Debug, PartialEq, Eq)]
@@ -439,6 +442,47 @@ where
             Stop::Own(&reference[r.from..r.to])
         };
         answered(r.answer, stop)
+    }
+
+    /// Writes the snapshot of the table at the front of a buffer and keeps the rest; its length. A buffer of
+    /// [`LONGEST_SNAPSHOT`] bytes is always long enough.
+    pub fn write_snapshot(&self, buffer: &mut [u8]) -> Result<usize> {
+        let (words, store) = (self.words.as_ref(), self.store.as_ref());
+        let r = unsafe {
+            ffi::rimonakh_write_snapshot(
+                words.as_ptr(),
+                words.len(),
+                store.as_ptr(),
+                store.len(),
+                buffer.as_mut_ptr(),
+                buffer.len(),
+            )
+        };
+        answered(r.answer, r.length)
+    }
+
+    /// The snapshot of the table.
+    pub fn snapshot(&self) -> Result<Vec<u8>> {
+        let mut bytes = vec![0; LONGEST_SNAPSHOT];
+        let length = self.write_snapshot(&mut bytes)?;
+        bytes.truncate(length);
+        Ok(bytes)
+    }
+
+    /// Takes over what a snapshot holds; what the table held before is gone, and need not have been sound.
+    pub fn load_snapshot(&mut self, snapshot: &[u8]) -> Result<()> {
+        let (words, store) = (self.words.as_mut(), self.store.as_mut());
+        let number = unsafe {
+            ffi::rimonakh_load_snapshot(
+                words.as_mut_ptr(),
+                words.len(),
+                store.as_mut_ptr(),
+                store.len(),
+                snapshot.as_ptr(),
+                snapshot.len(),
+            )
+        };
+        answered(number, ())
     }
 
     /// The live number of each kind.

@@ -3,7 +3,7 @@
 //!     # a comment, printed as it stands
 //!     F value                 every word is the value, and every byte its lowest byte
 //!     E value                 the same, and then a small sound table: 2 exporters, 3 objects, 4 interfaces and 2 sets
-//!     U                       a full table, by calls from a reset: prints its census
+//!     U list                  a full table, by calls from a reset, each exporter with this list: prints its census
 //!     W column row value      a word, by the names of `decode::columns`
 //!     B row offset hex        bytes from the start of the list of an exporter's row; of the row after the last, free bytes
 //!     b place hex             bytes of the store
@@ -16,6 +16,11 @@
 //!     a client room items  l client room items  whole lists of adds and of releases, the items in hex
 //!     v oxid room n protocols..  a resolve by protocols
 //!     w oxid room n protocol     the same with n times the protocol
+//!     H room                  writes the snapshot, which `i` and `y` then load
+//!     h hex                   loads a snapshot
+//!     i changes..             loads the last one that was written with changes: `cut k`, without its last k bytes; `put k hex`, with these
+//!                             bytes from byte k on; `insert k hex`, with these bytes before byte k
+//!     y                       loads every shorter front of it: how many are refused by 23, and whether the table is kept
 //!     z way client room n bytes item  such a list (0 adds, 1 releases) of n times the item and so many bytes more
 //!     Z set sequence oid n m  a complex ping with n times the oid on its list of adds and m times on that of deletes
 //!
@@ -87,12 +92,15 @@ const ANSWERS: Answers = &[
     (b'C', &[0, 1]),
     (b'M', &[0, 1, 11]),
     (b'T', &[0, 1, 13, 14, 21, 22]),
+    (b'H', &[0, 1, 15]),
+    (b'h', &[0, 1, 23]),
 ];
 
 pub fn run<S: Stops>(input: &[u8]) -> String {
     let mut seen = Seen::new();
     let (mut words, mut store) = (vec![0u64; 8192], vec![0u8; 8192]);
     let mut out = String::new();
+    let mut saved: Vec<u8> = Vec::new();
     for line in input.split(|b| *b == b'\n').filter(|line| !line.is_empty()) {
         let mut a = Arguments { rest: &line[1..] };
         match line[0] {
@@ -108,7 +116,7 @@ pub fn run<S: Stops>(input: &[u8]) -> String {
                 store.fill(value as u8);
                 encode(&small(), &mut words, &mut store);
             }
-            b'U' => out += &full::<S>(&mut words, &mut store, &mut seen),
+            b'U' => out += &full::<S>(a.name(), &mut words, &mut store, &mut seen),
             b'G' => flip_bits::<S>(&mut words, &mut store, &mut out),
             b'W' => {
                 let name = a.name();
@@ -128,6 +136,38 @@ pub fn run<S: Stops>(input: &[u8]) -> String {
                 store[at..at + bytes.len()].copy_from_slice(&bytes);
             }
             b'P' => print_entries(&words, &store, &mut out),
+            b'H' => {
+                let room = a.number() as usize;
+                let r = S::perform(&mut words, &mut store, &Op::WriteSnapshot { room });
+                seen.insert((b'H', r.number));
+                let length = r.values[0] as usize;
+                assert_eq!(
+                    r.bytes[length..],
+                    buffer(room)[length..],
+                    "the rest is kept"
+                );
+                if r.number == 0 {
+                    saved = r.bytes[..length].to_vec();
+                }
+                let bytes = snapshot_hex(&r.bytes[..length]);
+                writeln!(out, "{} length {length} {bytes}", r.number).unwrap();
+            }
+            b'i' => {
+                let line = format!("h {}", hex(&changed(&saved, a)));
+                let rest = &line.as_bytes()[1..];
+                let a = Arguments { rest };
+                out += &called::<S>(b'h', a, &mut words, &mut store, &mut seen);
+            }
+            b'y' => {
+                let before = (words.clone(), store.clone());
+                let loads = (0..saved.len()).map(|n| {
+                    let load = Op::LoadSnapshot(saved[..n].to_vec());
+                    S::perform(&mut words, &mut store, &load).number
+                });
+                let refused = loads.filter(|number| *number == 23).count();
+                let kept = before == (words.clone(), store.clone());
+                writeln!(out, "{refused} of {} kept {kept}", saved.len()).unwrap();
+            }
             b'N' => {
                 let (n, m) = (a.number() as usize, a.number() as usize);
                 let letter = a.rest[1];
@@ -195,9 +235,10 @@ fn small() -> Entries {
 
 /// A full table by calls: 16 exporters, 128 objects, each with two interfaces, and 32 sets, each with every object. Every call is
 /// accepted; what the census says.
-fn full<S: Stops>(words: &mut [u64], store: &mut [u8], seen: &mut Seen) -> String {
+fn full<S: Stops>(list: &[u8], words: &mut [u64], store: &mut [u8], seen: &mut Seen) -> String {
+    let list = String::from_utf8_lossy(list);
     let mut lines = vec!["R 7".to_string()];
-    lines.extend((0..16).map(|i| format!("X {} {} 0 0200010000000000", i + 1, 1000 + i)));
+    lines.extend((0..16).map(|i| format!("X {} {} 0 {list}", i + 1, 1000 + i)));
     lines.extend((0..128).map(|i| {
         let (oid, exporter) = (i + 1, i % 16 + 1);
         format!("O {oid} {exporter} {} 0 5 5 {oid} 0", 2000 + i)
@@ -352,6 +393,10 @@ fn called<S: Stops>(
             }
         }
         b'T' => Op::NextStop(a.bytes()),
+        b'H' => Op::WriteSnapshot {
+            room: a.number() as usize,
+        },
+        b'h' => Op::LoadSnapshot(a.bytes()),
         other => panic!("no such line: {}", other as char),
     };
     let r = S::perform(words, store, &op);
@@ -411,7 +456,9 @@ fn called<S: Stops>(
         }
         _ => r.number.to_string(),
     };
-    if before.0 == words && before.1 == store {
+    // an accepted load may write free places anew
+    let loaded = matches!(op, Op::LoadSnapshot(_)) && r.number == 0;
+    if before.0 == words && before.1 == store && !loaded {
         out += " kept";
     }
     out + "\n"
@@ -424,6 +471,38 @@ fn runs_of(results: &[u8]) -> String {
         n => format!("{n}x{}", run[0]),
     });
     runs.collect::<Vec<String>>().join(" ")
+}
+
+/// A snapshot as a line `i` says.
+fn changed(saved: &[u8], mut a: Arguments) -> Vec<u8> {
+    let mut bytes = saved.to_vec();
+    loop {
+        let change = a.name();
+        if change.is_empty() {
+            return bytes;
+        }
+        let at = a.number() as usize;
+        let mut new = || Arguments { rest: a.name() }.bytes();
+        match change {
+            b"cut" => bytes.truncate(bytes.len() - at),
+            b"put" => {
+                let new = new();
+                bytes[at..at + new.len()].copy_from_slice(&new);
+            }
+            b"insert" => drop(bytes.splice(at..at, new())),
+            _ => panic!("no such change"),
+        }
+    }
+}
+
+/// A snapshot in hex; of a long one a checksum (FNV-1a).
+fn snapshot_hex(bytes: &[u8]) -> String {
+    if bytes.len() <= 600 {
+        return hex(bytes);
+    }
+    let sum = |sum: u64, b: &u8| (sum ^ *b as u64).wrapping_mul(0x100_0000_01b3);
+    let sum = bytes.iter().fold(0xcbf2_9ce4_8422_2325, sum);
+    format!("checksum {sum:016x}")
 }
 
 /// A list in hex; one of over 300 words with one binding as its number of words.
