@@ -9,7 +9,7 @@ use borrow.Author.Tests.{eq-eqb, ne-eqb}
 use lib.ListN.{length, take, drop, getD, length-append, drop-of-length-le}
 use lib.Seq.{take-at, drop-cons}
 use Rattle.fields.specs.Fields.{field, written, Bytes}
-use Rattle.fields.proofs.Laws.{written-none, written-two}
+use Rattle.fields.proofs.Fields.{written-none, written-two}
 use Rattle.lists.specs.Lists.{keep, some, among}
 use Rattle.bindings.specs.Bindings.{words, firstBinding, joined}
 use Rattle.bindings.specs.ListBytes.{wordBytes}

@@ -9,7 +9,7 @@ use borrow.Author.Tests.{lt-ltb, le-ltb, ne-eqb}
 use lib.ListN.{length, take, drop, length-append, length-drop}
 use lib.Seq.{drop-drop, drop-at}
 use Rattle.fields.specs.Fields.{encode, written, Bytes}
-use Rattle.fields.proofs.Laws.{first-field, then-field, then-bytes, take-rest}
+use Rattle.fields.proofs.Fields.{first-field, then-field, then-bytes, take-rest}
 use Rattle.kinds.specs.Refusals.{order}
 use Rattle.kinds.proofs.Refusing.{ne-differ}
 use Rattle.bindings.specs.Bindings.{words, bindingsOf, joined, isBare, count, split, partWords, listLength, listAnswer}
@@ -17,7 +17,7 @@ use Rattle.bindings.specs.ListBytes.{wordBytes, partsBytes}
 use Rattle.bindings.specs.Filter.{requested, filtered, filterAnswer, writeFiltered}
 use Rattle.bindings.specs.declared.Part.the-variants.{Strings, Security}
 use Rattle.bindings.proofs.Parts.{length-words}
-use Rattle.bindings.proofs.Laws.{accepted, not-bare}
+use Rattle.bindings.proofs.ListAnswers.{accepted, not-bare}
 use Rattle.bindings.proofs.ListBytes.{length-bytes, bytes-append, drop-four, parts-length, list-remade, field-bound}
 use Rattle.bindings.proofs.Filtering.{part-rows, filtered-bare, filtered-parts, filtered-shorter}
 

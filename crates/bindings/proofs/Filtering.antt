@@ -10,7 +10,7 @@ use lib.Dec.{eqb}
 use lib.ListN.{length, length-append}
 use Rattle.kinds.proofs.Refusing.{by-test, true-false}
 use Rattle.fields.specs.Fields.{Bytes}
-use Rattle.lists.specs.Lists.{keep, every, some}
+use Rattle.lists.specs.Lists.{keep, some}
 use Rattle.lists.proofs.Lists.{keep-all, keep-map, keep-none}
 use Rattle.lists.proofs.Tests.{and-left, and-right}
 use Rattle.bindings.specs.Bindings.{bindingsOf, joined, sameWords, isPart, isBare, count, split, partWords, listLength, listAnswer}
@@ -20,7 +20,7 @@ use Rattle.bindings.specs.Filter.{isRequested, requested, filtered, allR
 use Rattle.bindings.specs.declared.Part.{Part}
 use Rattle.bindings.specs.declared.Part.the-variants.{Strings, Security}
 use Rattle.bindings.proofs.Parts.{length-words, words-none, bindings-none}
-use Rattle.bindings.proofs.Laws.{bare, accepted}
+use Rattle.bindings.proofs.ListAnswers.{bare, accepted}
 use Rattle.bindings.proofs.Grammar.{layout-bindings, layout-part, part-layout}
 use Rattle.bindings.proofs.ListBytes.{words-fit, field-bound, parts-words, parts-length, parts-accepted, list-remade, by-bool, same-fit}
 

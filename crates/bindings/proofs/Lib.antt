@@ -1,5 +1,5 @@
 pub mod Parts
-pub mod Laws
+pub mod ListAnswers
 pub mod Grammar
 pub mod ListBytes
 pub mod Filtering

@@ -10,15 +10,15 @@ use lib.Dec.{leb}
 use lib.ListN.{length, take, drop, getD, length-append, length-drop, drop-of-length-le}
 use lib.Seq.{take-at, drop-at, drop-drop, drop-cons}
 use Rattle.kinds.proofs.Refusing.{by-test}
-use Rattle.fields.specs.Fields.{number, encode, field, Bytes}
-use Rattle.fields.proofs.Laws.{length-encode, field-as, field-then, field-next}
+use Rattle.fields.specs.Fields.{bytesNumber, encode, field, Bytes}
+use Rattle.fields.proofs.Fields.{length-encode, field-as, field-then, field-next}
 use Rattle.bindings.specs.Bindings.{words, bindingsOf, joined, isPart, isBare, count, split, partStart, partWords, twoParts, listLength, listAnswer, refusal, place, bindingAt}
 use Rattle.bindings.specs.Layout.{Binding, bindingWords, partLayout, IsLayout}
 use Rattle.bindings.specs.ListBytes.{Words16, wordBytes, partsBytes, bareList, listBytes, Listable, IsList, ofPart, bindingStart, Holds}
 use Rattle.bindings.specs.declared.Part.{Part}
 use Rattle.bindings.specs.declared.Part.the-variants.{Strings, Security}
 use Rattle.bindings.proofs.Parts.{length-words, words-none, bindings-none}
-use Rattle.bindings.proofs.Laws.{bare, parts-held, front-done, accepted, accept}
+use Rattle.bindings.proofs.ListAnswers.{bare, parts-held, front-done, accepted, accept}
 use Rattle.bindings.proofs.Grammar.{layout-bindings, layout-part, part-layout}
 
 -- ---- words and their bytes
@@ -60,9 +60,9 @@ bytes-then s at (suc n) b l =
 
 -- a word that is read has 16 bits
 pub field-bound : (s : List ℕ) (at : ℕ) → Bytes s → field s at 2 < 65536
-unfolding field number
+unfolding field bytesNumber
 field-bound s at b =
-    by-test (λ (n : ℕ). n < 65536) (leb (at + 2) (length s)) (number (take 2 (drop at s))) 0
+    by-test (λ (n : ℕ). n < 65536) (leb (at + 2) (length s)) (bytesNumber (take 2 (drop at s))) 0
     (λ e.
     let l : at + 2 ≤ length s = leb-true (at + 2) (length s) e in
     let x = b at in
@@ -180,7 +180,7 @@ pub same-fit : (a b : List ℕ) → a ≡ b → Words16 a → Words16 b
 same-fit a b e h i = rw (← e) (h i)
 
 bare-accepted : listAnswer bareList ≡ 0
-unfolding listLength field number twoParts
+unfolding listLength field bytesNumber twoParts
 bare-accepted = accept bareList refl (front-done bareList (omega arith) refl)
 
 pub list-accepted : (s : List ℕ) → IsList s → listAnswer s ≡ 0

@@ -33,7 +33,8 @@ ghost use Rattle.headers.specs.Headers.{readThis, thisExtension, thisBytes, thi
 ghost use Rattle.bindings.specs.Bindings.{frontAnswer, listAnswer, listLength, bindingAt};
 ghost use Rattle.contexts.specs.Contexts.{readContext, readProperty, propertyBytes, writeProperty, contextBytes, writeContext};
 ghost use Rattle.references.specs.Parts.{ElementFound};
-ghost use Rattle.references.specs.References.{referenceAnswer, readReference, tailPlace, referenceBinding, contextPlace, referenceBytes, writeReference};
+ghost use Rattle.references.specs.References.{referenceAnswer, readReference, tailPlace, referenceBinding, contextPlace};
+ghost use Rattle.reference_writer.specs.Writing.{referenceBytes, writeReference};
 
 // Reads the ORPCTHIS at the front of bytes.
 #[no_mangle]
@@ -395,5 +396,5 @@ pub extern "C" fn rimonakh_reference_write<'a>(
         size: size,
         element: element,
     };
-    reference.write(tail, content, buffer)
+    reference_writer::write(reference, tail, content, buffer)
 }

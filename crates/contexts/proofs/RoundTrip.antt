@@ -10,11 +10,11 @@ use lib.Seq.{take-at, drop-at, drop-drop, length-take-le}
 use Rattle.kinds.specs.Refusals.{order}
 use Rattle.kinds.proofs.Refusing.{eq-differ, passed, passed-on, last-row}
 use Rattle.fields.specs.Fields.{field, encode, guidBytes, Bytes}
-use Rattle.fields.proofs.Laws.{drop-bytes, field-part, guid-part, field-then, guid-then}
+use Rattle.fields.proofs.Fields.{drop-bytes, field-part, guid-part, field-then, guid-then}
 use Rattle.contexts.specs.Contexts.{Held, propertyBytes, headBytes, propertiesBytes, contextBytes, contextAt, propertyAt, propertyLength, propertyContent, propertiesAt, propertyAnswer, propertiesAnswer, headAnswer, contextAnswer}
 use Rattle.contexts.specs.RoundTrips.{Fits, Proper, AllProper, none, more, ContextWriteThenRead, ContextReadThenWrite}
 use Rattle.contexts.specs.declared.Context.{Context}
-use Rattle.contexts.proofs.Laws.{Accepted, accepted, accept, Headed, headed, head-accept}
+use Rattle.contexts.proofs.Properties.{Accepted, accepted, accept, Headed, headed, head-accept}
 
 -- ---- a property that can be written, before other bytes
 

@@ -16,7 +16,8 @@ use Rattle.rules.specs.Calls.{Call}
 use Rattle.rules.specs.Sound.{held}
 use Rattle.rules.specs.Rules.{noInterface, flag, noClient, refusals, number, next, results, refused, done}
 use Rattle.rules.specs.Contract.{Memory}
-use Rattle.rules.proofs.ByRow.{interfaceIn, lessened, release-counted, release-empty, counted-values, empty-values}
+use Rattle.rules.proofs.ByRow.{interfaceIn}
+use Rattle.rules.proofs.CountRows.{lessened, release-counted, release-empty, counted-values, empty-values}
 use Rattle.table.specs.View.{interfaceCount, interfacesOf, memory, view, SoundTable, Stepped}
 use Rattle.table.specs.Edits.{changeInterface, dropInterface}
 use Rattle.table.proofs.LiveRows.{interfaces-length}

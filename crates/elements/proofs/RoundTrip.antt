@@ -1,44 +1,21 @@
 -- The element of an extended reference over its layout: its bytes are judged as the writer judges what they are made of, and bytes that are
 -- accepted are an element's.
-use Prim.Native.Nat.{ℕ, suc, zero, _+_, _-_, _≤_}
+use Prim.Native.Nat.{ℕ, _+_, _-_, _≤_}
 use mathlib.Core.Path.{_≡_, refl, sym, ap, _∙_}
-use mathlib.Core.Bool.{Bool, true, false, not, _&&_}
+use mathlib.Core.Bool.{Bool, true, false, not}
 use mathlib.Core.List.{List, [], _∷_, _++_, append-assoc}
 use native.Mathlib.Omega.{arith}
-use borrow.Author.Tests.{eqb-true, le-ltb, ltb-false, not-false}
+use borrow.Author.Tests.{le-ltb, ltb-false, not-false}
 use lib.Dec.{eqb, ltb}
-use lib.ListN.{length, take, drop, length-append, length-drop, take-append-drop}
+use lib.ListN.{length, take, drop, length-append, length-drop, length-replicate, take-append-drop}
 use lib.Seq.{take-at, drop-at, drop-drop, take-all, length-take-le}
 use Rattle.kinds.specs.Refusals.{_gives_, passes, order}
 use Rattle.kinds.specs.declared.Guid.{Guid}
-use Rattle.kinds.proofs.Refusing.{true-false, eq-differ, passed, passed-on}
-use Rattle.fields.specs.Fields.{field, encode, guidAt, guidBytes, Bytes, GuidFits}
-use Rattle.fields.proofs.Laws.{field-part, guid-part, field-then, guid-then}
-use Rattle.elements.specs.Elements.{rounded, mostContent, isNil, zeros, elementBytes, contentSize, elementLength, elementContent, padding, allZero, elementFront, elementEnd, contentAnswer, elementAnswer, givenAnswer}
-use Rattle.elements.proofs.Laws.{fronted, content-within}
-
--- ---- zeros
-
-pub length-zeros : (n : ℕ) → length (zeros n) ≡ n
-unfolding zeros
-length-zeros zero = refl
-length-zeros (suc n) = ap suc (length-zeros n)
-
-zeros-zero : (n : ℕ) → allZero (zeros n) ≡ true
-unfolding zeros allZero
-zeros-zero zero = refl
-zeros-zero (suc n) = zeros-zero n
-
-and-true : (a b : Bool) → (a && b) ≡ true → (a ≡ true) × (b ≡ true)
-and-true true b e = (refl, e)
-and-true false b e = absurd (true-false (sym e))
-
-zero-zeros : (l : List ℕ) → allZero l ≡ true → l ≡ zeros (length l)
-unfolding zeros allZero
-zero-zeros [] e = refl
-zero-zeros (b ∷ l) e =
-    let a = and-true (eqb b 0) (allZero l) e in
-    rw (eqb-true b 0 (a .0), ← zero-zeros l (a .1))
+use Rattle.kinds.proofs.Refusing.{eq-differ, passed, passed-on}
+use Rattle.fields.specs.Fields.{field, encode, guidAt, guidBytes, Bytes, GuidFits, zeros, allZero, rounded, longest}
+use Rattle.fields.proofs.Fields.{field-part, guid-part, field-then, guid-then, zeros-zero, zero-zeros}
+use Rattle.elements.specs.Elements.{isNil, elementBytes, contentSize, elementLength, elementContent, padding, elementFront, elementEnd, contentAnswer, elementAnswer, givenAnswer}
+use Rattle.elements.proofs.ElementAnswers.{fronted, content-within}
 
 -- ---- from the layout to the judge
 
@@ -71,11 +48,11 @@ module _ (g : Guid) (x : List ℕ) where
   length-element =
       let a = length-append head (x ++ blank) in
       let b = length-append x blank in
-      let d = length-zeros (rounded (length x) - length x) in
+      let d = length-replicate {A = ℕ} (rounded (length x) - length x) 0 in
       let h = length-head in
       ap length split ∙ omega arith
 
-  module _ (f : GuidFits g) (most : length x ≤ mostContent) where
+  module _ (f : GuidFits g) (most : length x ≤ longest) where
     pub laid : Laid (elementBytes g x) g x
     unfolding head blank encode
     laid =
@@ -89,7 +66,7 @@ module _ (g : Guid) (x : List ℕ) where
         let size = field-part t head 0 24 front l 16 4 n (omega arith) refl (omega arith) in
         let whole = field-part t head 0 24 front l 20 4 m (omega arith) refl (omega arith) in
         let after : drop (24 + n) t ≡ blank = sym (drop-drop n 24 t) ∙ (rw rest (drop-at x blank n refl)) in
-        let z : length blank ≡ m - n = length-zeros (m - n) in
+        let z : length blank ≡ m - n = length-replicate {A = ℕ} (m - n) 0 in
         let pads : padding t ≡ blank = rw (size, whole, after) (take-all (m - n) blank (omega arith)) in
         record {
           id = guid-part t head 0 24 front l 0 g (omega arith) refl f;
@@ -136,12 +113,12 @@ module _ (g : Guid) (x t : List ℕ) (l : Laid t g x) where
       rw (l .padded, le-ltb _ _ h)
 
 -- the bytes of an element are judged as what they are made of
-pub element-given : (j : List ℕ → ℕ) (g : Guid) (x : List ℕ) → GuidFits g → length x ≤ mostContent → elementAnswer j (elementBytes g x) ≡ givenAnswer j g x
+pub element-given : (j : List ℕ → ℕ) (g : Guid) (x : List ℕ) → GuidFits g → length x ≤ longest → elementAnswer j (elementBytes g x) ≡ givenAnswer j g x
 unfolding elementAnswer givenAnswer
 element-given j g x f most =
     let t = elementBytes g x in
     let l = laid g x f most in
-    rw (front-given g x t l, end-given g x t l, l .content, le-ltb mostContent (length x) most)
+    rw (front-given g x t l, end-given g x t l, l .content, le-ltb longest (length x) most)
     (rows (isNil g) (eqb (length x) 0) (contentAnswer j x))
 
 -- ---- from the judge to the layout

@@ -1,25 +1,17 @@
 -- The element of an extended reference, DATAELEMENT (000, section 2.2.18.8). Its data may be a reference again: the judge of that one is
 -- an argument here, so that no two definitions need each other.
-use Prim.Native.Nat.{ℕ, suc, zero, _+_, _-_, _*_, _/_}
-use mathlib.Core.Bool.{Bool, true, cond, not, _&&_}
+use Prim.Native.Nat.{ℕ, _+_, _-_}
+use mathlib.Core.Bool.{Bool, cond, not, _&&_}
 use mathlib.Core.List.{List, [], _∷_, _++_}
 use lib.ListN.{length, take, drop}
 use lib.Dec.{eqb, ltb}
 use Rattle.kinds.specs.Refusals.{_gives_, passes, differ, order}
 use Rattle.kinds.specs.declared.Guid.{Guid}
-use Rattle.fields.specs.Fields.{field, encode, guidAt, guidBytes}
+use Rattle.fields.specs.Fields.{field, encode, guidAt, guidBytes, zeros, allZero, rounded, longest}
 
 -- "MEOW"
 abbrev pub signature : ℕ
 signature = 0x574F454D
-
--- a number rounded up to a multiple of eight; it does not wrap
-abbrev pub rounded : ℕ → ℕ
-rounded n = (n + 7) / 8 * 8
-
--- the largest size whose rounded size fits four bytes
-abbrev pub mostContent : ℕ
-mostContent = 0xFFFFFFF8
 
 abbrev pub isNil : Guid → Bool
 isNil g = eqb (g .low) 0 && eqb (g .high) 0
@@ -29,10 +21,6 @@ abbrev pub isReference : List ℕ → Bool
 isReference x = eqb (field x 0 4) signature
 
 -- ---- layout
-
-unfoldable pub zeros : ℕ → List ℕ
-zeros zero = []
-zeros (suc n) = 0 ∷ zeros n
 
 -- identifier (16), size of the data (4), rounded size (4), the data, zeros up to the rounded size
 unfoldable pub elementBytes : Guid → List ℕ → List ℕ
@@ -52,10 +40,6 @@ elementContent t = take (contentSize t) (drop 24 t)
 
 abbrev pub padding : List ℕ → List ℕ
 padding t = take (field t 20 4 - contentSize t) (drop (24 + contentSize t) t)
-
-unfoldable pub allZero : List ℕ → Bool
-allZero [] = true
-allZero (b ∷ bs) = eqb b 0 && allZero bs
 
 -- ---- its refusals, in byte order
 
@@ -90,6 +74,6 @@ givenAnswer g id x =
     order
     (isNil id gives 14
     ∷ eqb (length x) 0 gives 14
-    ∷ ltb mostContent (length x) gives 14
+    ∷ ltb longest (length x) gives 14
     ∷ passes (contentAnswer g x)
     ∷ [])

@@ -2,10 +2,7 @@
 use kinds::Guid;
 use kinds::answer;
 ghost use mathlib.Core.Path.{_≡_};
-ghost use Prim.Native.Nat.{_+_, _≤_};
-ghost use lib.ListN.{length};
-ghost use Rattle.fields.specs.Fields.{written};
-ghost use Rattle.elements.specs.Elements.{isNil, isReference, zeros, allZero, elementFront, elementEnd};
+ghost use Rattle.elements.specs.Elements.{isNil, isReference, elementFront, elementEnd};
 
 // "MEOW", the signature of a reference.
 pub const SIGNATURE: u32 = 0x574F454D;
@@ -27,20 +24,6 @@ pub fn is_reference(x: &[u8]) -> bool
     fields::read_u32(x, 0) == SIGNATURE
 }
 
-// Whether each byte is zero.
-fn all_zero(t: &[u8]) -> bool
-    ensures { λ r. ⌜ r ≡ allZero (now (t .entry)) ⌝ }
-{
-    let mut i = 0;
-    while i < t.len() {
-        if t[i] != 0 {
-            return false;
-        }
-        i += 1;
-    }
-    true
-}
-
 // Of an element up to its data, the length of data and padding included.
 pub fn element_front(t: &[u8]) -> u32
     ensures { λ r. ⌜ r ≡ elementFront (now (t .entry)) ⌝ }
@@ -54,18 +37,18 @@ pub fn element_front(t: &[u8]) -> u32
     if t.len() < 20 {
         return answer::SHORT;
     }
-    let size = fields::read_u32(t, 16) as usize;
+    let size = fields::read_u32(t, 16);
     if size == 0 {
         return answer::LAYOUT;
     }
     if t.len() < 24 {
         return answer::SHORT;
     }
-    let most = fields::read_u32(t, 20) as usize;
-    if most != (size + 7) / 8 * 8 {
+    let most = fields::read_u32(t, 20);
+    if most as u64 != fields::rounded(size) {
         return answer::LAYOUT;
     }
-    if t.len() < 24 + most {
+    if t.len() < 24 + most as usize {
         return answer::SHORT;
     }
     answer::DONE
@@ -78,23 +61,11 @@ pub fn element_end(t: &[u8]) -> u32
 {
     let from = 24 + (fields::read_u32(t, 16) as usize);
     let to = 24 + (fields::read_u32(t, 20) as usize);
-    if !all_zero(&t[from..to]) {
+    if !fields::is_zero(t, from, to - from) {
         return answer::LAYOUT;
     }
     if to < t.len() {
         return answer::LAYOUT;
     }
     answer::DONE
-}
-
-// Writes n zeros from at, and keeps the rest.
-pub fn fill(buf: &mut [u8], at: usize, n: usize)
-    requires { ⌜ at + n ≤ length (now buf) ⌝ }
-    ensures { λ _. ⌜ now (buf .exit) ≡ written (now (buf .entry)) at (zeros n) ⌝ }
-{
-    let mut i = 0;
-    while i < n {
-        buf[at + i] = 0;
-        i += 1;
-    }
 }

@@ -1,5 +1,5 @@
 -- The layout of an array that can be written is accepted, and read as that array.
-use Prim.Native.Nat.{ℕ, suc, zero, _+_, _-_, _*_, _^_, _<_, _≤_}
+use Prim.Native.Nat.{ℕ, _+_, _-_, _*_, _^_, _<_, _≤_}
 use mathlib.Core.Path.{_≡_, refl, sym, ap, _∙_}
 use mathlib.Core.Bool.{Bool, true, false, not, _&&_, _||_}
 use mathlib.Core.List.{List, [], _∷_, _++_, append-assoc, append-nil}
@@ -10,13 +10,13 @@ use lib.ListN.{length, take, drop, length-append, length-drop, length-replicate}
 use lib.Seq.{drop-drop, take-append-seam, drop-append-seam}
 use Rattle.kinds.specs.Refusals.{order}
 use Rattle.kinds.proofs.Refusing.{true-false}
-use Rattle.fields.specs.Fields.{field, encode, guidAt, guidBytes, GuidFits}
-use Rattle.fields.proofs.Laws.{length-encode, length-guid, field-as, guid-as}
-use Rattle.extensions.specs.Extensions.{eights, pairs, zeros, Extent, Array, extentBytes, extentsBytes, pointersBytes, pointedBytes, arrayBytes, allZero, paddingAnswer, pointersAnswer, sizeAt, nextAt, extentAnswer, extentsAnswer, startOf, extentsAt, longest, countAt, arrayAt, extentsStart, countedAnswer, pointedAnswer, frontAnswer, arrayAnswer, extensionsAnswer, arrayEnd, extensionsEnd, extensionsCount, extensionsAt}
+use Rattle.fields.specs.Fields.{field, encode, guidAt, guidBytes, GuidFits, allZero, longest, rounded, zeros}
+use Rattle.fields.proofs.Fields.{length-encode, length-guid, field-as, guid-as, zeros-zero}
+use Rattle.extensions.specs.Extensions.{pairs, Extent, Array, extentBytes, extentsBytes, pointersBytes, pointedBytes, arrayBytes, paddingAnswer, pointersAnswer, sizeAt, nextAt, extentAnswer, extentsAnswer, startOf, extentsAt, countAt, arrayAt, extentsStart, countedAnswer, pointedAnswer, frontAnswer, arrayAnswer, extensionsAnswer, arrayEnd, extensionsEnd, extensionsCount, extensionsAt}
 use Rattle.extension_writer.specs.Writing.{extentsWritable, writable}
 use Rattle.extension_writer.specs.Statements.{AllFit, Fits, ReadAs, ReadBack}
 use Rattle.bindings.proofs.ListBytes.{by-bool}
-use Rattle.extensions.proofs.Laws.{both-true}
+use Rattle.extensions.proofs.ArrayWalk.{both-true}
 use Rattle.extension_writer.proofs.Writes.{Entry, entry, length-pointers}
 
 -- ---- bytes that stand at a place, and what follows them
@@ -37,11 +37,6 @@ stands s at x rest w n h e =
       next = sym (drop-drop w at s) ∙ ap (drop w) e ∙ (rw (← n) (drop-append-seam x rest));
     }
 
-zeros-clear : (n : ℕ) → allZero (zeros n) ≡ true
-unfolding allZero
-zeros-clear zero = refl
-zeros-clear (suc n) = zeros-clear n
-
 -- ---- one extension
 
 record ExtentRead (s : List ℕ) (at : ℕ) (e : Extent) (rest : List ℕ) : Type 0 where
@@ -51,7 +46,7 @@ record ExtentRead (s : List ℕ) (at : ℕ) (e : Extent) (rest : List ℕ) : Typ
   within : nextAt s at ≤ length s
   next : drop (nextAt s at) s ≡ rest
 
-eights-fit : (n : ℕ) → n ≤ longest → (n < 256 ^ 4) × (eights n < 256 ^ 4)
+eights-fit : (n : ℕ) → n ≤ longest → (n < 256 ^ 4) × (rounded n < 256 ^ 4)
 eights-fit n h = (omega arith, omega arith)
 
 extent-read : (s : List ℕ) (at : ℕ) (e : Extent) (rest : List ℕ) → at ≤ length s → Entry (e .pointer) (length (e .content)) → GuidFits (e .id) → drop at s ≡ extentBytes e ++ rest → ExtentRead s at e rest
@@ -59,22 +54,22 @@ unfolding extentBytes extentAnswer paddingAnswer order
 extent-read s at e rest h p g d =
     let n = length (e .content) in
     let fit = eights-fit n (p .fit) in
-    let pad = zeros (eights n - n) in
-    let f : drop at s ≡ encode 4 (eights n) ++ (guidBytes (e .id) ++ (encode 4 n ++ (e .content ++ (pad ++ rest)))) = d ∙ simp append-assoc in
-    let a = stands s at (encode 4 (eights n)) _ 4 (length-encode 4 (eights n)) h f in
+    let pad = zeros (rounded n - n) in
+    let f : drop at s ≡ encode 4 (rounded n) ++ (guidBytes (e .id) ++ (encode 4 n ++ (e .content ++ (pad ++ rest)))) = d ∙ simp append-assoc in
+    let a = stands s at (encode 4 (rounded n)) _ 4 (length-encode 4 (rounded n)) h f in
     let b = stands s (at + 4) (guidBytes (e .id)) _ 16 (length-guid (e .id)) (a .room) (a .next) in
     let i : at + 4 + 16 ≡ at + 20 = omega arith in
     let c = stands s (at + 20) (encode 4 n) _ 4 (length-encode 4 n) (rw i at (b .room)) (rw i at (b .next)) in
     let j : at + 20 + 4 ≡ at + 24 = omega arith in
     let o = stands s (at + 24) (e .content) _ n refl (rw j at (c .room)) (rw j at (c .next)) in
-    let q = stands s (at + 24 + n) pad rest (eights n - n) (length-replicate (eights n - n) 0) (o .room) (o .next) in
-    let whole : field s at 4 ≡ eights n = field-as s at 4 (eights n) (a .here) (a .room) (fit .1) in
+    let q = stands s (at + 24 + n) pad rest (rounded n - n) (length-replicate (rounded n - n) 0) (o .room) (o .next) in
+    let whole : field s at 4 ≡ rounded n = field-as s at 4 (rounded n) (a .here) (a .room) (fit .1) in
     let size : sizeAt s at ≡ n = field-as s (at + 20) 4 n (c .here) (c .room) (fit .0) in
-    let end : at + 24 + n + (eights n - n) ≡ at + 24 + eights n = omega arith in
+    let end : at + 24 + n + (rounded n - n) ≡ at + 24 + rounded n = omega arith in
     let fixed : at + 24 ≤ length s = rw j at (c .room) in
-    let clear : allZero (take (eights n - n) (drop (at + 24 + n) s)) ≡ true = rw (q .here) (zeros-clear (eights n - n)) in
+    let clear : allZero (take (rounded n - n) (drop (at + 24 + n) s)) ≡ true = rw (q .here) (zeros-zero (rounded n - n)) in
     record {
-      answer = rw (size, whole, eq-eqb (eights n) (eights n) refl, le-leb _ _ fixed, le-leb _ _ (o .room), le-leb _ _ (q .room), clear);
+      answer = rw (size, whole, eq-eqb (rounded n) (rounded n) refl, le-leb _ _ fixed, le-leb _ _ (o .room), le-leb _ _ (q .room), clear);
       id = guid-as s (at + 4) (e .id) (b .here) (b .room) g;
       content = rw size (o .here);
       within = rw size (rw end at (q .room));
@@ -195,7 +190,7 @@ pointed-read s at es rest h c l w g d =
     let q = stands s (at + 16 + 4 + 4 * n) pad (extentsBytes es ++ rest) (4 * (pairs n - n)) (length-replicate (4 * (pairs n - n)) 0) (b .room) (b .next) in
     let j : at + 16 + 4 + 4 * n + 4 * (pairs n - n) ≡ at + 20 + 4 * pairs n = omega arith in
     let max : field s (at + 16) 4 ≡ pairs n = field-as s (at + 16) 4 (pairs n) (a .here) (a .room) (few n l .1) in
-    let clear : allZero (take (4 * (pairs n - n)) (drop (at + 16 + 4 + 4 * n) s)) ≡ true = rw (q .here) (zeros-clear (4 * (pairs n - n))) in
+    let clear : allZero (take (4 * (pairs n - n)) (drop (at + 16 + 4 + 4 * n) s)) ≡ true = rw (q .here) (zeros-zero (4 * (pairs n - n))) in
     let r = extents-read s (at + 20) (at + 20 + 4 * pairs n) es rest _ (rw i at (a .room)) (rw j at (q .room)) w g (rw i at (a .next)) (rw j at (q .next)) in
     let ps : pointersAnswer s (at + 16 + 4) n ≡ 0 = rw i (r .pointers) in
     record {

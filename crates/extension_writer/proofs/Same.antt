@@ -9,18 +9,18 @@ use lib.Dec.{eqb, leb}
 use lib.ListN.{length, take, drop, length-drop}
 use lib.Seq.{drop-cons, length-take-le}
 use Rattle.kinds.proofs.Refusing.{passed, passed-on}
-use Rattle.fields.specs.Fields.{number, field, Bytes}
-use Rattle.fields.proofs.Laws.{field-in, field-out}
-use Rattle.extensions.specs.Extensions.{pointersAnswer, sizeAt, nextAt, extentsAnswer, countAt, arrayAt, extentsStart, extensionsCount, extentsAt, extensionsAt, longest}
+use Rattle.fields.specs.Fields.{bytesNumber, field, Bytes, longest}
+use Rattle.fields.proofs.Fields.{field-in, field-out}
+use Rattle.extensions.specs.Extensions.{pointersAnswer, sizeAt, nextAt, extentsAnswer, countAt, arrayAt, extentsStart, extensionsCount, extentsAt, extensionsAt}
 use Rattle.extension_writer.specs.Writing.{entryWritable, extentsWritable, writable}
 use Rattle.extension_writer.specs.Statements.{WriterRefusesTheSame}
 use Rattle.bindings.proofs.ListBytes.{by-bool}
 use Rattle.extensions.proofs.Back.{count-extents}
-use Rattle.extensions.proofs.Laws.{held, accepted, extents-first}
+use Rattle.extensions.proofs.ArrayWalk.{held, accepted, extents-first}
 
 -- a field of four bytes fits 32 bits
 four-bound : (s : List ℕ) (at : ℕ) → Bytes s → field s at 4 < 2 ^ 32
-unfolding number
+unfolding bytesNumber
 four-bound s at b =
     by-bool (leb (at + 4) (length s))
     (λ e.

@@ -4,17 +4,16 @@ use mathlib.Core.Path.{_≡_, refl, sym, ap, _∙_}
 use mathlib.Core.Bool.{true, false, not, _&&_, _||_}
 use mathlib.Core.List.{List, [], _∷_, _++_}
 use native.Mathlib.Omega.{arith}
-use native.Mathlib.Nat.{add-zero}
 use borrow.Author.Tests.{ne-eqb, eqb-true, eqb-false, leb-true, lt-ltb, le-ltb, ltb-true, not-true}
 use lib.Dec.{eqb, leb}
-use lib.ListN.{length, getD, take, drop, set, length-append, length-drop, length-replicate}
+use lib.ListN.{length, getD, take, drop, length-append, length-drop, length-replicate}
 use lib.Seq.{length-take-le, drop-drop}
 use Rattle.kinds.specs.Refusals.{order}
-use Rattle.fields.specs.Fields.{encode, written}
-use Rattle.fields.proofs.Laws.{length-encode, written-more, written-two}
-use Rattle.extensions.specs.Extensions.{eights, pairs, zeros, Extent, extentBytes, extentsBytes, pointersBytes, pointedBytes, arrayBytes}
+use Rattle.fields.specs.Fields.{encode, written, rounded}
+use Rattle.fields.proofs.Fields.{length-encode, written-two}
+use Rattle.extensions.specs.Extensions.{pairs, Extent, extentBytes, extentsBytes, pointersBytes, pointedBytes, arrayBytes}
 use Rattle.bindings.proofs.ListBytes.{by-bool}
-use Rattle.extensions.proofs.Laws.{both-true}
+use Rattle.extensions.proofs.ArrayWalk.{both-true}
 use Rattle.extension_writer.specs.Writing.{described, given, sizes, agree, entryWritable, extentsWritable, wordsWritable, extentsLength, arrayLength, writable, takes, writeAnswer, writeWalk}
 
 -- ---- one entry
@@ -46,7 +45,7 @@ module _ (ws : List ℕ) (i n : ℕ) (h : 0 < n) where
       let k : n ≡ suc (n - 1) = omega arith in
       ap (wordsWritable ws i) k
 
-  pub length-more : extentsLength ws i n ≡ 24 + eights (getD ws (i + 3) 0) + extentsLength ws (i + 4) (n - 1)
+  pub length-more : extentsLength ws i n ≡ 24 + rounded (getD ws (i + 3) 0) + extentsLength ws (i + 4) (n - 1)
   unfolding extentsLength
   length-more =
       let k : n ≡ suc (n - 1) = omega arith in
@@ -96,7 +95,7 @@ unfolding described
 length-described ws d i zero = refl
 length-described ws d i (suc n) = ap suc (length-described ws (drop (getD ws (i + 3) 0) d) (i + 4) n)
 
-pub length-extent : (e : Extent) → length (extentBytes e) ≡ 24 + eights (length (e .content))
+pub length-extent : (e : Extent) → length (extentBytes e) ≡ 24 + rounded (length (e .content))
 unfolding extentBytes
 length-extent e = simp (length-append, length-encode, length-replicate) (omega arith)
 
@@ -107,7 +106,7 @@ length-extents ws d i (suc n) h =
     let k = getD ws (i + 3) 0 in
     let e : Extent = record { pointer = getD ws (i + 2) 0; id = record { low = getD ws i 0; high = getD ws (i + 1) 0 }; content = take k d } in
     let size : length (take k d) ≡ k = length-take-le k d (omega arith) in
-    let one : length (extentBytes e) ≡ 24 + eights k = length-extent e ∙ ap (λ (x : ℕ). 24 + eights x) size in
+    let one : length (extentBytes e) ≡ 24 + rounded k = length-extent e ∙ ap (λ (x : ℕ). 24 + rounded x) size in
     let rest = length-extents ws (drop k d) (i + 4) n (rw (length-drop k d) (omega arith)) in
     let a = length-append (extentBytes e) (extentsBytes (described ws (drop k d) (i + 4) n)) in
     omega arith
@@ -139,19 +138,12 @@ length-pointers (e ∷ es) =
 
 -- ---- writing
 
--- one zero, and those that are left
-pub zero-more : (s : List ℕ) (at n : ℕ) → 0 < n → at + n ≤ length s → written (set s at 0) (at + 1) (zeros (n - 1)) ≡ written s at (zeros n)
-zero-more s at n h room =
-    let k : n ≡ suc (n - 1) = omega arith in
-    let l : at + 0 + suc (length (zeros (n - 1))) ≤ length s = rw (length-replicate {A = ℕ} (n - 1) 0) (omega arith) in
-    (rw add-zero at (written-more s at 0 0 (zeros (n - 1)) l)) ∙ sym (ap (λ (j : ℕ). written s at (zeros j)) k)
-
 module _ (s ws d : List ℕ) (to i n : ℕ) (h : 0 < n) where
   -- one extension, and those that are left
   pub extents-step : sizes ws i n ≤ length d → to + extentsLength ws i n ≤ length s
       → written
       (written s to (extentBytes (record { pointer = 0; id = record { low = getD ws i 0; high = getD ws (i + 1) 0 }; content = take (getD ws (i + 3) 0) d })))
-      (to + (24 + eights (getD ws (i + 3) 0)))
+      (to + (24 + rounded (getD ws (i + 3) 0)))
       (extentsBytes (described ws (drop (getD ws (i + 3) 0) d) (i + 4) (n - 1)))
       ≡ written s to (extentsBytes (described ws d i n))
   unfolding extentsBytes extentBytes
@@ -161,10 +153,10 @@ module _ (s ws d : List ℕ) (to i n : ℕ) (h : 0 < n) where
       let rest = described ws (drop k d) (i + 4) (n - 1) in
       let more = sizes-more ws i n h in
       let size : length (take k d) ≡ k = length-take-le k d (omega arith) in
-      let one : length (extentBytes e) ≡ 24 + eights k = length-extent e ∙ ap (λ (x : ℕ). 24 + eights x) size in
+      let one : length (extentBytes e) ≡ 24 + rounded k = length-extent e ∙ ap (λ (x : ℕ). 24 + rounded x) size in
       let left : length (extentsBytes rest) ≡ extentsLength ws (i + 4) (n - 1) = length-extents ws (drop k d) (i + 4) (n - 1) (rw (length-drop k d) (omega arith)) in
       let all = length-more ws i n h in
-      written-two s (extentBytes e) (extentsBytes rest) to (24 + eights k) one (omega arith)
+      written-two s (extentBytes e) (extentsBytes rest) to (24 + rounded k) one (omega arith)
       ∙ sym (ap (λ (x : List Extent). written s to (extentsBytes x)) (described-more ws i n h d))
 
   -- one pointer, and those that are left
@@ -191,7 +183,7 @@ module _ (d : List ℕ) (from k : ℕ) where
 pub extents-next : (s ws d : List ℕ) (to from i n : ℕ) → 0 < n → from + sizes ws i n ≤ length d → to + extentsLength ws i n ≤ length s
     → written
     (written s to (extentBytes (record { pointer = 0; id = record { low = getD ws i 0; high = getD ws (i + 1) 0 }; content = take (from + getD ws (i + 3) 0 - from) (drop from d) })))
-    (to + (24 + eights (getD ws (i + 3) 0)))
+    (to + (24 + rounded (getD ws (i + 3) 0)))
     (extentsBytes (described ws (drop (from + getD ws (i + 3) 0) d) (i + 4) (n - 1)))
     ≡ written s to (extentsBytes (described ws (drop from d) i n))
 extents-next s ws d to from i n h sum room =
@@ -260,10 +252,6 @@ module _ (header pointer : ℕ) (ws d : List ℕ) where
       rw (z, y) (simp (length-append, length-encode, length-replicate, p, x, count) (omega arith))))
 
 -- how long it is, by its two pointers
-pub length-null : (header pointer : ℕ) (ws : List ℕ) → header ≡ 0 → arrayLength header pointer ws ≡ 4
-unfolding arrayLength
-length-null header pointer ws e = rw e
-
 pub length-bare : (header pointer : ℕ) (ws : List ℕ) → (header ≡ 0 → ⊥) → pointer ≡ 0 → arrayLength header pointer ws ≡ 16
 unfolding arrayLength
 length-bare header pointer ws h e = rw (ne-eqb _ _ h, e)

@@ -6,8 +6,9 @@ use mathlib.Core.List.{List, [], _∷_, _++_}
 use lib.ListN.{length, getD, take, drop}
 use lib.Dec.{eqb, ltb, leb}
 use Rattle.kinds.specs.Refusals.{_gives_, order}
-use Rattle.extensions.specs.Extensions.{pairs, eights, Extent, Array, arrayBytes, most, longest, walkedTo}
+use Rattle.extensions.specs.Extensions.{pairs, Extent, Array, arrayBytes, most, walkedTo}
 use Rattle.extensions.specs.declared.Walked.{Walked}
+use Rattle.fields.specs.Fields.{longest, rounded}
 
 -- n extensions from word i on, their data from the front of d on
 unfoldable pub described : List ℕ → List ℕ → ℕ → ℕ → List Extent
@@ -62,7 +63,7 @@ wordsWritable ws i (suc n) = entryWritable (getD ws (i + 2) 0) (getD ws (i + 3) 
 
 unfoldable pub extentsLength : List ℕ → ℕ → ℕ → ℕ
 extentsLength ws i zero = 0
-extentsLength ws i (suc n) = 24 + eights (getD ws (i + 3) 0) + extentsLength ws (i + 4) n
+extentsLength ws i (suc n) = 24 + rounded (getD ws (i + 3) 0) + extentsLength ws (i + 4) n
 
 unfoldable pub arrayLength : ℕ → ℕ → List ℕ → ℕ
 arrayLength header pointer ws =

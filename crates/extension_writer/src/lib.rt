@@ -8,8 +8,8 @@ ghost use mathlib.Core.List.{[]};
 ghost use Prim.Native.Nat.{_+_, _*_, _/_, _≤_};
 ghost use lib.Dec.{eqb};
 ghost use lib.ListN.{length};
-ghost use Rattle.fields.specs.Fields.{written};
-ghost use Rattle.extensions.specs.Extensions.{eights, pairs, longest, zeros, extentBytes, extentsBytes, pointersBytes, pointedBytes, arrayBytes};
+ghost use Rattle.fields.specs.Fields.{written, longest, rounded};
+ghost use Rattle.extensions.specs.Extensions.{pairs, extentBytes, extentsBytes, pointersBytes, pointedBytes, arrayBytes};
 ghost use Rattle.extension_writer.specs.Writing.{described, given, sizes, entryWritable, wordsWritable, extentsLength, arrayLength, takes, writeWalk};
 
 // Whether the sizes of the data are len in all.
@@ -41,7 +41,7 @@ fn entry_writable(pointer: u64, size: u64) -> bool
     if 0xFFFFFFFF < pointer {
         return false;
     }
-    size <= 0xFFFFFFF8
+    size <= fields::LONGEST
 }
 
 fn words_writable(entries: &[u64]) -> bool
@@ -94,7 +94,7 @@ fn extents_length(entries: &[u64]) -> usize
     let mut left = entries.len() / 4;
     let mut total = 0;
     while 0 < left {
-        total += 24 + extensions::rounded(entries[i + 3] as u32) as usize;
+        total += 24 + fields::rounded(entries[i + 3] as u32) as usize;
         i += 4;
         left -= 1;
     }
@@ -116,33 +116,19 @@ fn array_length(pointer: u32, array: u32, entries: &[u64]) -> usize
     20 + 4 * (extensions::paired(n as u32) as usize) + extents_length(entries)
 }
 
-// Writes n zeros from at.
-fn clear(buf: &mut [u8], at: usize, n: usize)
-    requires { ⌜ at + n ≤ length (now buf) ⌝ }
-    ensures { λ _. ⌜ now (buf .exit) ≡ written (now (buf .entry)) at (zeros n) ⌝ }
-{
-    let mut i = at;
-    let mut left = n;
-    while 0 < left {
-        buf[i] = 0;
-        i += 1;
-        left -= 1;
-    }
-}
-
 // Writes one extension from at.
 fn put_extent(buf: &mut [u8], at: usize, low: u64, high: u64, part: &[u8])
-    requires { ⌜ (length (now part) ≤ longest) × (at + 24 + eights (length (now part)) ≤ length (now buf)) ⌝ }
+    requires { ⌜ (length (now part) ≤ longest) × (at + 24 + rounded (length (now part)) ≤ length (now buf)) ⌝ }
     ensures { λ _. ⌜ now (buf .exit) ≡ written (now (buf .entry)) at (extentBytes (record { pointer = 0; id = record { low = low; high = high }; content = now (part .entry) })) ⌝ }
 {
     let size = part.len() as u32;
-    let whole = extensions::rounded(size);
+    let whole = fields::rounded(size);
     fields::write_u32(buf, at, whole as u32);
     fields::write_u64(buf, at + 4, low);
     fields::write_u64(buf, at + 12, high);
     fields::write_u32(buf, at + 20, size);
     fields::copy(buf, at + 24, part);
-    clear(buf, at + 24 + part.len(), whole as usize - part.len());
+    fields::fill(buf, at + 24 + part.len(), whole as usize - part.len());
 }
 
 // Writes the extensions from at, one after the other.
@@ -166,7 +152,7 @@ fn put_extents(buf: &mut [u8], at: usize, entries: &[u64], contents: &[u8])
             entries[i + 1],
             &contents[from..from + size],
         );
-        to += 24 + extensions::rounded(size as u32) as usize;
+        to += 24 + fields::rounded(size as u32) as usize;
         from += size;
         i += 4;
         left -= 1;
@@ -204,7 +190,7 @@ fn put_pointed(buf: &mut [u8], at: usize, entries: &[u64], contents: &[u8])
     let all = extensions::paired(n as u32);
     fields::write_u32(buf, at, all as u32);
     put_pointers(buf, at + 4, entries);
-    clear(buf, at + 4 + 4 * n, 4 * (all as usize - n));
+    fields::fill(buf, at + 4 + 4 * n, 4 * (all as usize - n));
     put_extents(buf, at + 4 + 4 * (all as usize), entries, contents);
 }
 

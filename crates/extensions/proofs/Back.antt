@@ -2,32 +2,25 @@
 use Prim.Native.Nat.{ℕ, suc, zero, _+_, _-_, _*_, _<_, _≤_}
 use mathlib.Core.Path.{_≡_, refl, sym, ap, _∙_}
 use mathlib.Core.Bool.{true}
-use mathlib.Core.List.{List, [], _∷_, _++_, append-assoc, append-nil}
+use mathlib.Core.List.{List, _++_, append-assoc, append-nil}
 use native.Mathlib.Omega.{arith}
-use borrow.Author.Tests.{eqb-true, eqb-false, lt-ltb, le-ltb}
+use borrow.Author.Tests.{eqb-false, lt-ltb, le-ltb}
 use lib.Dec.{eqb}
 use lib.ListN.{length, getD, take, drop, length-append, length-drop, take-append-drop}
 use lib.Seq.{length-take-le, drop-drop, take-append-seam}
 use Rattle.kinds.proofs.Refusing.{by-test}
-use Rattle.fields.specs.Fields.{field, encode, guidAt, guidBytes, Bytes}
-use Rattle.fields.proofs.Laws.{field-next, guid-then}
+use Rattle.fields.specs.Fields.{field, encode, guidAt, guidBytes, Bytes, allZero, rounded, zeros}
+use Rattle.fields.proofs.Fields.{field-next, guid-then, zero-zeros}
 use Rattle.bindings.proofs.ListBytes.{by-bool}
-use Rattle.extensions.specs.Extensions.{eights, pairs, zeros, Extent, extentBytes, extentsBytes, pointersBytes, pointedBytes, arrayBytes, allZero, sizeAt, nextAt, extentsAnswer, startOf, countAt, arrayAt, extentsStart, arrayEnd, extensionsAnswer, extensionsEnd, extensionsCount, extentsAt, extensionsAt, extensionFrom, extensionAt}
+use Rattle.extensions.specs.Extensions.{pairs, Extent, extentBytes, extentsBytes, pointersBytes, pointedBytes, arrayBytes, sizeAt, nextAt, extentsAnswer, startOf, countAt, arrayAt, extentsStart, arrayEnd, extensionsAnswer, extensionsEnd, extensionsCount, extentsAt, extensionsAt, extensionFrom, extensionAt}
 use Rattle.extensions.specs.Statements.{BytesBack, OneForm, Shows, ExtensionK}
-use Rattle.extensions.proofs.Laws.{Held, held, Accepted, accepted, extents-first, both-true}
-
-zeros-back : (l : List ℕ) → allZero l ≡ true → l ≡ zeros (length l)
-unfolding allZero
-zeros-back [] e = refl
-zeros-back (b ∷ l) e =
-    let a = both-true _ _ e in
-    rw (eqb-true b 0 (a .0)) (ap (λ (x : List ℕ). 0 ∷ x) (zeros-back l (a .1)))
+use Rattle.extensions.proofs.ArrayWalk.{Held, held, Accepted, accepted, extents-first}
 
 -- w zeros, and the bytes after them
 zeros-then : (s : List ℕ) (at w next : ℕ) → at + w ≡ next → next ≤ length s → allZero (take w (drop at s)) ≡ true → drop at s ≡ zeros w ++ drop next s
 zeros-then s at w next e l z =
     let n : length (take w (drop at s)) ≡ w = length-take-le w (drop at s) (rw (length-drop at s) (omega arith)) in
-    let t : take w (drop at s) ≡ zeros w = rw n at (zeros-back (take w (drop at s)) z) in
+    let t : take w (drop at s) ≡ zeros w = rw n at (zero-zeros (take w (drop at s)) z) in
     sym (take-append-drop w (drop at s)) ∙ (rw (t, drop-drop, e))
 
 -- any w bytes
@@ -45,10 +38,10 @@ extent-back s p at b h =
     let room = h .room in
     let fixed = h .fixed in
     let n : length (take (sizeAt s at) (drop (at + 24) s)) ≡ sizeAt s at = length-take-le (sizeAt s at) (drop (at + 24) s) (rw (length-drop (at + 24) s) (omega arith)) in
-    let pad = zeros-then s (at + 24 + sizeAt s at) (eights (sizeAt s at) - sizeAt s at) (nextAt s at) (omega arith) room (h .clear) in
-    let body : drop (at + 24) s ≡ take (sizeAt s at) (drop (at + 24) s) ++ (zeros (eights (sizeAt s at) - sizeAt s at) ++ drop (nextAt s at) s) = bytes-then s (at + 24) (sizeAt s at) ∙ (rw pad) in
+    let pad = zeros-then s (at + 24 + sizeAt s at) (rounded (sizeAt s at) - sizeAt s at) (nextAt s at) (omega arith) room (h .clear) in
+    let body : drop (at + 24) s ≡ take (sizeAt s at) (drop (at + 24) s) ++ (zeros (rounded (sizeAt s at) - sizeAt s at) ++ drop (nextAt s at) s) = bytes-then s (at + 24) (sizeAt s at) ∙ (rw pad) in
     let i : at + 4 + 16 ≡ at + 20 = omega arith in
-    let tail : List ℕ = take (sizeAt s at) (drop (at + 24) s) ++ (zeros (eights (sizeAt s at) - sizeAt s at) ++ drop (nextAt s at) s) in
+    let tail : List ℕ = take (sizeAt s at) (drop (at + 24) s) ++ (zeros (rounded (sizeAt s at) - sizeAt s at) ++ drop (nextAt s at) s) in
     let size : drop (at + 4 + 16) s ≡ encode 4 (sizeAt s at) ++ tail = rw i (field-next s (at + 20) 4 (at + 24) tail b (omega arith) (omega arith) body) in
     let id : drop (at + 4) s ≡ guidBytes (guidAt s (at + 4)) ++ (encode 4 (sizeAt s at) ++ tail) = guid-then s (at + 4) _ b (omega arith) size in
     let whole : drop at s ≡ encode 4 (field s at 4) ++ (guidBytes (guidAt s (at + 4)) ++ (encode 4 (sizeAt s at) ++ tail)) = field-next s at 4 (at + 4) _ b refl (omega arith) id in

@@ -2,32 +2,25 @@
 -- 3.2, for the rounding of counts and sizes). They begin with the header's pointer, its last field: byte 28 of ORPCTHIS, byte 4 of
 -- ORPCTHAT. Every item stands at a multiple of 4 from the header's start, so C706's alignment adds no bytes.
 use Prim.Native.Nat.{ℕ, suc, zero, _+_, _-_, _*_, _/_}
-use mathlib.Core.Bool.{Bool, true, cond, not, _&&_}
+use mathlib.Core.Bool.{Bool, cond, not, _&&_}
 use mathlib.Core.List.{List, [], _∷_, _++_}
-use lib.ListN.{length, take, drop, replicate}
+use lib.ListN.{length, take, drop}
 use lib.Dec.{eqb, ltb, leb}
 use Rattle.kinds.specs.Refusals.{_gives_, passes, differ, order}
 use Rattle.kinds.specs.declared.Guid.{Guid}
-use Rattle.fields.specs.Fields.{field, encode, guidAt, guidBytes}
+use Rattle.fields.specs.Fields.{field, encode, guidAt, guidBytes, zeros, allZero, rounded}
 use Rattle.bindings.specs.declared.Place.{Place}
 use Rattle.extensions.specs.declared.Extensions.{Extensions}
 use Rattle.extensions.specs.declared.Walked.{Walked}
 use Rattle.extensions.specs.declared.Extension.{Extension}
 
--- a count of pointers, rounded up to a multiple of 2; a size of data, rounded up to a multiple of 8
+-- a count of pointers, rounded up to a multiple of 2
 abbrev pub pairs : ℕ → ℕ
 pairs n = (n + 1) / 2 * 2
-
-abbrev pub eights : ℕ → ℕ
-eights n = (n + 7) / 8 * 8
 
 -- the most extensions of an array
 abbrev pub most : ℕ
 most = 32
-
--- the longest data: its rounded size fits 32 bits
-abbrev pub longest : ℕ
-longest = 0xFFFFFFF8
 
 -- ---- layout
 
@@ -43,17 +36,14 @@ pub record Array : Type 0 where
   pub pointer : ℕ
   pub extents : List Extent
 
-abbrev pub zeros : ℕ → List ℕ
-zeros n = replicate n 0
-
 -- an extension: rounded size (4), id (16), size (4), data, and zeros up to the rounded size
 unfoldable pub extentBytes : Extent → List ℕ
 extentBytes e =
-    encode 4 (eights (length (e .content)))
+    encode 4 (rounded (length (e .content)))
     ++ guidBytes (e .id)
     ++ encode 4 (length (e .content))
     ++ e .content
-    ++ zeros (eights (length (e .content)) - length (e .content))
+    ++ zeros (rounded (length (e .content)) - length (e .content))
 
 unfoldable pub extentsBytes : List Extent → List ℕ
 extentsBytes [] = []
@@ -81,10 +71,6 @@ arrayBytes a =
 abbrev pub lacks : List ℕ → ℕ → ℕ → Bool
 lacks s at w = not (leb (at + w) (length s))
 
-unfoldable pub allZero : List ℕ → Bool
-allZero [] = true
-allZero (b ∷ bs) = eqb b 0 && allZero bs
-
 -- w bytes of padding
 unfoldable pub paddingAnswer : List ℕ → ℕ → ℕ → ℕ
 paddingAnswer s at w = order (lacks s at w gives 13 ∷ not (allZero (take w (drop at s))) gives 14 ∷ [])
@@ -103,14 +89,14 @@ unfoldable pub extentAnswer : List ℕ → ℕ → ℕ
 extentAnswer s at =
     order
     (lacks s at 24 gives 13
-    ∷ differ (field s at 4) (eights (sizeAt s at)) gives 14
+    ∷ differ (field s at 4) (rounded (sizeAt s at)) gives 14
     ∷ lacks s (at + 24) (sizeAt s at) gives 13
-    ∷ passes (paddingAnswer s (at + 24 + sizeAt s at) (eights (sizeAt s at) - sizeAt s at))
+    ∷ passes (paddingAnswer s (at + 24 + sizeAt s at) (rounded (sizeAt s at) - sizeAt s at))
     ∷ [])
 
 -- the first byte after it
 abbrev pub nextAt : List ℕ → ℕ → ℕ
-nextAt s at = at + 24 + eights (sizeAt s at)
+nextAt s at = at + 24 + rounded (sizeAt s at)
 
 -- n extensions
 unfoldable pub extentsAnswer : List ℕ → ℕ → ℕ → ℕ

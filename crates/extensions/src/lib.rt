@@ -3,9 +3,9 @@ use kinds::Guid;
 use kinds::answer;
 ghost use mathlib.Core.Path.{_≡_};
 ghost use Prim.Native.Nat.{_+_, _*_, _<_, _≤_};
-ghost use lib.ListN.{length, take, drop};
+ghost use lib.ListN.{length};
 ghost use Rattle.bindings.specs.Bindings.{PartOf};
-ghost use Rattle.extensions.specs.Extensions.{eights, pairs, allZero, paddingAnswer, pointersAnswer, sizeAt, extentAnswer, nextAt, extentsAnswer, startOf, countAt, extentsStart, countedAnswer, pointedAnswer, frontAnswer, arrayAnswer, arrayEnd, walkedTo, extensionsAnswer, walk, readExtensions, extensionAt, extensionFrom, extensionsCount, noExtension, placeOf};
+ghost use Rattle.extensions.specs.Extensions.{pairs, paddingAnswer, pointersAnswer, extentAnswer, extentsAnswer, startOf, countAt, extentsStart, countedAnswer, pointedAnswer, frontAnswer, arrayAnswer, arrayEnd, walkedTo, walk, readExtensions, extensionAt, extensionFrom, noExtension, placeOf};
 
 // What a header says of its extensions: its pointer to the array, the array's pointer, and their number.
 #[repr(C)]
@@ -32,30 +32,13 @@ pub struct Extension {
     pub to: usize,
 }
 
-// Whether the n bytes from at are zeros.
-fn zeros(s: &[u8], at: usize, n: usize) -> bool
-    requires { ⌜ at + n ≤ length (now s) ⌝ }
-    ensures { λ r. ⌜ r ≡ allZero (take n (drop at (now (s .entry)))) ⌝ }
-{
-    let mut i = at;
-    let mut left = n;
-    while 0 < left {
-        if s[i] != 0 {
-            return false;
-        }
-        i += 1;
-        left -= 1;
-    }
-    true
-}
-
 fn padding_answer(s: &[u8], at: usize, n: usize) -> u32
     ensures { λ r. ⌜ r ≡ paddingAnswer (now (s .entry)) at n ⌝ }
 {
     if !fields::inside(s.len(), at, n) {
         return answer::SHORT;
     }
-    if zeros(s, at, n) {
+    if fields::is_zero(s, at, n) {
         answer::DONE
     } else {
         answer::LAYOUT
@@ -81,13 +64,6 @@ fn pointers_answer(s: &[u8], at: usize, n: usize) -> u32
     answer::DONE
 }
 
-// A size of data, rounded up to a multiple of 8.
-pub fn rounded(n: u32) -> u64
-    ensures { λ r. ⌜ r ≡ eights n ⌝ }
-{
-    (n as u64 + 7) / 8 * 8
-}
-
 // Whether an extension stands from at.
 fn extent_answer(s: &[u8], at: usize) -> u32
     ensures { λ r. ⌜ r ≡ extentAnswer (now (s .entry)) at ⌝ }
@@ -96,7 +72,7 @@ fn extent_answer(s: &[u8], at: usize) -> u32
         return answer::SHORT;
     }
     let size = fields::read_u32(s, at + 20);
-    let whole = rounded(size);
+    let whole = fields::rounded(size);
     if fields::read_u32(s, at) as u64 != whole {
         return answer::LAYOUT;
     }
@@ -120,7 +96,7 @@ fn extents(s: &[u8], at: usize, n: usize) -> Walked
                 to: 0,
             };
         }
-        i += 24 + rounded(fields::read_u32(s, i + 20)) as usize;
+        i += 24 + fields::rounded(fields::read_u32(s, i + 20)) as usize;
         left -= 1;
     }
     Walked {
@@ -275,7 +251,7 @@ fn start(s: &[u8], at: usize, n: usize, k: usize) -> usize
     let mut left = n;
     let mut skip = k;
     while 0 < skip {
-        i += 24 + rounded(fields::read_u32(s, i + 20)) as usize;
+        i += 24 + fields::rounded(fields::read_u32(s, i + 20)) as usize;
         left -= 1;
         skip -= 1;
     }

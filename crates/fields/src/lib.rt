@@ -5,13 +5,23 @@ ghost use mathlib.Core.Path.{_≡_};
 ghost use Prim.Native.Nat.{_+_, _^_, _<_, _≤_};
 ghost use lib.ListN.{length};
 ghost use lib.Dec.{eqb, leb};
-ghost use Rattle.fields.specs.Fields.{field, encode, written, guidAt, guidBytes};
+ghost use Rattle.fields.specs.Fields.{field, encode, written, zeros, rounded, guidAt, guidBytes};
 
 // A writer's answer, and the number of bytes that it wrote.
 #[repr(C)]
 pub struct Written {
     pub answer: u32,
     pub length: usize,
+}
+
+// The largest size whose rounded size fits four bytes.
+pub const LONGEST: u64 = 0xFFFFFFF8;
+
+// A size rounded up to a multiple of 8.
+pub fn rounded(n: u32) -> u64
+    ensures { λ r. ⌜ r ≡ rounded n ⌝ }
+{
+    (n as u64 + 7) / 8 * 8
 }
 
 // Whether the w bytes from at lie within n bytes.
@@ -155,6 +165,13 @@ pub fn write_guid(buf: &mut [u8], at: usize, g: Guid)
         write_u64(buf, at, g.low);
         write_u64(buf, at + 8, g.high);
     }
+}
+
+// Writes n zeros from at, and keeps the rest.
+pub fn fill(buf: &mut [u8], at: usize, n: usize)
+    ensures { λ _. ⌜ now (buf .exit) ≡ written (now (buf .entry)) at (zeros n) ⌝ }
+{
+    write(buf, at, n, 0);
 }
 
 // Writes the bytes of src from at, and keeps the rest.

@@ -10,15 +10,15 @@ use lib.Dec.{eqb, ltb, leb}
 use lib.ListN.{length, getD, take, drop, length-append, length-drop, List·getD-append, List·getD-eq-default}
 use lib.Seq.{drop-cons, getD-drop, getD-take, ext-getD, length-take-le, drop-append-le, getD-append-seam}
 use Rattle.kinds.proofs.Refusing.{by-test, true-false, ne-differ, eq-differ}
-use Rattle.fields.specs.Fields.{number, field, Bytes}
-use Rattle.fields.proofs.Laws.{field-in, field-front}
+use Rattle.fields.specs.Fields.{bytesNumber, field, Bytes}
+use Rattle.fields.proofs.Fields.{field-in, field-front}
 use Rattle.bindings.specs.Bindings.{words, count, split}
-use Rattle.bindings.proofs.Laws.{words-front}
+use Rattle.bindings.proofs.ListAnswers.{words-front}
 use Rattle.bindings.proofs.Parts.{length-words}
 use Rattle.bindings.proofs.ListBytes.{by-bool}
 use Rattle.elements.specs.Elements.{signature}
 use Rattle.references.specs.References.{isForm, isExtended, fixedSize}
-use Rattle.references.proofs.Laws.{by-form}
+use Rattle.references.proofs.Forms.{by-form}
 use Rattle.fragments.specs.Walk.{listStep, walkList}
 use Rattle.fragments.specs.Fragments.{isPlain, formOf, inTail}
 use Rattle.fragments.proofs.Walks.{walk-append}
@@ -36,7 +36,7 @@ length-more s b = length-append s (b ∷ [])
 
 -- two bytes make a word
 pub pair : (s : List ℕ) (at : ℕ) → at + 2 ≤ length s → field s at 2 ≡ getD s at 0 + 256 * getD s (at + 1) 0
-unfolding number
+unfolding bytesNumber
 pair s at h =
     let a : at < length s = omega arith in
     let b : suc at < length s = omega arith in
@@ -55,7 +55,7 @@ field-agree h s m at w same lh ls room =
     let q : i < w = omega arith in
     let p : at + i < m = omega arith in
     rw (getD-take w (drop at h) i 0 q, getD-take w (drop at s) i 0 q, getD-drop at h i 0, getD-drop at s i 0) (same (at + i) p)) in
-    field-in h at w rh ∙ ap number e ∙ sym (field-in s at w rs)
+    field-in h at w rh ∙ ap bytesNumber e ∙ sym (field-in s at w rs)
 
 -- ---- the form, and the tail
 
@@ -95,10 +95,6 @@ formed s h =
 pub form-made : (s : List ℕ) → 24 ≤ length s → field s 0 4 ≡ signature → isPlain (field s 4 4) ≡ true → form s ≡ field s 4 4
 unfolding formOf
 form-made s l g h = rw (le-leb _ _ l, eq-eqb _ _ g, h)
-
-pub size-zero : fixedSize 0 ≡ 0
-unfolding fixedSize
-size-zero = refl
 
 pub size-least : (f : ℕ) → isPlain f ≡ true → 48 ≤ fixedSize f
 unfolding fixedSize

@@ -11,13 +11,13 @@ use lib.Seq.{take-all}
 use Rattle.kinds.specs.Refusals.{Row, _gives_, differ, passes, order}
 use Rattle.kinds.proofs.Refusing.{by-test, same-test, true-false, or-false, differ-false, passed, passed-on, last-row}
 use Rattle.fields.specs.Fields.{field, Bytes, guidAt, stored}
-use Rattle.fields.proofs.Laws.{drop-bytes, field-drop, take-rest}
+use Rattle.fields.proofs.Fields.{drop-bytes, field-drop, take-rest}
 use Rattle.bindings.specs.Bindings.{joined, count, split, twoParts, listLength, frontAnswer, listAnswer}
 use Rattle.bindings.proofs.ListBytes.{by-bool, field-bound}
 use Rattle.contexts.specs.Contexts.{isMarshaler}
 use Rattle.elements.specs.Elements.{signature}
 use Rattle.references.specs.References.{isForm, isCustom, isExtended, fixedSize, referenceAt, headAnswer, objectAnswer, plainAnswer, formAnswer, layoutBy, layoutAnswer, namesNil, referenceAnswer, tailOf}
-use Rattle.references.proofs.Laws.{size-most, Headed, headed, accepted, tail-start, tail-end}
+use Rattle.references.proofs.Forms.{size-most, Headed, headed, accepted, tail-start, tail-end}
 use Rattle.fragments.specs.Walk.{bothClosed}
 use Rattle.fragments.specs.Fragments.{AnyCuts, AsRead, Reading, isPlain, isNilReference, plainReference, plainTail, wholeAnswer, finishedBy, listEnd, readEnd, endAnswer, finished, finalAfter}
 use Rattle.fragments.specs.declared.Fragments.{Fragments}

@@ -11,11 +11,11 @@ use lib.ListN.{length, getD, take, set, length-append, length-drop, length-set, 
 use lib.Seq.{getD-set-same, getD-set-other, getD-append-seam, take-suc-set, take-append-le, take-all, getD-drop}
 use Rattle.kinds.proofs.Refusing.{by-test, same-test}
 use Rattle.fields.specs.Fields.{field, Bytes}
-use Rattle.fields.proofs.Laws.{drop-bytes, field-drop}
+use Rattle.fields.proofs.Fields.{drop-bytes, field-drop}
 use Rattle.bindings.specs.Bindings.{joined, count, split}
 use Rattle.bindings.proofs.ListBytes.{by-bool, field-bound}
 use Rattle.references.specs.References.{isCustom}
-use Rattle.references.proofs.Laws.{size-most}
+use Rattle.references.proofs.Forms.{size-most}
 use Rattle.fragments.specs.Fragments.{limit, Reading, none, formOf, inTail, nextMode, stepHead, step, stepIn, pushed, pushedAll}
 use Rattle.fragments.specs.declared.Fragments.{Fragments}
 use Rattle.fragments.proofs.Bytewise.{front-bytes, length-more, field-agree, form, form-short, start, tail, tailLength, Within, within, tail-in, same-form, tail-more, tail-length-more, outside, come, walkOf, walk-early, same-count, walk-same, walk-word}

@@ -12,10 +12,10 @@ use lib.Seq.{take-all}
 use Rattle.kinds.specs.Refusals.{differ}
 use Rattle.kinds.proofs.Refusing.{by-test}
 use Rattle.fields.specs.Fields.{field, written}
-use Rattle.fields.proofs.Laws.{written-more, written-none}
+use Rattle.fields.proofs.Fields.{written-more, written-none}
 use Rattle.bindings.proofs.ListBytes.{by-bool}
 use Rattle.references.specs.References.{isCustom, fixedSize}
-use Rattle.references.proofs.Laws.{size-most}
+use Rattle.references.proofs.Forms.{size-most}
 use Rattle.fragments.specs.Fragments.{limit, Reading, formOf, inTail, nextMode, nextSeen, stepHead, step, stepIn, pushed}
 use Rattle.fragments.specs.declared.Fragments.{Fragments}
 use Rattle.fragments.specs.Rest.{seenAfter, lowAfter, modeAfter, keptAfter, overAfter, waitingAfter, walkAfter, restIn, restAfter}

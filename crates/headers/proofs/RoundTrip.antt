@@ -10,7 +10,7 @@ use lib.ListN.{length, take, drop, length-append, length-drop}
 use lib.Seq.{take-append-seam}
 use Rattle.kinds.specs.Refusals.{order}
 use Rattle.fields.specs.Fields.{field, encode, stored, Bytes}
-use Rattle.fields.proofs.Laws.{length-encode, number-encode, field-in, field-then, written-front}
+use Rattle.fields.proofs.Fields.{length-encode, number-encode, field-in, field-then, written-front}
 use Rattle.extensions.specs.Extensions.{Array, arrayBytes, extensionsAt, extensionsEnd}
 use Rattle.extension_writer.specs.Writing.{given, agree, takes, writable, writeAnswer}
 use Rattle.extensions.proofs.Back.{bytes-back, end-length, end-within}
@@ -20,7 +20,7 @@ use Rattle.extension_writer.proofs.Same.{writer-refuses-the-same}
 use Rattle.headers.specs.Statements.{ThatFits}
 use Rattle.headers.specs.Headers.{thatBytes, thatAnswer, thatAt}
 use Rattle.headers.specs.declared.OrpcThat.{OrpcThat}
-use Rattle.headers.proofs.Laws.{able}
+use Rattle.headers.proofs.HeaderAnswers.{able}
 
 -- what the definitions of reading say of s: accepted, the header h, the extensions a, n bytes long
 pub record ThatParts (s : List ℕ) (h : OrpcThat) (a : Array) (n : ℕ) : Type 0 where

@@ -11,10 +11,10 @@ use lib.Seq.{take-append-seam}
 use Rattle.kinds.specs.Refusals.{differ, order}
 use Rattle.kinds.proofs.Refusing.{passed, passed-on, eq-differ, differ-false, or-false}
 use Rattle.fields.specs.Fields.{field, encode, written, stored, Bytes}
-use Rattle.fields.proofs.Laws.{number-encode, field-in, field-then, written-front, written-in}
+use Rattle.fields.proofs.Fields.{number-encode, field-in, field-then, written-front, written-in}
 use Rattle.extensions.specs.Extensions.{Array, arrayBytes, extensionsAnswer, extensionsAt, extensionsEnd}
 use Rattle.extension_writer.specs.Writing.{given, agree, takes, writable, writeAnswer}
-use Rattle.extensions.proofs.Laws.{accepted}
+use Rattle.extensions.proofs.ArrayWalk.{accepted}
 use Rattle.extensions.proofs.Back.{bytes-back, end-length, end-within}
 use Rattle.extension_writer.specs.Statements.{Fits}
 use Rattle.extension_writer.proofs.Forward.{read-back}
@@ -22,7 +22,7 @@ use Rattle.extension_writer.proofs.Same.{writer-refuses-the-same}
 use Rattle.headers.specs.Statements.{ThisFits}
 use Rattle.headers.specs.Headers.{thisFront, thisBytes, thisAnswer, thisAt, thisWritten}
 use Rattle.headers.specs.declared.OrpcThis.{OrpcThis}
-use Rattle.headers.proofs.Laws.{length-front, able}
+use Rattle.headers.proofs.HeaderAnswers.{length-front, able}
 
 -- what the definitions of reading say of s: accepted, the header h, the extensions a, n bytes long
 pub record ThisParts (s : List ℕ) (h : OrpcThis) (a : Array) (n : ℕ) : Type 0 where

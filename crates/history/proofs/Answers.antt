@@ -12,7 +12,7 @@ use Rattle.rules.specs.Calls.{Call, Counting, reset, enterExporter, removeExpor
 use Rattle.rules.specs.Items.{itemAt, itemCount, itemsOf, itemCall}
 use Rattle.rules.specs.Rules.{itemNumbers, number, results, done, refused, reply}
 use Rattle.rules.proofs.Stepping.{reply-number}
-use Rattle.rules.proofs.Listing.{length-numbers}
+use Rattle.rules.proofs.OneByOne.{length-numbers}
 use Rattle.history.specs.History.{History, live, itemsFed, lived, feed, feedAll, replies, numbers}
 use Rattle.history.specs.Runs.{Answered, once, answered, answeredAll, callsIn, numbersIn}
 use Rattle.history.proofs.Lives.{Kept}

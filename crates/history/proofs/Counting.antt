@@ -18,7 +18,7 @@ use Rattle.rules.specs.Calls.{add, release, dropClient}
 use Rattle.rules.specs.Sound.{sound, held, hasInterface}
 use Rattle.rules.specs.Rules.{anyIpid, number, next, atInterfaces, withoutObjects, dropEmpty}
 use Rattle.rules.proofs.Keeps.{keeps}
-use Rattle.rules.proofs.ByRow.{full-kept}
+use Rattle.rules.proofs.NothingGoes.{full-kept}
 use Rattle.history.specs.History.{ObjectLife, Account, InterfaceLife, History, atZero, interfacesAtZero, exporterRemoved, unheard, objectGone, liveExporters, liveObjects, liveInterface, exporterEntry, objectEntry, interfaceEntry, live, atAccount, atAccounts, atLiveInterfaces, lived}
 use Rattle.lists.proofs.Elements.{In, map-in, in-some, some-in, keep-in, in-keep, keep-ext-in, kept-changed, one-in}
 use Rattle.history.proofs.Lives.{Kept, kept-from, Bounded, still}

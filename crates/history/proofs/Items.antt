@@ -8,7 +8,7 @@ use lib.Dec.{eqb}
 use Rattle.rules.specs.Calls.{Counting, adding, releasing}
 use Rattle.rules.specs.Items.{Item, itemCall}
 use Rattle.rules.specs.Rules.{counted, itemDone, itemsDone, itemNumbers, number}
-use Rattle.rules.proofs.Listing.{item-next}
+use Rattle.rules.proofs.OneByOne.{item-next}
 use Rattle.history.specs.History.{History, live, countLived, itemFed, itemsFed, lived, feed, feedAll, numbers}
 use Rattle.history.proofs.Lives.{Kept}
 use Rattle.history.proofs.Steps.{Step}

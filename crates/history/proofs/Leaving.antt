@@ -15,7 +15,7 @@ use Rattle.rules.specs.Entries.{Exporter, Object, Interface, PingSet, Entries, 
 use Rattle.rules.specs.Calls.{removeExporter, clock}
 use Rattle.rules.specs.Sound.{sound, heardWithin, pingedWithin}
 use Rattle.rules.specs.Rules.{number, next, refusals, withoutObjects}
-use Rattle.rules.proofs.Leaving.{clock-next}
+use Rattle.rules.proofs.LeavingKeeps.{clock-next}
 use Rattle.history.specs.History.{ExporterLife, ObjectLife, InterfaceLife, SetLife, History, atZero, interfacesAtZero, exporterRemoved, unheard, objectGone, liveExporters, liveObjects, liveInterface, liveSet, noExporterLife, exporterEntry, objectEntry, interfaceEntry, setEntry, live, atClock, withExporterLives, removedLife, lived}
 use Rattle.lists.proofs.Elements.{In, some-in, keep-in, map-ext-in, keep-ext-in, kept-changed, first-unread, first-sole, some-sole, kept-sole}
 use Rattle.history.proofs.Lives.{serialOfExporter, named-sole, Kept, kept-from, still}

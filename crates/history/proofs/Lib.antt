@@ -10,7 +10,7 @@ pub mod Items
 pub mod Pinging
 pub mod Feeding
 pub mod Answers
-pub mod Staying
+pub mod GoneStays
 pub mod Room
 pub mod Demands
 pub mod Runs

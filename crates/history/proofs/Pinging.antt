@@ -18,7 +18,7 @@ use Rattle.rules.specs.Calls.{simplePing, complexPing}
 use Rattle.rules.specs.Sound.{sound}
 use Rattle.rules.specs.Rules.{number, next, refusals, isLiveSet, noSet, setOf, tooMany, atSet, ping, newMembers, makeSet}
 use Rattle.rules.proofs.Groups.{grouped, sound-grouped}
-use Rattle.rules.proofs.Pinging.{set-made}
+use Rattle.rules.proofs.PingingKeeps.{set-made}
 use Rattle.history.specs.History.{remaining, ObjectLife, SetLife, History, atZero, interfacesAtZero, exporterRemoved, unheard, objectGone, liveExporters, liveObjects, liveInterface, liveSet, noObjectLife, exporterEntry, objectEntry, interfaceEntry, setEntry, live, withObjectLives, withSetLives, heardLife, pingedLife, changed, atLiveSet, objectSerials, isMember, pingLives, startSet, lived}
 use Rattle.lists.proofs.Elements.{In, map-in, snoc-in, in-none, keep-in, in-keep, keep-ext-in, changed-kept, first-unread, Sole, first-sole, some-sole, sole-keep, sole-map}
 use Rattle.history.proofs.Lives.{Kept, kept-from, serialOfObject, still}

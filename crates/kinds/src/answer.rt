@@ -26,8 +26,10 @@ pub const COUNT_OVERFLOW: u32 = 8;
 // No free place of a kind that is needed, or no room for a list in the store.
 pub const NO_PLACE: u32 = 9;
 
-// A list of more than 65,535 identifiers.
+// A list of more identifiers, items or protocols than MOST_LISTED.
 pub const TOO_MANY: u32 = 10;
+
+pub const MOST_LISTED: usize = 65535;
 
 pub const NO_SET: u32 = 11;
 

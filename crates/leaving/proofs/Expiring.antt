@@ -13,7 +13,7 @@ use Rattle.rules.specs.Calls.{Call}
 use Rattle.rules.specs.Sound.{proper, setMembersLive, heardWithin, pingedWithin}
 use Rattle.rules.specs.Rules.{refusals, number, next, results, refused, done, clockValues}
 use Rattle.rules.proofs.SoundLaws.{sound-fields}
-use Rattle.rules.proofs.Leaving.{clock-next}
+use Rattle.rules.proofs.LeavingKeeps.{clock-next}
 use Rattle.table.specs.View.{objectCount, interfaceCount, setCount, memory, view, SoundTable, Stepped}
 use Rattle.table.specs.Edits.{Became}
 use Rattle.table.proofs.LiveRows.{objects-length, interfaces-length, sets-length}

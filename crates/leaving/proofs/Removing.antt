@@ -1,16 +1,20 @@
 -- An exporter is removed: it is refused where its row is not live, else its objects go and then its row.
 use Prim.Native.Nat.{ℕ, _<_, _≤_}
 use mathlib.Core.Path.{_≡_, refl, sym, ap, _∙_}
+use mathlib.Core.Bool.{true, not}
 use mathlib.Core.List.{List}
 use native.Mathlib.Omega.{arith}
 use borrow.Author.Tests.{lt-ltb, le-ltb}
 use lib.ListN.{length}
+use lib.Dec.{eqb}
 use Rattle.kinds.specs.Refusals.{order}
 use Rattle.lists.specs.Lists.{deleteAt}
-use Rattle.rules.specs.Entries.{Entries, withExporters, exporterRow}
-use Rattle.rules.specs.Calls.{Call, numbered}
-use Rattle.rules.specs.Rules.{refusals, number, results, refused, done}
-use Rattle.rules.proofs.ByRow.{remove-exporter-row}
+use Rattle.lists.proofs.Distinct.{eqb-decides, entry-remove}
+use Rattle.rules.specs.Entries.{Exporter, Object, Entries, withExporters, exporterRow}
+use Rattle.rules.specs.Sound.{sound}
+use Rattle.rules.specs.Calls.{Call, numbered, removeExporter}
+use Rattle.rules.specs.Rules.{noExporter, withoutObjects, refusals, number, next, results, refused, done}
+use Rattle.rules.proofs.ByRow.{oxids-distinct}
 use Rattle.table.specs.View.{exporterCount, memory, view, SoundTable, Stepped}
 use Rattle.table.specs.Edits.{Became, dropExporter}
 use Rattle.table.proofs.LiveRows.{exporters-length}
@@ -22,6 +26,14 @@ use Rattle.calls.proofs.Calls.{exporter-tested, refused-step, accepted-step}
 -- settling leaves the exporters
 pub leaving-count : (w : Leaving) (ws ws′ s : List ℕ) → Became (withoutLeaving w) ws ws′ → exporterCount ws′ ≡ exporterCount ws
 leaving-count w ws ws′ s b = sym (exporters-length ws′ s) ∙ ap (λ (e : Entries). length (e .exporters)) (b s) ∙ exporters-length ws s
+
+-- the exporter goes from its row, and its objects with it
+remove-exporter-row : (e : Entries) → sound e ≡ true → (x : ℕ) → exporterRow e x < length (e .exporters)
+    → next (removeExporter x) e ≡ withExporters (deleteAt (exporterRow e x) (e .exporters)) (withoutObjects (λ (o : Object). not (eqb x (o .exporter))) e)
+unfolding next
+remove-exporter-row e s x h =
+    ap (λ (l : List Exporter). withExporters l (withoutObjects (λ (o : Object). not (eqb x (o .exporter))) e))
+    (entry-remove eqb eqb-decides (λ (p : Exporter). p .oxid) noExporter x (e .exporters) h (oxids-distinct e s))
 
 module _ (ws s : List ℕ) (x : ℕ) (h : SoundTable (memory ws s)) (r n : ℕ) (row : r ≡ exporterRow (view (memory ws s)) x) (count : n ≡ exporterCount ws) where
   pub no-exporter : n ≤ r → Stepped (Call.removeExporter x) (memory ws s) (numbered 4) (memory ws s)

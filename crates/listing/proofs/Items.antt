@@ -17,7 +17,7 @@ use Rattle.rules.specs.Items.{Item, itemAt, itemCall}
 use Rattle.rules.specs.Rules.{isLiveInterface, interfaceOf, passesCount, noClient, refusals, number, next}
 use Rattle.rules.specs.Contract.{Memory}
 use Rattle.rules.proofs.Stepping.{reply-number, step-sound}
-use Rattle.rules.proofs.Listing.{item-done}
+use Rattle.rules.proofs.OneByOne.{item-done}
 use Rattle.table.specs.View.{view, SoundTable, Stepped}
 use Rattle.listing.specs.Listing.{wayOf, ItemStepped}
 

@@ -2,6 +2,7 @@
 use kinds::answer;
 use table::judge;
 ghost use Prim.Native.Nat.{_≤_, _<_};
+ghost use Rattle.rules.specs.Rules.{mostListed};
 ghost use Rattle.rules.specs.Calls.{Call, adding, releasing};
 ghost use Rattle.rules.specs.Items.{itemAt};
 ghost use Rattle.table.specs.View.{memory, SoundTable, Stepped, Performed};
@@ -65,7 +66,7 @@ pub fn list_step<'a>(
         return answer::SHORT;
     }
     let n = items.len() / 24;
-    if 65535 < n {
+    if answer::MOST_LISTED < n {
         return answer::TOO_MANY;
     }
     if buffer.len() < n {
@@ -89,7 +90,7 @@ fn item_step<'a>(
     items: &'a [u8],
     k: usize,
 ) -> u32
-    requires { ⌜ SoundTable (memory (now words) (now store)) × (k < 65535) × (client ≤ 7) ⌝ }
+    requires { ⌜ SoundTable (memory (now words) (now store)) × (k < mostListed) × (client ≤ 7) ⌝ }
     ensures { λ r. ⌜
         ItemStepped (wayOf back) client (itemAt (now (items .entry)) k) (memory (now (words .entry)) (now (store .entry)))
         r (memory (now (words .exit)) (now (store .entry))) ⌝ }

@@ -13,7 +13,7 @@ use lib.Seq.{drop-cons, take-suc, take-suc-set, take-at}
 use Rattle.kinds.specs.Refusals.{order}
 use Rattle.kinds.proofs.Refusing.{true-false, same-test}
 use Rattle.fields.specs.Fields.{field, written, Bytes}
-use Rattle.fields.proofs.Laws.{written-front}
+use Rattle.fields.proofs.Fields.{written-front}
 use Rattle.fields.specs.declared.Written.{Written}
 use Rattle.bindings.specs.Bindings.{sameWords}
 use Rattle.bindings.proofs.Filtering.{same-lists}

@@ -17,12 +17,12 @@ use Rattle.columns.specs.declared.members.Members.{Members}
 use Rattle.lists.proofs.Tests.{true-or-false, and-intro}
 use Rattle.lists.proofs.Lists.{every-snoc}
 use Rattle.columns.proofs.members.Bits.{below-none}
-use Rattle.rules.specs.Entries.{PingSet, Entries, oids, withSets, withSequence, withMembers, setRow}
+use Rattle.rules.specs.Entries.{PingSet, Entries, oids, withSets, withSequence, withMembers, setRow, setPlaces}
 use Rattle.rules.specs.Calls.{Call}
 use Rattle.rules.specs.Sound.{proper, setMembersLive, sound}
 use Rattle.rules.specs.Rules.{noSet, setOf, isLiveSet, isLiveObject, tooMany, staleSequence, newMembers, refusals, number, next, heardNow}
 use Rattle.rules.proofs.SoundLaws.{sound-fields}
-use Rattle.rules.proofs.Pinging.{newSet}
+use Rattle.rules.proofs.PingingKeeps.{newSet}
 use Rattle.rules.proofs.ByRow.{set-live, set-row}
 use Rattle.rules.proofs.PingRows.{complex-ping-row, complex-ping-new}
 use Rattle.rules.specs.PingRows.{changeSet, pingedRow, updatedRow}
@@ -45,7 +45,7 @@ simple-rows s e = two-rows (eqb s 0) (not (isLiveSet e s)) 11 []
 module _ (s n : ℕ) (adds dels : List ℕ) (e : Entries) where
   -- of a complex ping of set 0
   abbrev pub newRows : List Row
-  newRows = not (every (isLiveObject e) adds) gives 5 ∷ leb 32 (length (e .sets)) gives 9 ∷ eqb (e .next) (2 ^ 64 - 1) gives 18 ∷ []
+  newRows = not (every (isLiveObject e) adds) gives 5 ∷ leb setPlaces (length (e .sets)) gives 9 ∷ eqb (e .next) (2 ^ 64 - 1) gives 18 ∷ []
 
   -- of another set
   abbrev pub liveRows : List Row
@@ -116,12 +116,12 @@ module _ (s n : ℕ) (adds dels : List ℕ) (e : Entries) (sd : sound e ≡ true
   rest-passed = passed (tooMany dels) 10 _ (omega arith) (passed (tooMany adds) 10 _ (omega arith) (sym (complex-rows s n adds dels e) ∙ z) .1) .1
 
   -- set 0: there is a place, and a number
-  pub new-fits : s ≡ 0 → (length (e .sets) < 32) × (e .next ≡ 2 ^ 64 - 1 → ⊥)
+  pub new-fits : s ≡ 0 → (length (e .sets) < setPlaces) × (e .next ≡ 2 ^ 64 - 1 → ⊥)
   new-fits h =
       let rows : order (newRows s n adds dels e) ≡ 0 = rw (eq-eqb s 0 h) at rest-passed in
       let full = passed _ 5 _ (omega arith) rows .1 in
       let used = passed _ 9 _ (omega arith) full .1 in
-      (leb-false 32 (length (e .sets)) (passed _ 9 _ (omega arith) full .0), eqb-false _ _ (passed _ 18 _ (omega arith) used .0))
+      (leb-false setPlaces (length (e .sets)) (passed _ 9 _ (omega arith) full .0), eqb-false _ _ (passed _ 18 _ (omega arith) used .0))
 
   -- another set is live
   live-set : eqb s 0 ≡ false → setRow e s < length (e .sets)

@@ -113,10 +113,10 @@ fn complex_number<'a>(
     ensures { λ r. ⌜
         Holds (λ e. r ≡ number (Call.complexPing (set .0) sequence (now (adds .entry)) (now (deletes .entry))) e) (now (words .entry)) ⌝ }
 {
-    if 65535 < adds.len() {
+    if answer::MOST_LISTED < adds.len() {
         return answer::TOO_MANY;
     }
-    if 65535 < deletes.len() {
+    if answer::MOST_LISTED < deletes.len() {
         return answer::TOO_MANY;
     }
     if set.0 == 0 {

@@ -101,7 +101,7 @@ pub fn resolve_filtered_step<'a>(
         Stepped (Call.resolveFiltered (oxid .0) (now (protocols .entry)) (now (buffer .entry))) (memory (now (words .entry)) (now (store .entry)))
         (resolveReply r (now (buffer .exit))) (memory (now (words .entry)) (now (store .entry))) ⌝ }
 {
-    if 65535 < protocols.len() {
+    if answer::MOST_LISTED < protocols.len() {
         return refused(answer::TOO_MANY);
     }
     let i = find::exporter_row(words, oxid);

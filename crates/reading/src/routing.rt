@@ -1,6 +1,5 @@
 // Where to go next with a reference: its exporter's list where that is live, else the reference's own list.
 use bindings::Place;
-use kinds::Oxid;
 use kinds::answer;
 use references::Reference;
 use table::find;
@@ -81,10 +80,12 @@ pub fn next_stop_step<'a>(words: &'a [u64], store: &'a [u8], reference: &'a [u8]
     if own.answer != answer::DONE {
         return refused(own.answer);
     }
-    if fields::read_u32(reference, 4) == Reference::CUSTOM {
+    let named = Reference::fields(reference);
+    if named.flags == Reference::CUSTOM {
         return refused(answer::LAYOUT);
     }
-    let i = find::exporter_row(words, Oxid(fields::read_u64(reference, 32)));
+    let block = named.block;
+    let i = find::exporter_row(words, block.oxid);
     if i < find::exporter_count(words) {
         return in_store(words, store, i);
     }

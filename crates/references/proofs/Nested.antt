@@ -16,17 +16,17 @@ use Rattle.references.specs.References.{isForm, listEnd, elementStart, c
 use Rattle.references.specs.Parts.{ElementFound}
 use Rattle.bindings.specs.Bindings.{refusal}
 use lib.Dec.{eqb}
-use Rattle.elements.proofs.Laws.{content-within}
-use Rattle.references.proofs.Laws.{by-form, Headed, headed, opened}
-use Rattle.fields.proofs.Laws.{field-drop}
+use Rattle.elements.proofs.ElementAnswers.{content-within}
+use Rattle.references.proofs.Forms.{by-form, Headed, headed, opened}
+use Rattle.fields.proofs.Fields.{field-drop}
 
 -- ---- an accepted reference
 
-record Level (d : ℕ) (s : List ℕ) : Type 0 where
-  head : Headed s
-  form : formAnswer (layoutAnswer d) s ≡ 0
+pub record Level (d : ℕ) (s : List ℕ) : Type 0 where
+  pub head : Headed s
+  pub form : formAnswer (layoutAnswer d) s ≡ 0
 
-level : (d : ℕ) (s : List ℕ) → 0 < d → layoutAnswer d s ≡ 0 → Level (d - 1) s
+pub level : (d : ℕ) (s : List ℕ) → 0 < d → layoutAnswer d s ≡ 0 → Level (d - 1) s
 unfolding layoutAnswer layoutBy
 level d s h done =
     let k : d ≡ suc (d - 1) = omega arith in
@@ -40,7 +40,7 @@ level-form d s h done = level d s h done .head .form
 
 -- ---- the data of its element
 
-content-from : (s : List ℕ) → take (contentLength s) (drop (contentStart s) s) ≡ elementContent (drop (elementStart s) s)
+pub content-from : (s : List ℕ) → take (contentLength s) (drop (contentStart s) s) ≡ elementContent (drop (elementStart s) s)
 content-from s = rw (field-drop s (elementStart s) 16 4 (omega arith), drop-drop 24 (elementStart s) s)
 
 pub record Inside (d : ℕ) (s : List ℕ) : Type 0 where

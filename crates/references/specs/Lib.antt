@@ -1,3 +1,2 @@
 pub mod References
 pub mod Parts
-pub mod RoundTrips

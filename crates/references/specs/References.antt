@@ -2,19 +2,18 @@
 -- 7; 000, sections 2.2.18 and 2.2.20).
 use Prim.Native.Nat.{ℕ, suc, zero, _+_, _/_, _%_}
 use mathlib.Core.Bool.{Bool, false, cond, not, _&&_, _||_}
-use mathlib.Core.List.{List, [], _∷_, _++_}
+use mathlib.Core.List.{List, [], _∷_}
 use lib.ListN.{length, take, drop}
 use lib.Dec.{eqb, ltb}
 use Rattle.kinds.specs.Refusals.{_gives_, passes, differ, order}
 use Rattle.kinds.specs.declared.Guid.{Guid}
-use Rattle.fields.specs.declared.Written.{Written}
-use Rattle.fields.specs.Fields.{field, encode, guidAt, guidBytes}
+use Rattle.fields.specs.Fields.{field, guidAt}
 use Rattle.bindings.specs.Bindings.{listLength, frontAnswer, listAnswer, bindingAt, refusal, bytesAt}
 use Rattle.bindings.specs.declared.Part.{Part}
 use Rattle.bindings.specs.declared.Place.{Place}
 use Rattle.contexts.specs.Contexts.{isMarshaler, contextAnswer, propertyPlace}
 use Rattle.references.specs.declared.Block.{Block}
-use Rattle.elements.specs.Elements.{signature, isNil, isReference, elementBytes, elementAnswer, givenAnswer, rounded}
+use Rattle.elements.specs.Elements.{signature, isNil, isReference, elementAnswer}
 use Rattle.references.specs.declared.Reference.{Reference}
 use Rattle.references.specs.declared.ReadReference.{ReadReference}
 
@@ -48,38 +47,6 @@ isExtended f = eqb f 8
 unfoldable pub fixedSize : ℕ → ℕ
 fixedSize f = byForm f 64 80 48 68 0
 
--- ---- layout
-
--- the standard object block: flags (4), public references (4), OXID (8), OID (8), IPID (16)
-unfoldable pub blockBytes : Block → List ℕ
-blockBytes b = encode 4 (b .flags) ++ encode 4 (b .public) ++ encode 8 (b .oxid .0) ++ encode 8 (b .oid .0) ++ guidBytes (b .ipid)
-
--- bit 0x1000 of a block's flags: no pinging
-abbrev pub isNoPing : Block → Bool
-isNoPing b = eqb (b .flags / 0x1000 % 2) 1
-
--- the header: signature (4), flags (4), IID (16)
-unfoldable pub headerBytes : Reference → List ℕ
-headerBytes r = encode 4 signature ++ encode 4 (r .flags) ++ guidBytes (r .iid)
-
--- the fields between the header and the list or object data: block; block, CLSID; CLSID, extension size, size; block, signature
-unfoldable pub bodyBytes : Reference → List ℕ
-bodyBytes r =
-    byForm (r .flags)
-    (blockBytes (r .block))
-    (blockBytes (r .block) ++ guidBytes (r .clsid))
-    (guidBytes (r .clsid) ++ encode 4 (r .extension) ++ encode 4 (r .size))
-    (blockBytes (r .block) ++ encode 4 extendedSignature)
-    []
-
--- what an extended reference has after its list: the number of elements, the signature again, and the element with the data x
-unfoldable pub elementsBytes : Reference → List ℕ → List ℕ
-elementsBytes r x = cond (isExtended (r .flags)) (encode 4 1 ++ encode 4 extendedSignature ++ elementBytes (r .element) x) []
-
--- a reference with its tail t, the binding list or the object data of the custom form, and the data x of its element
-unfoldable pub referenceBytes : Reference → List ℕ → List ℕ → List ℕ
-referenceBytes r t x = headerBytes r ++ bodyBytes r ++ t ++ elementsBytes r x
-
 -- ---- places
 
 -- where the list of an extended reference ends, and where its element begins
@@ -105,6 +72,10 @@ tailEnd s = cond (isExtended (field s 4 4)) (listEnd s) (length s)
 
 -- ---- the fields
 
+-- bit 0x1000 of a block's flags: no pinging
+abbrev pub isNoPing : Block → Bool
+isNoPing b = eqb (b .flags / 0x1000 % 2) 1
+
 abbrev pub noGuid : Guid
 noGuid = record { low = 0; high = 0 }
 
@@ -126,16 +97,6 @@ custom iid clsid extension size =
 
 abbrev pub extended : Guid → Block → Guid → Reference
 extended iid b element = record { flags = 8; iid = iid; block = b; clsid = noGuid; extension = 0; size = 0; element = element }
-
--- a reference without the fields that its form does not have
-unfoldable pub formed : Reference → Reference
-formed r =
-    byForm (r .flags)
-    (standard (r .iid) (r .block))
-    (handler (r .iid) (r .block) (r .clsid))
-    (custom (r .iid) (r .clsid) (r .extension) (r .size))
-    (extended (r .iid) (r .block) (r .element))
-    noReference
 
 abbrev pub blockAt : List ℕ → ℕ → Block
 blockAt s at =
@@ -222,9 +183,12 @@ unfoldable pub namesNil : ℕ → List ℕ → Bool
 namesNil zero s = false
 namesNil (suc d) s = nilGiven (namesNil d) (field s 4 4) (blockAt s 24) (contentOf s)
 
--- all of 13, 14 and 21 in byte order; then 22
+-- with d levels left: all of 13, 14 and 21 in byte order; then 22
+abbrev pub answerWithin : ℕ → List ℕ → ℕ
+answerWithin d s = order (passes (layoutAnswer d s) ∷ namesNil d s gives 22 ∷ [])
+
 unfoldable pub referenceAnswer : List ℕ → ℕ
-referenceAnswer s = order (passes (layoutAnswer mostDepth s) ∷ namesNil mostDepth s gives 22 ∷ [])
+referenceAnswer s = answerWithin mostDepth s
 
 abbrev pub refused : ℕ → ReadReference
 refused n = record { answer = n; reference = noReference }
@@ -268,40 +232,3 @@ contextPlace s k =
     (cond (isCustom (field s 4 4) && isMarshaler (guidAt s 24))
     (moved 48 (propertyPlace (drop 48 s) k))
     (refusal 24))
-
--- ---- writing a reference, its tail t and the data x of its element into a buffer of n bytes
-
--- the tail by itself: the list's refusals, bytes left over being 14; or those of the object data
-unfoldable pub tailAnswer : Reference → List ℕ → ℕ
-tailAnswer r t = byForm (r .flags) (listAnswer t) (listAnswer t) (objectAnswer (r .clsid) t) (listAnswer t) 0
-
--- the element's refusals; a form without elements has none
-abbrev pub elementGiven : Reference → List ℕ → ℕ
-elementGiven r x = cond (isExtended (r .flags)) (givenAnswer (layoutAnswer 7) (r .element) x) 0
-
--- a reference in the data of an element names zero
-abbrev pub contentNil : List ℕ → Bool
-contentNil x = isReference x && namesNil 7 x
-
--- bad flags 14; the tail's refusals; the element's; 22
-unfoldable pub valueAnswer : Reference → List ℕ → List ℕ → ℕ
-valueAnswer r t x =
-    order
-    (not (isForm (r .flags)) gives 14
-    ∷ passes (tailAnswer r t)
-    ∷ passes (elementGiven r x)
-    ∷ nilGiven (namesNil 7) (r .flags) (r .block) x gives 22
-    ∷ [])
-
-abbrev pub writtenLength : Reference → List ℕ → List ℕ → ℕ
-writtenLength r t x = fixedSize (r .flags) + length t + cond (isExtended (r .flags)) (32 + rounded (length x)) 0
-
--- then 15
-unfoldable pub writeAnswer : Reference → List ℕ → List ℕ → ℕ → ℕ
-writeAnswer r t x n = order (passes (valueAnswer r t x) ∷ ltb n (writtenLength r t x) gives 15 ∷ [])
-
-unfoldable pub writeReference : Reference → List ℕ → List ℕ → ℕ → Written
-writeReference r t x n =
-    cond (eqb (writeAnswer r t x n) 0)
-    (record { answer = 0; length = writtenLength r t x })
-    (record { answer = writeAnswer r t x n; length = 0 })

@@ -1,20 +1,17 @@
 // Object references (OBJREF) in the standard, handler, custom and extended forms.
 use bindings::Part;
 use bindings::Place;
-use fields::Written;
 use kinds::Guid;
 use kinds::Oid;
 use kinds::Oxid;
 use kinds::answer;
 ghost use mathlib.Core.Path.{_≡_};
 ghost use Prim.Native.Nat.{_+_, _≤_};
-ghost use mathlib.Core.List.{_++_};
-ghost use mathlib.Core.Bool.{true, cond};
+ghost use mathlib.Core.Bool.{true};
 ghost use lib.ListN.{length};
 ghost use Rattle.bindings.specs.Bindings.{refusal, PartOf};
-ghost use Rattle.fields.specs.Fields.{encode, written, stored};
-ghost use Rattle.elements.specs.Elements.{zeros, rounded, mostContent, elementBytes, contentAnswer, elementAnswer, givenAnswer};
-ghost use Rattle.references.specs.References.{fixedSize, isNoPing, isForm, isExtended, extendedSignature, hasNil, nilGiven, namesNil, blockAt, blockBytes, headerBytes, bodyBytes, elementsBytes, referenceBytes, noBlock, noReference, standard, handler, custom, extended, referenceAt, objectAnswer, headAnswer, plainAnswer, listEnd, extendedFront, layoutAnswer, referenceAnswer, readReference, tailPlace, referenceBinding, contentStart, contentLength, elementPlace, contextPlace, contentNil, elementGiven, tailAnswer, valueAnswer, writeReference};
+ghost use Rattle.elements.specs.Elements.{elementAnswer};
+ghost use Rattle.references.specs.References.{fixedSize, isNoPing, isForm, hasNil, namesNil, blockAt, noBlock, noReference, standard, handler, custom, extended, referenceAt, objectAnswer, headAnswer, plainAnswer, listEnd, extendedFront, layoutAnswer, answerWithin, referenceAnswer, readReference, tailPlace, referenceBinding, contentStart, contentLength, elementPlace, contextPlace};
 ghost use Rattle.references.specs.Parts.{ElementFound};
 
 // The standard object block (STDOBJREF).
@@ -304,7 +301,7 @@ fn head_answer(s: &[u8]) -> u32
 }
 
 // Of object data: a context where the CLSID says so.
-fn object_answer(clsid: Guid, t: &[u8]) -> u32
+pub fn object_answer(clsid: Guid, t: &[u8]) -> u32
     ensures { λ r. ⌜ r ≡ objectAnswer clsid (now (t .entry)) ⌝ }
 {
     if contexts::is_marshaler(clsid) {
@@ -446,18 +443,25 @@ fn names_nil(s: &[u8], d: usize) -> bool
     names_nil(&s[from..to], d - 1)
 }
 
+// Whether the bytes are a reference, with d levels left: 0, 13, 14, 21 or 22.
+pub fn answer_within(s: &[u8], d: usize) -> u32
+    ensures { λ r. ⌜ r ≡ answerWithin d (now (s .entry)) ⌝ }
+{
+    let number = layout(s, d);
+    if number != answer::DONE {
+        return number;
+    }
+    if names_nil(s, d) {
+        return answer::NIL_IDENTIFIER;
+    }
+    answer::DONE
+}
+
 // Whether the bytes are a reference: 0, 13, 14, 21 or 22.
 pub fn reference_answer(s: &[u8]) -> u32
     ensures { λ r. ⌜ r ≡ referenceAnswer (now (s .entry)) ⌝ }
 {
-    let number = layout(s, Reference::DEPTH);
-    if number != answer::DONE {
-        return number;
-    }
-    if names_nil(s, Reference::DEPTH) {
-        return answer::NIL_IDENTIFIER;
-    }
-    answer::DONE
+    answer_within(s, Reference::DEPTH)
 }
 
 // The place of a refusal.
@@ -640,231 +644,4 @@ pub fn property_data(s: &[u8], k: usize) -> &[u8]
     let from = x.from;
     let to = x.to;
     &s[from..to]
-}
-
-// ---- writing
-
-// The count, the signature and the element of an extended reference, which fill buf.
-fn write_element(id: Guid, x: &[u8], buf: &mut [u8])
-    requires { ⌜ (length (now x) ≤ mostContent) × (length (now buf) ≡ 32 + rounded (length (now x))) ⌝ }
-    ensures { λ _. ⌜ now (buf .exit) ≡ written (now (buf .entry)) 0 (encode 4 1 ++ encode 4 extendedSignature ++ elementBytes id (now (x .entry))) ⌝ }
-{
-    let n = x.len();
-    let m = (n + 7) / 8 * 8;
-    fields::write_u32(buf, 0, 1);
-    fields::write_u32(buf, 4, Reference::EXTENDED_SIGNATURE);
-    fields::write_guid(buf, 8, id);
-    fields::write_u32(buf, 24, n as u32);
-    fields::write_u32(buf, 28, m as u32);
-    fields::copy(buf, 32, x);
-    elements::fill(buf, 32 + n, m - n);
-}
-
-impl Block {
-    // Writes the block after the header.
-    fn write(self, buf: &mut [u8])
-        requires { ⌜ 64 ≤ length (now buf) ⌝ }
-        ensures { λ _. ⌜ now (buf .exit) ≡ written (now (buf .entry)) 24 (blockBytes self) ⌝ }
-    {
-        fields::write_u32(buf, 24, self.flags);
-        fields::write_u32(buf, 28, self.public);
-        let oxid = self.oxid;
-        fields::write_u64(buf, 32, oxid.0);
-        let oid = self.oid;
-        fields::write_u64(buf, 40, oid.0);
-        let ipid = self.ipid;
-        fields::write_guid(buf, 48, ipid);
-    }
-}
-
-// Of data that goes into the element of the outermost reference.
-fn content_answer(x: &[u8]) -> u32
-    ensures { λ r. ⌜ r ≡ contentAnswer (layoutAnswer 7) (now (x .entry)) ⌝ }
-{
-    if !elements::is_reference(x) {
-        return answer::DONE;
-    }
-    layout(x, 7)
-}
-
-// Of an identifier and data, to be written as an element.
-fn given_answer(id: Guid, x: &[u8]) -> u32
-    ensures { λ r. ⌜ r ≡ givenAnswer (layoutAnswer 7) id (now (x .entry)) ⌝ }
-{
-    if elements::is_nil(id) {
-        return answer::LAYOUT;
-    }
-    if x.len() == 0 {
-        return answer::LAYOUT;
-    }
-    if 0xFFFFFFF8 < x.len() {
-        return answer::LAYOUT;
-    }
-    content_answer(x)
-}
-
-// Whether a reference in the data of an element names zero.
-fn content_nil(x: &[u8]) -> bool
-    requires { ⌜ contentAnswer (layoutAnswer 7) (now x) ≡ 0 ⌝ }
-    ensures { λ r. ⌜ r ≡ contentNil (now (x .entry)) ⌝ }
-{
-    if !elements::is_reference(x) {
-        return false;
-    }
-    names_nil(x, 7)
-}
-
-impl Reference {
-    // Of the tail by itself.
-    fn tail_answer(self, tail: &[u8]) -> u32
-        ensures { λ r. ⌜ r ≡ tailAnswer self (now (tail .entry)) ⌝ }
-    {
-        let f = self.flags;
-        if !is_form(f) {
-            return answer::DONE;
-        }
-        if f == Reference::CUSTOM {
-            let clsid = self.clsid;
-            return object_answer(clsid, tail);
-        }
-        bindings::list_answer(tail)
-    }
-
-    // Of the element; a form without elements has none.
-    fn element_given(self, x: &[u8]) -> u32
-        ensures { λ r. ⌜ r ≡ elementGiven self (now (x .entry)) ⌝ }
-    {
-        if self.flags != Reference::EXTENDED {
-            return answer::DONE;
-        }
-        let id = self.element;
-        given_answer(id, x)
-    }
-
-    // Whether the block, or a reference in the element's data, names zero.
-    fn nil(self, x: &[u8]) -> bool
-        requires { ⌜ (isForm (self .flags) ≡ true) × (elementGiven self (now x) ≡ 0) ⌝ }
-        ensures { λ r. ⌜ r ≡ nilGiven (namesNil 7) (self .flags) (self .block) (now (x .entry)) ⌝ }
-    {
-        let f = self.flags;
-        if f == Reference::CUSTOM {
-            return false;
-        }
-        let block = self.block;
-        if block.has_nil() {
-            return true;
-        }
-        if f != Reference::EXTENDED {
-            return false;
-        }
-        content_nil(x)
-    }
-
-    // What is refused before the room is looked at: 0, 13, 14, 21 or 22.
-    fn value_answer(self, tail: &[u8], x: &[u8]) -> u32
-        ensures { λ r. ⌜ r ≡ valueAnswer self (now (tail .entry)) (now (x .entry)) ⌝ }
-    {
-        if !is_form(self.flags) {
-            return answer::LAYOUT;
-        }
-        let number = self.tail_answer(tail);
-        if number != answer::DONE {
-            return number;
-        }
-        let given = self.element_given(x);
-        if given != answer::DONE {
-            return given;
-        }
-        if self.nil(x) {
-            return answer::NIL_IDENTIFIER;
-        }
-        answer::DONE
-    }
-
-    // The bytes of the elements.
-    fn elements_length(self, x: &[u8]) -> usize
-        requires { ⌜ elementGiven self (now x) ≡ 0 ⌝ }
-        ensures { λ r. ⌜ (r ≡ cond (isExtended (self .flags)) (32 + rounded (length (now (x .entry)))) 0) × (r ≤ 4294967328) ⌝ }
-    {
-        if self.flags != Reference::EXTENDED {
-            return 0;
-        }
-        32 + (x.len() + 7) / 8 * 8
-    }
-
-    fn write_header(self, buf: &mut [u8])
-        requires { ⌜ 24 ≤ length (now buf) ⌝ }
-        ensures { λ _. ⌜ now (buf .exit) ≡ written (now (buf .entry)) 0 (headerBytes self) ⌝ }
-    {
-        fields::write_u32(buf, 0, Reference::SIGNATURE);
-        fields::write_u32(buf, 4, self.flags);
-        let iid = self.iid;
-        fields::write_guid(buf, 8, iid);
-    }
-
-    // Writes the fixed fields that each form has after the header.
-    fn write_body(self, buf: &mut [u8])
-        requires { ⌜ fixedSize (self .flags) ≤ length (now buf) ⌝ }
-        ensures { λ _. ⌜ now (buf .exit) ≡ written (now (buf .entry)) 24 (bodyBytes self) ⌝ }
-    {
-        let f = self.flags;
-        let block = self.block;
-        let clsid = self.clsid;
-        if f == Reference::STANDARD {
-            block.write(buf);
-        } else if f == Reference::HANDLER {
-            block.write(buf);
-            fields::write_guid(buf, 64, clsid);
-        } else if f == Reference::CUSTOM {
-            fields::write_guid(buf, 24, clsid);
-            fields::write_u32(buf, 40, self.extension);
-            fields::write_u32(buf, 44, self.size);
-        } else if f == Reference::EXTENDED {
-            block.write(buf);
-            fields::write_u32(buf, 64, Reference::EXTENDED_SIGNATURE);
-        }
-    }
-
-    // Writes the elements, which fill buf; a form without elements has none.
-    fn write_elements(self, x: &[u8], buf: &mut [u8])
-        requires { ⌜ (elementGiven self (now x) ≡ 0) × (length (now buf) ≡ cond (isExtended (self .flags)) (32 + rounded (length (now x))) 0) ⌝ }
-        ensures { λ _. ⌜ now (buf .exit) ≡ written (now (buf .entry)) 0 (elementsBytes self (now (x .entry))) ⌝ }
-    {
-        if self.flags == Reference::EXTENDED {
-            let id = self.element;
-            write_element(id, x, buf);
-        }
-    }
-
-    // Writes a reference with its list or object data, and the data of its element, at the front of buf, and keeps the rest.
-    pub fn write(self, tail: &[u8], x: &[u8], buf: &mut [u8]) -> Written
-        ensures { λ r. ⌜
-            (r ≡ writeReference self (now (tail .entry)) (now (x .entry)) (length (now (buf .entry))))
-            × (now (buf .exit) ≡ stored (r .answer) (referenceBytes self (now (tail .entry)) (now (x .entry))) (now (buf .entry))) ⌝ }
-    {
-        let number = self.value_answer(tail, x);
-        if number != answer::DONE {
-            return Written {
-                answer: number,
-                length: 0,
-            };
-        }
-        let start = fixed_size(self.flags);
-        let at = start + tail.len();
-        let length = at + self.elements_length(x);
-        if buf.len() < length {
-            return Written {
-                answer: answer::NO_ROOM,
-                length: 0,
-            };
-        }
-        self.write_header(buf);
-        self.write_body(buf);
-        fields::copy(buf, start, tail);
-        self.write_elements(x, &mut buf[at..length]);
-        Written {
-            answer: answer::DONE,
-            length: length,
-        }
-    }
 }

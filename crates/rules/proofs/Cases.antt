@@ -1,10 +1,10 @@
 -- The cases of the documents' edges, by computation.
 use mathlib.Core.Path.{refl}
 use Rattle.kinds.specs.Refusals.{order}
-use Rattle.fields.specs.Fields.{number as bytesNumber, encode, field}
+use Rattle.fields.specs.Fields.{bytesNumber, encode, field, allZero}
 use Rattle.bindings.specs.Bindings.{words, throughZero, firstBinding, bindingsUpTo, bindingsOf, joined, sameWords, isPart, twoParts, listLength, frontAnswer, listAnswer}
 use Rattle.contexts.specs.Contexts.{propertyAnswer, propertiesAnswer, extentsAnswer, headAnswer as contextHead, contextAnswer}
-use Rattle.elements.specs.Elements.{allZero, elementFront, elementEnd, elementAnswer}
+use Rattle.elements.specs.Elements.{elementFront, elementEnd, elementAnswer}
 use Rattle.references.specs.References.{fixedSize, objectAnswer, headAnswer, plainAnswer, extendedFront, extendedAnswer, formAnswer, layoutBy, layoutAnswer, namesNil, referenceAnswer}
 use Rattle.lists.specs.Lists.{keep, some, every, firstOr, distinct, tabulate, holding}
 use Rattle.lists.specs.Order.{insert, rising, bytesBefore}

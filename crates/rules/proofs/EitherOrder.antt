@@ -26,7 +26,8 @@ use Rattle.rules.specs.Rules.{isLiveObject, isLiveInterface, noInterface
 use Rattle.rules.specs.EitherOrder.{callDone, takenIn, interfaceWent, objectWent, CountCall, callOf, before, behind, objectOf, BothLast, SameAnswer, OrderIrrelevant}
 use Rattle.rules.proofs.SoundLaws.{sound-fields}
 use Rattle.rules.proofs.Stepping.{reply-number}
-use Rattle.rules.proofs.ByRow.{interfaces-distinct, full-kept}
+use Rattle.rules.proofs.ByRow.{interfaces-distinct}
+use Rattle.rules.proofs.NothingGoes.{full-kept}
 use Rattle.rules.proofs.Keeps.{keeps}
 
 -- ---- lists of which elements are changed and some kept

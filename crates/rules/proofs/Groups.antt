@@ -14,7 +14,7 @@ use Rattle.lists.proofs.Lists.{every-map, every-ext, every-append, every-snoc, 
 use Rattle.lists.proofs.Distinct.{Decides, Sublist, distinct-mid}
 use Rattle.rules.specs.Entries.{Exporter, Object, Interface, PingSet, Entries, oxids, oids, ipids, listBytes, withNext, withInterfaces, withSets}
 use Rattle.rules.specs.Sound.{longestList, storeBytes, proper, properGuids, held, sound, heardWithin, pingedWithin}
-use Rattle.rules.proofs.SoundLaws.{Sound, sound-fields, sound-made}
+use Rattle.rules.proofs.SoundLaws.{Sound, sound-fields, sound-groups, none, _and_}
 
 -- ---- identifiers of a kind: nonzero and distinct
 
@@ -130,23 +130,14 @@ grouped e h = fields-grouped e (sound-fields e h)
 -- and back
 pub sound-grouped : (e : Entries) → Grouped e → sound e ≡ true
 sound-grouped e g =
-    sound-made e
-    (record {
-      exportersProper = g .exporters .ids;
-      objectsProper = g .objects .ids;
-      ipidsProper = g .ids;
-      setsProper = g .sets .ids;
-      interfaceObjectsLive = g .interfaces .named;
-      objectExportersLive = g .objects .named;
-      objectsHaveInterfaces = sym (serving-objects (e .objects) (e .interfaces)) ∙ g .interfaces .serving;
-      interfacesHeld = g .interfaces .counted;
-      setMembersLive = g .sets .named;
-      heardBefore = g .objects .byClock;
-      pingedBefore = g .sets .byClock;
-      heardRecently = g .objects .lately;
-      pingedRecently = g .sets .lately;
-      nextNonzero = g .sets .nonzero;
-      setsBelowNext = g .sets .below;
-      listsKept = g .exporters .lists;
-      listsInside = g .exporters .inside;
-    })
+    let xs = g .exporters in
+    let os = g .objects in
+    let is = g .interfaces in
+    let ss = g .sets in
+    sound-groups e
+    ∙ ((xs .ids and xs .lists and xs .inside and none) .together
+    and (os .ids and os .named and (sym (serving-objects (e .objects) (e .interfaces)) ∙ is .serving) and os .byClock and os .lately and none) .together
+    and (g .ids and is .named and is .counted and none) .together
+    and (ss .ids and ss .byClock and ss .lately and ss .below and ss .nonzero and ss .named and none) .together
+    and none)
+    .together

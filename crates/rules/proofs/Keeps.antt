@@ -21,10 +21,10 @@ use Rattle.rules.specs.Rules.{counted, itemsDone, refusals, number, next
 use Rattle.rules.specs.Contract.{Keeps}
 use Rattle.rules.proofs.SoundLaws.{clause-at}
 use Rattle.rules.proofs.Groups.{Grouped, grouped, sound-grouped}
-use Rattle.rules.proofs.Counts.{entered-held}
-use Rattle.rules.proofs.Entering.{exporter-entered, object-entered, interface-entered, counts-added}
-use Rattle.rules.proofs.Leaving.{exporter-removed, clock-set, counts-taken}
-use Rattle.rules.proofs.Pinging.{set-pinged, members-pinged}
+use Rattle.rules.proofs.ChangedCounts.{entered-held}
+use Rattle.rules.proofs.EnteringKeeps.{exporter-entered, object-entered, interface-entered, counts-added}
+use Rattle.rules.proofs.LeavingKeeps.{exporter-removed, clock-set, counts-taken}
+use Rattle.rules.proofs.PingingKeeps.{set-pinged, members-pinged}
 
 -- no entries are sound
 pub fresh-sound : (t : ℕ) → sound (fresh t) ≡ true

@@ -11,7 +11,7 @@ use Rattle.rules.specs.Entries.{Entries}
 use Rattle.rules.specs.Calls.{Counting}
 use Rattle.rules.specs.Items.{Item, itemCall}
 use Rattle.rules.specs.Rules.{itemDone, itemsDone, itemNumbers, number, fronted}
-use Rattle.rules.proofs.Listing.{length-numbers}
+use Rattle.rules.proofs.OneByOne.{length-numbers}
 
 abbrev pub noItem : Item
 noItem = record { ipid = nil; public = 0; private = 0 }

@@ -6,21 +6,27 @@ use mathlib.Core.List.{List, [], _∷_}
 use native.Mathlib.Omega.{arith}
 use native.Mathlib.Nat.{add-zero}
 use borrow.Author.Tests.{eq-eqb}
-use lib.ListN.{length, length-append, length-map, length-set}
+use lib.ListN.{set, length, length-append, length-map, length-set}
 use lib.Seq.{map-set-same}
 use lib.Dec.{eqb}
 use Rattle.kinds.proofs.Refusing.{or-false}
 use Rattle.lists.specs.Lists.{distinct, firstIndex, among}
 use Rattle.lists.proofs.Lists.{map-append}
 use Rattle.lists.proofs.First.{first-here, first-right}
-use Rattle.rules.specs.Entries.{PingSet, Entries, setNumbers, pingedAt, setRow}
+use Rattle.lists.proofs.Distinct.{eqb-decides, entry-change}
+use Rattle.rules.specs.Entries.{PingSet, Entries, setNumbers, pingedAt, setRow, withSets}
 use Rattle.rules.specs.Calls.{simplePing, complexPing}
 use Rattle.rules.specs.Sound.{sound}
 use Rattle.rules.specs.PingRows.{changeSet, pingedRow, updatedRow}
 use Rattle.rules.specs.Rules.{noSet, atSet, ping, makeSet, next, heardNow}
 use Rattle.rules.proofs.Groups.{fine-distinct, grouped}
-use Rattle.rules.proofs.Pinging.{newSet, next-free, set-made}
-use Rattle.rules.proofs.ByRow.{setIn, set-row, at-set-row, sets-distinct}
+use Rattle.rules.proofs.PingingKeeps.{newSet, next-free, set-made}
+use Rattle.rules.proofs.ByRow.{setIn, set-row, sets-distinct}
+
+-- a set changed, in its row
+at-set-row : (e : Entries) (s : ℕ) (f : PingSet → PingSet) → setRow e s < length (e .sets) → distinct eqb (setNumbers e) ≡ true
+    → atSet s f e ≡ withSets (set (e .sets) (setRow e s) (f (setIn e s))) e
+at-set-row e s f h u = ap (λ (l : List PingSet). withSets l e) (entry-change eqb eqb-decides (λ (p : PingSet). p .number) noSet s (e .sets) h u f)
 
 -- a ping of the set in a row
 ping-row : (e : Entries) (s : ℕ) → setRow e s < length (e .sets) → distinct eqb (setNumbers e) ≡ true → ping s e ≡ pingedRow (setRow e s) e

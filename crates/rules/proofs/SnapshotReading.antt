@@ -8,8 +8,8 @@ use borrow.Author.Tests.{leb-true}
 use lib.ListN.{length, drop, length-append}
 use lib.Seq.{drop-append-add, take-at, drop-at}
 use lib.Dec.{eqb, leb}
-use Rattle.fields.specs.Fields.{number, encode, field}
-use Rattle.fields.proofs.Laws.{length-encode, field-as}
+use Rattle.fields.specs.Fields.{encode, field}
+use Rattle.fields.proofs.Fields.{length-encode, field-as}
 use Rattle.bindings.specs.Bindings.{joined}
 use Rattle.lists.specs.Lists.{tabulate}
 use Rattle.lists.proofs.Tests.{holding-head, holding-tail}
@@ -17,7 +17,7 @@ use Rattle.lists.proofs.Lists.{tabulate-ext}
 use Rattle.rules.specs.Entries.{Exporter, Object, Interface, PingSet, Entries}
 use Rattle.rules.specs.Snapshot.{inRow, section, exporterBytes, objectBytes, interfaceBytes, setBytes, sections, Front, readRow, readSection, readNumber, readExporter, readObject, readInterface, readSet, entriesOf, placed}
 use Rattle.rules.specs.Swapping.{Each, ExporterFits, ObjectFits, InterfaceFits, SetFits, Fits, ReadsBack}
-use Rattle.rules.proofs.Listing.{field-back}
+use Rattle.rules.proofs.OneByOne.{field-back}
 
 -- ---- fields one after the other
 

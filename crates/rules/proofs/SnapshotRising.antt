@@ -9,7 +9,7 @@ use lib.Seq.{take-all}
 use lib.Dec.{eqb, ltb}
 use Rattle.kinds.specs.declared.Guid.{Guid}
 use Rattle.fields.specs.Fields.{guidBytes, guidAt, GuidFits}
-use Rattle.fields.proofs.Laws.{length-guid, guid-as}
+use Rattle.fields.proofs.Fields.{length-guid, guid-as}
 use Rattle.lists.specs.Lists.{distinct, among}
 use Rattle.lists.specs.Guids.{sameGuid}
 use Rattle.lists.specs.Order.{rising, ascending, bytesBefore}

@@ -7,7 +7,7 @@ use native.Mathlib.Omega.{arith}
 use borrow.Author.Tests.{leb-true}
 use lib.ListN.{length, length-append, length-map}
 use Rattle.fields.specs.Fields.{encode}
-use Rattle.fields.proofs.Laws.{length-encode, length-guid}
+use Rattle.fields.proofs.Fields.{length-encode, length-guid}
 use Rattle.bindings.specs.Bindings.{joined}
 use Rattle.lists.specs.Lists.{keep, among}
 use Rattle.lists.specs.Order.{rising}

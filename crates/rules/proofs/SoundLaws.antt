@@ -1,4 +1,4 @@
--- The clauses of `sound` by name.
+-- The clauses of `sound` by name, and by group.
 use Prim.Native.Nat.{ℕ, zero, suc}
 use mathlib.Core.Path.{_≡_, refl}
 use mathlib.Core.Bool.{Bool, true, not}
@@ -6,10 +6,11 @@ use mathlib.Core.List.{List, [], _∷_}
 use lib.Dec.{eqb}
 use lib.ListN.{length, getD}
 use borrow.Author.Tests.{eq-eqb, eqb-true}
+use Rattle.kinds.proofs.Refusing.{same-test}
 use Rattle.lists.specs.Lists.{holding}
 use Rattle.lists.proofs.Tests.{and-left, and-right, holding-nil, holding-cons, holding-head, holding-tail}
 use Rattle.rules.specs.Entries.{Entries, oxids, oids, ipids, setNumbers}
-use Rattle.rules.specs.Sound.{proper, properGuids, interfaceObjectsLive, objectExportersLive, objectsHaveInterfaces, interfacesHeld, setMembersLive, heardBefore, pingedBefore, heardRecently, pingedRecently, setsBelowNext, listsKept, listsInside, sound}
+use Rattle.rules.specs.Sound.{proper, properGuids, interfaceObjectsLive, objectExportersLive, objectsHaveInterfaces, interfacesHeld, setMembersLive, heardBefore, pingedBefore, heardRecently, pingedRecently, setsBelowNext, listsKept, listsInside, sound, groups}
 use Rattle.rules.specs.Contract.{Memory, rightLengths, soundMemory, SoundTable}
 
 -- the clause at an index of clauses that hold
@@ -72,28 +73,41 @@ infixr 5 _and_
 pub _and_ : {b : Bool} {bs : List Bool} → b ≡ true → Holding bs → Holding (b ∷ bs)
 _and_ {b} {bs} p q = record { together = holding-cons b bs p (q .together) }
 
-pub sound-made : (e : Entries) → Sound e → sound e ≡ true
-unfolding sound
-sound-made e s =
-    (s .exportersProper
-    and s .objectsProper
-    and s .ipidsProper
-    and s .setsProper
-    and s .interfaceObjectsLive
-    and s .objectExportersLive
-    and s .objectsHaveInterfaces
-    and s .interfacesHeld
-    and s .setMembersLive
-    and s .heardBefore
-    and s .pingedBefore
-    and s .heardRecently
-    and s .pingedRecently
-    and s .nextNonzero
-    and s .setsBelowNext
-    and s .listsKept
-    and s .listsInside
+-- ---- by groups
+
+-- the groups hold where every clause does
+groups-hold : (e : Entries) → Sound e → holding (groups e) ≡ true
+groups-hold e s =
+    ((s .exportersProper and s .listsKept and s .listsInside and none) .together
+    and (s .objectsProper and s .objectExportersLive and s .objectsHaveInterfaces and s .heardBefore and s .heardRecently and none) .together
+    and (s .ipidsProper and s .interfaceObjectsLive and s .interfacesHeld and none) .together
+    and (s .setsProper and s .pingedBefore and s .pingedRecently and s .setsBelowNext and s .nextNonzero and s .setMembersLive and none) .together
     and none)
     .together
+
+groups-sound : (e : Entries) → holding (groups e) ≡ true → sound e ≡ true
+unfolding sound
+groups-sound e h =
+    let xs = clause-at (groups e) 0 h in
+    let os = clause-at (groups e) 1 h in
+    let is = clause-at (groups e) 2 h in
+    let ss = clause-at (groups e) 3 h in
+    (clause-at _ 0 xs and clause-at _ 0 os and clause-at _ 0 is and clause-at _ 0 ss
+    and clause-at _ 1 is and clause-at _ 1 os and clause-at _ 2 os and clause-at _ 2 is and clause-at _ 5 ss
+    and clause-at _ 3 os and clause-at _ 1 ss and clause-at _ 4 os and clause-at _ 2 ss
+    and clause-at _ 4 ss and clause-at _ 3 ss and clause-at _ 1 xs and clause-at _ 2 xs and none)
+    .together
+
+-- `sound` is its four groups together
+pub sound-groups : (e : Entries) → sound e ≡ holding (groups e)
+sound-groups e =
+    same-test (sound e) (holding (groups e))
+    (λ h. groups-hold e (sound-fields e h))
+    (groups-sound e)
+
+-- sound where every clause holds
+pub sound-made : (e : Entries) → Sound e → sound e ≡ true
+sound-made e s = groups-sound e (groups-hold e s)
 
 -- ---- of a lent table
 

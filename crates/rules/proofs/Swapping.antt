@@ -10,7 +10,7 @@ use lib.ListN.{length, getD, drop, length-take, List·getD-eq-default}
 use lib.Dec.{eqb, ltb}
 use Rattle.kinds.specs.declared.Guid.{Guid}
 use Rattle.fields.specs.Fields.{encode, field, guidBytes, Bytes}
-use Rattle.fields.proofs.Laws.{drop-bytes, take-bytes, field-bound, guid-fits}
+use Rattle.fields.proofs.Fields.{drop-bytes, take-bytes, field-bound, guid-fits}
 use Rattle.bindings.specs.Bindings.{joined, sameWords}
 use Rattle.bindings.proofs.Filtering.{same-lists}
 use Rattle.lists.specs.Lists.{every}

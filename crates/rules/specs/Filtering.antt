@@ -9,13 +9,13 @@ use Rattle.bindings.specs.Filter.{allRequested}
 use Rattle.rules.specs.Entries.{Entries}
 use Rattle.rules.specs.Calls.{resolve, resolveFiltered}
 use Rattle.rules.specs.Sound.{sound}
-use Rattle.rules.specs.Rules.{exporterOf, reply}
+use Rattle.rules.specs.Rules.{mostListed, exporterOf, reply}
 
 -- a request within the limit that asks for every tower present: the whole reply is the resolve's, refusals included
 abbrev pub FilteredAgrees : Type 0
 FilteredAgrees =
     (e : Entries) (x : ℕ) (protocols buffer : List ℕ)
-    → length protocols ≤ 65535
+    → length protocols ≤ mostListed
     → Bytes (exporterOf e x .bindings)
     → allRequested protocols (exporterOf e x .bindings) ≡ true
     → sound e ≡ true

@@ -117,3 +117,21 @@ sound e =
     ∷ listsKept e
     ∷ listsInside e
     ∷ [])
+
+-- ---- the same clauses in groups, by the kind of entry that they are about
+
+abbrev pub exporterClauses : Entries → List Bool
+exporterClauses e = proper (oxids e) ∷ listsKept e ∷ listsInside e ∷ []
+
+abbrev pub objectClauses : Entries → List Bool
+objectClauses e = proper (oids e) ∷ objectExportersLive e ∷ objectsHaveInterfaces e ∷ heardBefore e ∷ heardRecently e ∷ []
+
+abbrev pub interfaceClauses : Entries → List Bool
+interfaceClauses e = properGuids (ipids e) ∷ interfaceObjectsLive e ∷ interfacesHeld e ∷ []
+
+abbrev pub setClauses : Entries → List Bool
+setClauses e = proper (setNumbers e) ∷ pingedBefore e ∷ pingedRecently e ∷ setsBelowNext e ∷ not (eqb (e .next) 0) ∷ setMembersLive e ∷ []
+
+-- `sound` is these four together: `sound-groups`
+abbrev pub groups : Entries → List Bool
+groups e = holding (exporterClauses e) ∷ holding (objectClauses e) ∷ holding (interfaceClauses e) ∷ holding (setClauses e) ∷ []

@@ -20,13 +20,13 @@ use Rattle.lists.specs.Lists.{tabulate}
 use Rattle.rules.specs.Entries.{Object, Interface, PingSet, Entries, countOf, withCount, oids, withObjects, withInterfaces, withSets, withMembers}
 use Rattle.rules.specs.Sound.{held, setMembersLive, pingedWithin}
 use Rattle.rules.specs.Rules.{noObject, noInterface, noSet, isLiveObject, emptied}
-use Rattle.rules.proofs.ByRow.{nothing-goes}
+use Rattle.rules.proofs.NothingGoes.{nothing-goes}
 use Rattle.table.specs.View.{objectCount, setCount, setsOf, memory, view, oidsOf}
 use Rattle.table.specs.Edits.{membersAt, membersBelow, dropObject, dropInterface, dropSet, changeInterface}
 use Rattle.table.proofs.LiveRows.{sets-length, set-at}
 use Rattle.table.proofs.edit.Members.{oids-length, below-at}
 use Rattle.settling.specs.Leaving.{stays, objectsLeft, interfacesLeft, setsLeft, leftAt, interfaceLeftAt, setLeftAt, cleared, heldLeft, heldLeftAt}
-use Rattle.settling.proofs.Clearing.{clear-row, clear-all, row-cleared}
+use Rattle.settling.proofs.ClientDrop.{clear-row, clear-all, row-cleared}
 use Rattle.settling.specs.declared.Leaving.{Leaving}
 use Rattle.settling.specs.declared.Leaving.the-variants.{ExporterRemoved, NoInterface, Unheard}
 

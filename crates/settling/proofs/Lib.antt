@@ -1,4 +1,4 @@
-pub mod Clearing
+pub mod ClientDrop
 pub mod Going
 pub mod Settling
 pub mod Staying

@@ -8,7 +8,7 @@ use borrow.Author.Tests.{ltb-true}
 use lib.Dec.{ltb}
 use lib.ListN.{length, getD, drop, length-append}
 use Rattle.fields.specs.Fields.{written}
-use Rattle.fields.proofs.Laws.{written-none, written-two, length-written}
+use Rattle.fields.proofs.Fields.{written-none, written-two, length-written}
 use Rattle.lists.specs.Lists.{every}
 use Rattle.lists.proofs.Lists.{every-at}
 use Rattle.columns.proofs.Loops.{column-step, column-end}

@@ -9,7 +9,7 @@ use native.Mathlib.Omega.{arith}
 use borrow.Author.Tests.{le-leb}
 use lib.ListN.{length, getD, drop, length-map, length-take, length-drop, List·getD-eq-default}
 use lib.Dec.{leb}
-use Rattle.fields.proofs.Laws.{drop-bytes, take-bytes}
+use Rattle.fields.proofs.Fields.{drop-bytes, take-bytes}
 use Rattle.bindings.specs.Bindings.{listLength}
 use Rattle.lists.specs.Lists.{tabulate}
 use Rattle.lists.proofs.Tests.{below-or-not}
@@ -20,7 +20,7 @@ use Rattle.columns.specs.Members.{hasMember, memberRows}
 use Rattle.columns.specs.declared.members.Members.{Members}
 use Rattle.columns.specs.declared.rows.Kind.{Kind}
 use Rattle.columns.proofs.rows.Laws.{rowAt-getD}
-use Rattle.rules.specs.Entries.{Object, countLimit}
+use Rattle.rules.specs.Entries.{Object, countLimit, exporterPlaces, objectPlaces, interfacePlaces, setPlaces}
 use Rattle.rules.specs.Contract.{Memory}
 use Rattle.rules.specs.Snapshot.{placed}
 use Rattle.rules.specs.Swapping.{Each, ExporterFits, ObjectFits, InterfaceFits, SetFits}
@@ -138,10 +138,10 @@ view-fits m l =
       interfaces = interfaces-fit m l;
       sets = sets-fit m l;
       places =
-          (few _ (exporterCount ws) 16 (exporters-length ws (m .store)) (omega arith)
-          and few _ (objectCount ws) 128 (objects-length ws) (omega arith)
-          and few _ (interfaceCount ws) 256 (interfaces-length ws) (omega arith)
-          and few _ (setCount ws) 32 (sets-length ws) (omega arith)
+          (few _ (exporterCount ws) exporterPlaces (exporters-length ws (m .store)) (omega arith)
+          and few _ (objectCount ws) objectPlaces (objects-length ws) (omega arith)
+          and few _ (interfaceCount ws) interfacePlaces (interfaces-length ws) (omega arith)
+          and few _ (setCount ws) setPlaces (sets-length ws) (omega arith)
           and none)
           .together;
     }

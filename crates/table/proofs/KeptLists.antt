@@ -11,7 +11,7 @@ use lib.ListN.{length, take, drop, length-drop, take-append-drop}
 use lib.Seq.{length-take-le}
 use Rattle.kinds.proofs.Refusing.{same-test}
 use Rattle.bindings.specs.Bindings.{listLength, frontAnswer, listAnswer}
-use Rattle.bindings.proofs.Laws.{front, front-list, list-front}
+use Rattle.bindings.proofs.ListAnswers.{front, front-list, list-front}
 use Rattle.lists.specs.Lists.{tabulate, holding}
 use Rattle.lists.proofs.Tests.{and-intro, and-left, and-right, holding-nil, holding-cons, holding-head}
 use Rattle.lists.proofs.Lists.{every-at, tabulate-snoc}

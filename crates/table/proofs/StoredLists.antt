@@ -11,9 +11,9 @@ use lib.ListN.{length, take, drop, length-take}
 use lib.Seq.{drop-at, length-take-le, take-take}
 use Rattle.kinds.proofs.Refusing.{same-test}
 use Rattle.fields.specs.Fields.{field, written}
-use Rattle.fields.proofs.Laws.{part-of, written-front}
+use Rattle.fields.proofs.Fields.{part-of, written-front}
 use Rattle.bindings.specs.Bindings.{listLength, listAnswer}
-use Rattle.bindings.proofs.Laws.{list-front-taken}
+use Rattle.bindings.proofs.ListAnswers.{list-front-taken}
 use Rattle.lists.specs.Lists.{skip}
 use Rattle.lists.proofs.Tests.{below-or-not}
 use Rattle.lists.proofs.Lists.{skip-below, skip-from}

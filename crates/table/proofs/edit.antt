@@ -4,6 +4,6 @@ pub mod Views
 pub mod Clearing
 pub mod Changes
 pub mod Cuts
-pub mod Lists
+pub mod ExporterLists
 pub mod Members
 pub mod Below

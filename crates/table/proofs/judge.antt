@@ -1,4 +1,3 @@
 -- What the judgement's clauses say, by column and by row.
 pub mod Checks
-pub mod Groups
 pub mod Clauses

@@ -9,8 +9,7 @@ ghost use Rattle.lists.specs.Lists.{holding};
 ghost use Rattle.rules.specs.Entries.{oids, ipids};
 ghost use Rattle.table.specs.View.{memory, view, soundMemory, Holds, oidsOf};
 ghost use Rattle.rules.specs.Contract.{Whole};
-ghost use Rattle.rules.specs.Sound.{proper, properGuids, interfacesHeld, setMembersLive, heardRecently, listsKept};
-ghost use Rattle.table.specs.Clauses.{exporterClauses, objectClauses, interfaceClauses, setClauses};
+ghost use Rattle.rules.specs.Sound.{proper, properGuids, interfacesHeld, setMembersLive, heardRecently, listsKept, exporterClauses, objectClauses, interfaceClauses, setClauses};
 
 // Nonzero and distinct.
 fn are_proper(col: &[u64]) -> bool

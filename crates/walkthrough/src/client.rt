@@ -1,26 +1,41 @@
 // A client, and the clock.
 use crate::say;
 use crate::server;
+use counting::Released;
+use kinds::Guid;
 use kinds::Oid;
 use kinds::Oxid;
 use kinds::SetId;
 use kinds::answer;
+use leaving::Expired;
+use pinging::Pinged;
 use references::Block;
 use references::Reference;
 
 // Reads the reference, goes where it leads, takes references of its own, and puts the object into a set; the set.
 fn take_up<'a>(words: &'a mut [u64], store: &'a [u8], reference: &'a [u8]) -> SetId {
-    let read = Reference::read(reference);
-    say::step(read.answer, b"client: reads the reference");
-    described(read.reference.block);
+    let block = read(reference);
     next_stop(words, store, reference);
-    resolve(words, store, read.reference.block.oxid);
-    resolve_udp(words, store, read.reference.block.oxid);
+    resolve(words, store, block.oxid);
+    resolve_udp(words, store, block.oxid);
+    take_more(words, store, block.ipid);
+    make_set(words, store, block.oid)
+}
+
+// The block of the reference.
+fn read(reference: &[u8]) -> Block {
+    let r = Reference::read(reference);
+    say::step(r.answer, b"client: reads the reference");
+    let block = r.reference.block;
+    described(block);
+    block
+}
+
+fn take_more<'a>(words: &'a mut [u64], store: &'a [u8], ipid: Guid) {
     say::done(
-        resolver::add(words, store, 0, read.reference.block.ipid, 2, 1),
+        resolver::add(words, store, 0, ipid, 2, 1),
         b"client: takes 2 public and 1 private references more",
     );
-    make_set(words, store, read.reference.block.oid)
 }
 
 // A set with one object.
@@ -28,11 +43,15 @@ fn make_set<'a>(words: &'a mut [u64], store: &'a [u8], oid: Oid) -> SetId {
     let adds = [oid.0];
     let deletes = [0u64; 1];
     let r = resolver::complex_ping(words, store, SetId(0), 1, &adds, &deletes[0..0]);
+    made(r);
+    r.set
+}
+
+fn made(r: Pinged) {
     say::step(r.answer, b"client: pings with the object in a new set");
     say::counted(b", set ", r.set.0);
     say::counted(b", backoff ", r.backoff as u64);
     print::end_line();
-    r.set
 }
 
 fn described(block: Block) {
@@ -64,12 +83,15 @@ fn next_stop<'a>(words: &'a [u64], store: &'a [u8], reference: &'a [u8]) {
 fn resolve<'a>(words: &'a [u64], store: &'a [u8], oxid: Oxid) {
     let mut list = [0u8; 2048];
     let r = resolver::resolve(words, store, oxid, &mut list);
-    let n = r.length;
-    say::step(r.answer, b"client: resolves the exporter");
-    if r.answer != answer::DONE {
-        say::counted(b", code ", kinds::wire_code(r.answer) as u64);
+    resolved(r.answer, &list, r.length);
+}
+
+fn resolved(number: u32, list: &[u8], n: usize) {
+    say::step(number, b"client: resolves the exporter");
+    if number != answer::DONE {
+        say::counted(b", code ", kinds::wire_code(number) as u64);
         print::text(b" on the wire");
-    } else if n <= 2048 {
+    } else if n <= list.len() {
         say::counted(b", ", n as u64);
         print::text(b" bytes, ");
         say::address(&list[0..n]);
@@ -89,7 +111,10 @@ fn resolve_udp<'a>(words: &'a [u64], store: &'a [u8], oxid: Oxid) {
 
 // So many periods of two minutes have passed since the table was reset.
 fn pass<'a>(words: &'a mut [u64], store: &'a [u8], periods: u32) {
-    let r = resolver::clock(words, store, server::OPENED + 120 * periods as u64);
+    went(resolver::clock(words, store, server::OPENED + 120 * periods as u64));
+}
+
+fn went(r: Expired) {
     say::step(r.answer, b"clock: two minutes later");
     say::counted(b", ", r.objects as u64);
     say::counted(b" objects, ", r.interfaces as u64);
@@ -99,7 +124,10 @@ fn pass<'a>(words: &'a mut [u64], store: &'a [u8], periods: u32) {
 
 fn give_back<'a>(words: &'a mut [u64], store: &'a [u8]) {
     let interface = server::ipid();
-    let r = resolver::release(words, store, 0, interface, 7, 1);
+    given_back(resolver::release(words, store, 0, interface, 7, 1));
+}
+
+fn given_back(r: Released) {
     say::step(
         r.answer,
         b"client: gives 7 public and 1 private references back",
@@ -166,10 +194,7 @@ pub fn leave<'a>(words: &'a mut [u64], store: &'a [u8], set: SetId) {
     share(words, store);
     give_back(words, store);
     count_members(words, store, set);
-    say::done(
-        resolver::drop_client(words, store, 1),
-        b"server: drops the private references of client 1",
-    );
+    server::drop_lost(words, store);
     count_members(words, store, set);
 }
 

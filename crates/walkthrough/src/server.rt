@@ -47,16 +47,20 @@ fn put_bindings(list: &mut [u8]) {
 
 // Registers at eight minutes to noon.
 pub fn open<'a>(words: &'a mut [u64], store: &'a mut [u8]) {
+    say::done(
+        resolver::reset(words, store, OPENED),
+        b"server: resets its table at eight minutes to noon",
+    );
+    register(words, store);
+}
+
+fn register<'a>(words: &'a mut [u64], store: &'a mut [u8]) {
     let mut list = [0u8; 44];
     put_bindings(&mut list);
     let unknown = Guid {
         low: 0x0000110100000001,
         high: 0x4600000000000001,
     };
-    say::done(
-        resolver::reset(words, store, OPENED),
-        b"server: resets its table at eight minutes to noon",
-    );
     say::done(
         resolver::enter_exporter(words, store, Oxid(OXID), unknown, &list),
         b"server: registers as exporter",
@@ -89,7 +93,7 @@ fn write(reference: &mut [u8]) {
     let interface = ipid();
     let group = iid();
     let block = Block::new(0, 5, Oxid(OXID), Oid(OID), interface);
-    let r = Reference::standard(group, block).write(&list, b"", reference);
+    let r = reference_writer::write(Reference::standard(group, block), &list, b"", reference);
     say::step(r.answer, b"server: writes the reference");
     say::counted(b", ", r.length as u64);
     print::text(b" bytes\n");
@@ -120,6 +124,14 @@ pub fn count<'a>(words: &'a [u64], store: &'a [u8]) {
     say::counted(b" objects, ", r.interfaces as u64);
     say::counted(b" interfaces, ", r.sets as u64);
     print::text(b" sets\n");
+}
+
+// A client is lost.
+pub fn drop_lost<'a>(words: &'a mut [u64], store: &'a [u8]) {
+    say::done(
+        resolver::drop_client(words, store, 1),
+        b"server: drops the private references of client 1",
+    );
 }
 
 // Leaves.

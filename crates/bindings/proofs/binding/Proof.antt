@@ -5,7 +5,7 @@ use borrow.Author.Needs.{needs}
 use lib.ListN.{length}
 use Rattle.bindings.specs.Bindings.{bytesAt}
 use Rattle.bindings.specs.declared.Place.{Place}
-use Rattle.bindings.proofs.Laws.{Within, within-binding}
+use Rattle.bindings.proofs.ListAnswers.{Within, within-binding}
 use Rattle.bindings.proofs.binding.Statement.{statement}
 use Rattle.bindings.proofs.binding.Tie as tie
 

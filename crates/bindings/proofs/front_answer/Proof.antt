@@ -8,7 +8,7 @@ use borrow.Author.Tests.{lt-ltb, le-ltb}
 use lib.ListN.{length}
 use Rattle.kinds.specs.Refusals.{order}
 use Rattle.bindings.specs.Bindings.{twoParts, listLength, frontAnswer}
-use Rattle.bindings.proofs.Laws.{front-done}
+use Rattle.bindings.proofs.ListAnswers.{front-done}
 use Rattle.bindings.proofs.front_answer.Statement.{statement}
 use Rattle.bindings.proofs.front_answer.Tie as tie
 

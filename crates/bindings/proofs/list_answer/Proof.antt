@@ -7,7 +7,7 @@ use borrow.Author.Tests.{ne-eqb, lt-ltb}
 use lib.ListN.{length}
 use Rattle.kinds.specs.Refusals.{order}
 use Rattle.bindings.specs.Bindings.{frontAnswer, listLength, listAnswer}
-use Rattle.bindings.proofs.Laws.{front, accept}
+use Rattle.bindings.proofs.ListAnswers.{front, accept}
 use Rattle.bindings.proofs.list_answer.Statement.{statement}
 use Rattle.bindings.proofs.list_answer.Tie as tie
 

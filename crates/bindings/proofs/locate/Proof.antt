@@ -4,7 +4,7 @@ use native.Mathlib.Omega.{arith}
 use borrow.Author.Needs.{needs}
 use borrow.Author.Tests.{eq-eqb, ne-eqb}
 use Rattle.bindings.specs.Bindings.{listLength, listAnswer, bindingAt}
-use Rattle.bindings.proofs.Laws.{Accepted, accepted}
+use Rattle.bindings.proofs.ListAnswers.{Accepted, accepted}
 use Rattle.bindings.proofs.locate.Statement.{statement}
 use Rattle.bindings.proofs.locate.Tie as tie
 

@@ -7,7 +7,7 @@ use borrow.Author.Needs.{needs}
 use borrow.Author.Tests.{le-leb, lt-leb, not-true, not-false}
 use Rattle.bindings.specs.Bindings.{words, isPart, count, split, isBare, twoParts, listLength}
 use Rattle.bindings.specs.declared.Part.the-variants.{Strings}
-use Rattle.bindings.proofs.Laws.{not-bare}
+use Rattle.bindings.proofs.ListAnswers.{not-bare}
 use Rattle.bindings.proofs.two_parts.Statement.{statement}
 use Rattle.bindings.proofs.two_parts.Tie as tie
 

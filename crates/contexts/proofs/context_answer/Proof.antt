@@ -2,9 +2,9 @@ use mathlib.Core.Path.{sym, _∙_}
 use native.Mathlib.Omega.{arith}
 use Rattle.kinds.specs.Refusals.{order}
 use Rattle.kinds.proofs.Refusing.{ne-differ, eq-differ, last-row}
-use Rattle.fields.proofs.Laws.{take-rest}
+use Rattle.fields.proofs.Fields.{take-rest}
 use Rattle.contexts.specs.Contexts.{contextAnswer}
-use Rattle.contexts.proofs.Laws.{headed}
+use Rattle.contexts.proofs.Properties.{headed}
 use borrow.Author.Needs.{needs}
 use Rattle.contexts.proofs.context_answer.Statement.{statement}
 use Rattle.contexts.proofs.context_answer.Tie as tie

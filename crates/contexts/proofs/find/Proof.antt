@@ -3,11 +3,10 @@ use Prim.Native.Nat.{_≤_}
 use mathlib.Core.Path.{_≡_, refl, sym, _∙_}
 use native.Mathlib.Omega.{arith}
 use borrow.Author.Needs.{needs}
-use lib.ListN.{length, drop, length-drop}
+use lib.ListN.{length, drop}
 use lib.Seq.{drop-drop}
-use Rattle.fields.proofs.Laws.{take-rest}
 use Rattle.contexts.specs.Contexts.{propertiesAnswer, contentPlace}
-use Rattle.contexts.proofs.Laws.{accepted, properties-parts, place-none, place-here, place-later}
+use Rattle.contexts.proofs.Properties.{Next, next-property, place-none, place-here, place-later}
 use Rattle.contexts.proofs.find.Statement.{statement}
 use Rattle.contexts.proofs.find.Tie as tie
 
@@ -33,6 +32,10 @@ part-read-u32-end c = omega arith
 read-u32-requires : tie.Need-read-u32-requires Inv-loop μ-loop
 read-u32-requires c κs = search needs
 
+-- the property that is read, and the others
+next : (c : tie.After-read-u32 Inv-loop μ-loop) → Next (c .before .before .before .loop .left) (c .before .before .before .before .before .args .s .now) (c .before .before .before .loop .at) (c .read-u32 .result)
+next c = let l = c .before .before .before .loop in next-property _ _ _ _ (omega arith) (l .inv .0) (l .inv .1) (c .read-u32 .ensures)
+
 cast-size : tie.Need-cast-size Inv-loop μ-loop
 cast-size c = omega arith
 
@@ -40,48 +43,18 @@ add-size : tie.Need-add-size Inv-loop μ-loop
 add-size c = omega arith
 
 add-t15 : tie.Need-add-t15 Inv-loop μ-loop
-add-t15 c =
-    let a = c .before .before .before .before .before .before .args in
-    let l = c .before .before .before .before .loop in
-    let rest = drop (l .at) (a .s .now) in
-    let size = rw (take-rest (a .s .now) (l .at)) at (c .before .read-u32 .ensures) in
-    let parts = properties-parts (l .left) rest (omega arith) (l .inv .1) in
-    let whole = accepted rest (parts .0) .whole in
-    let n = length-drop (l .at) (a .s .now) in
-    omega arith
+add-t15 c = let x = next (c .before) in omega arith
 
 add-t16 : tie.Need-add-t16 Inv-loop μ-loop
-add-t16 c =
-    let a = c .before .before .before .before .before .before .args in
-    let l = c .before .before .before .before .loop in
-    let rest = drop (l .at) (a .s .now) in
-    let size = rw (take-rest (a .s .now) (l .at)) at (c .before .read-u32 .ensures) in
-    let parts = properties-parts (l .left) rest (omega arith) (l .inv .1) in
-    let whole = accepted rest (parts .0) .whole in
-    let n = length-drop (l .at) (a .s .now) in
-    omega arith
+add-t16 c = let x = next (c .before) in omega arith
 
 returns : tie.Need-returns Inv-loop μ-loop
 returns c =
-    let a = c .before .before .before .before .before .before .args in
     let l = c .before .before .before .before .loop in
-    let rest = drop (l .at) (a .s .now) in
-    let size = rw (take-rest (a .s .now) (l .at)) at (c .before .read-u32 .ensures) in
-    let parts = properties-parts (l .left) rest (omega arith) (l .inv .1) in
-    let whole = accepted rest (parts .0) .whole in
-    let n = length-drop (l .at) (a .s .now) in
-    rw (size) (sym (place-here (l .left) rest (l .skip) (l .at) (omega arith) (c .if1 .taken)) ∙ l .inv .2)
+    rw (next (c .before) .same) (sym (place-here (l .left) (drop (l .at) (c .before .before .before .before .before .before .args .s .now)) (l .skip) (l .at) (omega arith) (c .if1 .taken)) ∙ l .inv .2)
 
 add-at : tie.Need-add-at Inv-loop μ-loop
-add-at c =
-    let a = c .before .before .before .before .before .before .args in
-    let l = c .before .before .before .before .loop in
-    let rest = drop (l .at) (a .s .now) in
-    let size = rw (take-rest (a .s .now) (l .at)) at (c .before .read-u32 .ensures) in
-    let parts = properties-parts (l .left) rest (omega arith) (l .inv .1) in
-    let whole = accepted rest (parts .0) .whole in
-    let n = length-drop (l .at) (a .s .now) in
-    omega arith
+add-at c = let x = next (c .before) in omega arith
 
 sub-skip : tie.Need-sub-skip Inv-loop μ-loop
 sub-skip c = omega arith
@@ -94,14 +67,9 @@ loop-less c = omega arith
 
 loop-again : tie.Need-loop-again Inv-loop μ-loop
 loop-again c =
-    let a = c .before .before .before .before .before .before .args in
     let l = c .before .before .before .before .loop in
-    let rest = drop (l .at) (a .s .now) in
-    let size = rw (take-rest (a .s .now) (l .at)) at (c .before .read-u32 .ensures) in
-    let parts = properties-parts (l .left) rest (omega arith) (l .inv .1) in
-    let whole = accepted rest (parts .0) .whole in
-    let n = length-drop (l .at) (a .s .now) in
-    (omega arith, rw (size, ← drop-drop) (parts .1), rw (size, ← drop-drop) (sym (place-later (l .left) rest (l .skip) (l .at) (omega arith) (omega arith)) ∙ l .inv .2))
+    let x = next (c .before) in
+    (omega arith, rw (x .same, ← drop-drop) (x .rest), rw (x .same, ← drop-drop) (sym (place-later (l .left) (drop (l .at) (c .before .before .before .before .before .before .args .s .now)) (l .skip) (l .at) (omega arith) (omega arith)) ∙ l .inv .2))
 
 returns-2 : tie.Need-returns-2 Inv-loop μ-loop
 returns-2 c =

@@ -3,7 +3,7 @@ use mathlib.Core.Path.{sym, ap, _∙_}
 use borrow.Author.Tests.{eq-eqb, ne-eqb}
 use Rattle.bindings.specs.Bindings.{refusal}
 use Rattle.contexts.specs.Contexts.{propertyPlace}
-use Rattle.contexts.proofs.Laws.{context-accepted}
+use Rattle.contexts.proofs.Properties.{context-accepted}
 use borrow.Author.Needs.{needs}
 use Rattle.contexts.proofs.locate.Statement.{statement}
 use Rattle.contexts.proofs.locate.Tie as tie

@@ -4,9 +4,9 @@ use mathlib.Core.Path.{_≡_, refl, sym, _∙_}
 use native.Mathlib.Omega.{arith}
 use lib.ListN.{length, drop, length-drop}
 use lib.Seq.{drop-drop}
-use Rattle.fields.proofs.Laws.{take-rest}
+use Rattle.fields.proofs.Fields.{take-rest}
 use Rattle.contexts.specs.Contexts.{propertiesAnswer}
-use Rattle.contexts.proofs.Laws.{accepted, properties-next, properties-stop, properties-over, properties-done}
+use Rattle.contexts.proofs.Properties.{accepted, properties-next, properties-stop, properties-over, properties-done}
 use Rattle.contexts.proofs.properties_answer.Statement.{statement}
 use Rattle.contexts.proofs.properties_answer.Tie as tie
 

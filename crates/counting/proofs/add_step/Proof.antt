@@ -12,7 +12,8 @@ use Rattle.rules.specs.Entries.{Interface, publicOf, privateOf, withInterfaces,
 use Rattle.rules.specs.Calls.{Call}
 use Rattle.rules.specs.Sound.{sound}
 use Rattle.rules.specs.Rules.{noInterface, interfaceOf, passesCount, refusals, number, next, results, refused, done}
-use Rattle.rules.proofs.ByRow.{interfaceIn, interface-row, add-row}
+use Rattle.rules.proofs.ByRow.{interfaceIn, interface-row}
+use Rattle.rules.proofs.CountRows.{add-row}
 use Rattle.table.specs.View.{interfaceCount, interfacesOf, memory, view}
 use Rattle.table.specs.Counts.{countsAt}
 use Rattle.table.specs.Edits.{changeInterface}

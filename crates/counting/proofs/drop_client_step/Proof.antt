@@ -11,7 +11,7 @@ use Rattle.table.specs.View.{memory, view}
 use Rattle.settling.specs.Leaving.{withoutLeaving, heldLeft}
 use Rattle.settling.specs.declared.Leaving.the-variants.{NoInterface}
 use Rattle.settling.proofs.Settling.{asked}
-use Rattle.settling.proofs.Clearing.{drop-steps}
+use Rattle.settling.proofs.ClientDrop.{drop-steps}
 use Rattle.calls.proofs.Calls.{refused-step, accepted-step, row-gives, row-passes, rows-end}
 use Rattle.counting.proofs.Releasing.{client-missing, client-here}
 use borrow.Author.Needs.{needs}

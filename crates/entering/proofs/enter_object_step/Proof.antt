@@ -3,7 +3,7 @@ use Prim.Native.Nat.{_<_}
 use mathlib.Core.Path.{_≡_, sym, ap, _∙_}
 use native.Mathlib.Omega.{arith}
 use lib.ListN.{length}
-use Rattle.rules.specs.Entries.{Entries}
+use Rattle.rules.specs.Entries.{Entries, objectPlaces, interfacePlaces}
 use Rattle.rules.specs.Rules.{next, results, refused, done}
 use Rattle.table.specs.View.{memory, view}
 use Rattle.table.specs.Edits.{addInterface}
@@ -28,8 +28,8 @@ returns c =
 
 -- there is a place for the object and its interface
 fits-objects : (c : tie.After-object-number) → c .object-number .result ≡ 0
-    → (length (view (memory (c .before .before .before .before .args .words .now) (c .before .before .before .before .args .store .now)) .objects) < 128)
-    × (length (view (memory (c .before .before .before .before .args .words .now) (c .before .before .before .before .args .store .now)) .interfaces) < 256)
+    → (length (view (memory (c .before .before .before .before .args .words .now) (c .before .before .before .before .args .store .now)) .objects) < objectPlaces)
+    × (length (view (memory (c .before .before .before .before .args .words .now) (c .before .before .before .before .args .store .now)) .interfaces) < interfacePlaces)
 fits-objects c z =
     let a = c .before .before .before .before .args in
     object-fits (view (memory (a .words .now) (a .store .now))) (a .oid .0) (a .oxid .0) (a .ipid) (a .iid) (a .public) (a .no-ping)

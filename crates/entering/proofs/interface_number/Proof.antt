@@ -7,7 +7,7 @@ use lib.Dec.{ltb, leb}
 use lib.ListN.{length, drop}
 use Rattle.kinds.specs.Refusals.{order}
 use Rattle.kinds.specs.declared.Guid.{Guid}
-use Rattle.rules.specs.Entries.{Entries}
+use Rattle.rules.specs.Entries.{Entries, interfacePlaces}
 use Rattle.rules.specs.Calls.{Call}
 use Rattle.rules.specs.Rules.{refusals, number, isLiveObject}
 use Rattle.table.specs.View.{memory, view}
@@ -44,8 +44,8 @@ Left k st s iid =
 live-judged : (c : tie.After-object-row) (s : List ℕ) → isLiveObject (At (c .before .before .before .before .before) s) (c .before .before .before .before .before .args .oid .0) ≡ ltb (c .object-row .result) (c .before .object-count .result)
 live-judged c s = object-tested (c .before .before .before .before .before .args .words .now) s (c .before .before .before .before .before .args .oid .0) (c .object-row .ensures s) (c .before .object-count .ensures .0)
 
-full-judged : (c : tie.After-interface-count) (s : List ℕ) → leb 256 (length (At (c .before .before .before .before .before .before .before .before) s .interfaces)) ≡ leb 256 (c .interface-count .result)
-full-judged c s = full-tested (At (c .before .before .before .before .before .before .before .before) s .interfaces) 256 (interfaces-length (c .before .before .before .before .before .before .before .before .args .words .now)) (c .interface-count .ensures .0)
+full-judged : (c : tie.After-interface-count) (s : List ℕ) → leb interfacePlaces (length (At (c .before .before .before .before .before .before .before .before) s .interfaces)) ≡ leb interfacePlaces (c .interface-count .result)
+full-judged c s = full-tested (At (c .before .before .before .before .before .before .before .before) s .interfaces) interfacePlaces (interfaces-length (c .before .before .before .before .before .before .before .before .args .words .now)) (c .interface-count .ensures .0)
 
 -- each row that does not hold
 module _ (s : List ℕ) (iid : Guid) where

@@ -10,7 +10,7 @@ use Rattle.kinds.specs.Refusals.{order, _gives_}
 use Rattle.kinds.specs.declared.Guid.{Guid}
 use Rattle.lists.specs.Lists.{some}
 use Rattle.lists.specs.Guids.{nil, sameGuid}
-use Rattle.rules.specs.Entries.{Entries, ipids}
+use Rattle.rules.specs.Entries.{Entries, ipids, objectPlaces, interfacePlaces}
 use Rattle.rules.specs.Calls.{Call}
 use Rattle.rules.specs.Rules.{refusals, number, isLiveExporter, isLiveObject}
 use Rattle.table.specs.View.{memory, view}
@@ -58,8 +58,8 @@ Left k st s iid np =
     ∷ (sameGuid (a .ipid) nil || some (sameGuid (a .ipid)) (ipids e)) gives 3
     ∷ not (isLiveExporter e (a .oxid .0)) gives 4
     ∷ eqb (a .public) 0 gives 7
-    ∷ leb 128 (length (e .objects)) gives 9
-    ∷ leb 256 (length (e .interfaces)) gives 9
+    ∷ leb objectPlaces (length (e .objects)) gives 9
+    ∷ leb interfacePlaces (length (e .interfaces)) gives 9
     ∷ []))
 
 -- tests of the rows
@@ -69,11 +69,11 @@ live-judged c s = object-tested (c .before .before .before .before .before .args
 exporter-judged : (c : tie.After-exporter-row) (s : List ℕ) → isLiveExporter (At (c .before .before .before .before .before .before .before .before .before .before) s) (c .before .before .before .before .before .before .before .before .before .before .args .oxid .0) ≡ ltb (c .exporter-row .result) (c .before .exporter-count .result)
 exporter-judged c s = exporter-tested (c .before .before .before .before .before .before .before .before .before .before .args .words .now) s (c .before .before .before .before .before .before .before .before .before .before .args .oxid .0) (c .exporter-row .ensures s) (c .before .exporter-count .ensures .0)
 
-objects-judged : (c : tie.After-object-count2) (s : List ℕ) → leb 128 (length (At (c .before .before .before .before .before .before .before .before .before .before .before .before .before) s .objects)) ≡ leb 128 (c .object-count2 .result)
-objects-judged c s = full-tested (At (c .before .before .before .before .before .before .before .before .before .before .before .before .before) s .objects) 128 (objects-length (c .before .before .before .before .before .before .before .before .before .before .before .before .before .args .words .now)) (c .object-count2 .ensures .0)
+objects-judged : (c : tie.After-object-count2) (s : List ℕ) → leb objectPlaces (length (At (c .before .before .before .before .before .before .before .before .before .before .before .before .before) s .objects)) ≡ leb objectPlaces (c .object-count2 .result)
+objects-judged c s = full-tested (At (c .before .before .before .before .before .before .before .before .before .before .before .before .before) s .objects) objectPlaces (objects-length (c .before .before .before .before .before .before .before .before .before .before .before .before .before .args .words .now)) (c .object-count2 .ensures .0)
 
-interfaces-judged : (c : tie.After-interface-count) (s : List ℕ) → leb 256 (length (At (c .before .before .before .before .before .before .before .before .before .before .before .before .before .before .before) s .interfaces)) ≡ leb 256 (c .interface-count .result)
-interfaces-judged c s = full-tested (At (c .before .before .before .before .before .before .before .before .before .before .before .before .before .before .before) s .interfaces) 256 (interfaces-length (c .before .before .before .before .before .before .before .before .before .before .before .before .before .before .before .args .words .now)) (c .interface-count .ensures .0)
+interfaces-judged : (c : tie.After-interface-count) (s : List ℕ) → leb interfacePlaces (length (At (c .before .before .before .before .before .before .before .before .before .before .before .before .before .before .before) s .interfaces)) ≡ leb interfacePlaces (c .interface-count .result)
+interfaces-judged c s = full-tested (At (c .before .before .before .before .before .before .before .before .before .before .before .before .before .before .before) s .interfaces) interfacePlaces (interfaces-length (c .before .before .before .before .before .before .before .before .before .before .before .before .before .before .before .args .words .now)) (c .interface-count .ensures .0)
 
 -- each row that does not hold
 module _ (s : List ℕ) (iid : Guid) (np : Bool) where
@@ -84,7 +84,7 @@ module _ (s : List ℕ) (iid : Guid) (np : Bool) where
       let e = At st s in
       identifier-rows (eqb (a .oid .0) 0) (isLiveObject e (a .oid .0)) (sameGuid (a .ipid) nil || some (sameGuid (a .ipid)) (ipids e)) 3
       (drop 1 (refusals (Call.enterObject (a .oid .0) (a .oxid .0) (a .ipid) iid (a .public) np) e))
-      ∙ rw (two-rows (leb 128 (length (e .objects))) (leb 256 (length (e .interfaces))) 9 [])
+      ∙ rw (two-rows (leb objectPlaces (length (e .objects))) (leb interfacePlaces (length (e .interfaces))) 9 [])
 
   left-1 : (c : tie.Else1) → Left 1 (c .before .before .before) s iid np
   left-1 c = row-passes _ _ _ (left-0 (c .before .before .before)) (ne-eqb _ 0 (c .if1 .left))

@@ -4,12 +4,12 @@ use mathlib.Core.Path.{_≡_}
 use mathlib.Core.Bool.{true}
 use native.Mathlib.Omega.{arith}
 use lib.ListN.{length, getD}
-use Rattle.extensions.specs.Extensions.{eights}
 use Rattle.extension_writer.specs.Writing.{wordsWritable, extentsLength}
 use Rattle.extension_writer.proofs.Writes.{Entry, entry, words-first, length-more, length-none, length-most}
 use borrow.Author.Needs.{needs}
 use Rattle.extension_writer.proofs.extents_length.Statement.{statement}
 use Rattle.extension_writer.proofs.extents_length.Tie as tie
+use Rattle.fields.specs.Fields.{rounded}
 
 abbrev Inv-loop : tie.InvT-loop
 Inv-loop entries i₀ left₀ total₀ i left total =
@@ -45,7 +45,7 @@ cast-rounded c = let h = one (c .before) in omega (arith, h .fit)
 rounded-requires : tie.Need-rounded-requires Inv-loop μ-loop
 rounded-requires c κs = search needs
 
-whole : (c : tie.After-rounded Inv-loop μ-loop) → c .rounded .result ≡ eights (getD (c .before .before .before .before .before .args .entries .now) (c .before .before .before .loop .i + 3) 0)
+whole : (c : tie.After-rounded Inv-loop μ-loop) → c .rounded .result ≡ rounded (getD (c .before .before .before .before .before .args .entries .now) (c .before .before .before .loop .i + 3) 0)
 whole c = c .rounded .ensures
 
 add-total : tie.Need-add-total Inv-loop μ-loop

@@ -6,7 +6,7 @@ use native.Mathlib.Omega.{arith}
 use borrow.Author.Tests.{ne-eqb}
 use lib.ListN.{length}
 use Rattle.fields.specs.Fields.{encode}
-use Rattle.fields.proofs.Laws.{first-field, then-field, then-bytes}
+use Rattle.fields.proofs.Fields.{first-field, then-field, then-bytes}
 use Rattle.extensions.specs.Extensions.{pointedBytes, arrayBytes}
 use Rattle.extension_writer.specs.Writing.{described, given}
 use Rattle.extension_writer.proofs.Writes.{length-described, length-pointed, length-bare, length-full}

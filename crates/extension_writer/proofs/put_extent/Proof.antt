@@ -4,11 +4,12 @@ use mathlib.Core.Path.{_≡_, refl, _∙_}
 use native.Mathlib.Omega.{arith}
 use lib.ListN.{length, length-replicate}
 use mathlib.Core.List.{append-assoc}
-use Rattle.fields.proofs.Laws.{first-field, then-field, then-bytes}
-use Rattle.extensions.specs.Extensions.{eights, zeros, extentBytes}
+use Rattle.fields.proofs.Fields.{first-field, then-field, then-bytes}
+use Rattle.extensions.specs.Extensions.{extentBytes}
 use borrow.Author.Needs.{needs}
 use Rattle.extension_writer.proofs.put_extent.Statement.{statement}
 use Rattle.extension_writer.proofs.put_extent.Tie as tie
+use Rattle.fields.specs.Fields.{rounded, zeros}
 
 cast-size : tie.Need-cast-size
 cast-size c = search needs
@@ -46,17 +47,17 @@ add-copy c = search needs
 copy-requires : tie.Need-copy-requires
 copy-requires c κs = search needs
 
-add-clear : tie.Need-add-clear
-add-clear c = search needs
+add-fill : tie.Need-add-fill
+add-fill c = search needs
 
-add-clear-2 : tie.Need-add-clear-2
-add-clear-2 c = search needs
+add-fill-2 : tie.Need-add-fill-2
+add-fill-2 c = search needs
 
-sub-clear : tie.Need-sub-clear
-sub-clear c = search needs
+sub-fill : tie.Need-sub-fill
+sub-fill c = search needs
 
-clear-requires : tie.Need-clear-requires
-clear-requires c κs = search needs
+fill-requires : tie.Need-fill-requires
+fill-requires c κs = search needs
 
 same-length : tie.Need-same-length
 same-length c = search needs
@@ -69,7 +70,7 @@ returns c =
     let part = a .part .now in
     let k = length part in
     let w = c .before .before .before .before .before .before .before .before .before .before .before .before .before .before .before .before .before .before .before .before .before .before .before .before .rounded .result in
-    let same : w ≡ eights k = c .before .before .before .before .before .before .before .before .before .before .before .before .before .before .before .before .before .before .before .before .before .before .before .before .rounded .ensures in
+    let same : w ≡ rounded k = c .before .before .before .before .before .before .before .before .before .before .before .before .before .before .before .before .before .before .before .before .before .before .before .before .rounded .ensures in
     let room = c .before .before .before .before .before .before .before .before .before .before .before .before .before .before .before .before .before .before .before .before .before .before .before .before .before .before .before .pre .1 in
     let run = first-field 4 w (c .before .before .before .before .before .before .before .before .before .before .before .before .before .before .before .before .before .before .before .before .before .before .write-u32 .ensures) in
     let run2 = then-field 8 (a .low) run (omega arith) (c .before .before .before .before .before .before .before .before .before .before .before .before .before .before .before .before .before .before .write-u64 .ensures) in
@@ -77,7 +78,7 @@ returns c =
     let run4 = then-field 4 k run3 (omega arith) (c .before .before .before .before .before .before .before .before .before .before .write-u322 .ensures) in
     let run5 = then-bytes part k run4 refl (omega arith) (c .before .before .before .before .before .before .copy .ensures) in
     let place : a .at + 24 + k ≡ a .at + (24 + k) = omega arith in
-    let run6 = then-bytes (zeros (w - k)) (w - k) run5 (length-replicate {A = ℕ} (w - k) 0) (omega arith) (rw place at (c .before .before .clear .ensures)) in
+    let run6 = then-bytes (zeros (w - k)) (w - k) run5 (length-replicate {A = ℕ} (w - k) 0) (omega arith) (rw place at (c .before .before .fill .ensures)) in
     run6 .holds ∙ (rw same (simp append-assoc))
 
 pub put-extent-spec : {M : Type 1} → statement M
@@ -96,9 +97,9 @@ put-extent-spec =
     write-u32-requires-2
     add-copy
     copy-requires
-    add-clear
-    add-clear-2
-    sub-clear
-    clear-requires
+    add-fill
+    add-fill-2
+    sub-fill
+    fill-requires
     same-length
     returns)

@@ -6,9 +6,9 @@ use mathlib.Core.Bool.{true}
 use mathlib.Core.List.{List}
 use native.Mathlib.Omega.{arith}
 use lib.ListN.{length, getD, drop}
-use Rattle.fields.specs.Fields.{written}
-use Rattle.fields.proofs.Laws.{written-none, length-written}
-use Rattle.extensions.specs.Extensions.{eights, extentsBytes}
+use Rattle.fields.specs.Fields.{written, rounded}
+use Rattle.fields.proofs.Fields.{written-none, length-written}
+use Rattle.extensions.specs.Extensions.{extentsBytes}
 use Rattle.extension_writer.specs.Writing.{described, sizes, wordsWritable, extentsLength}
 use Rattle.extension_writer.proofs.Writes.{entry, words-first, sizes-more, length-more, part-length, extents-next, described-none}
 use Rattle.extension_writer.proofs.put_extents.Statement.{statement}
@@ -35,7 +35,7 @@ loop-holds c =
 record Next (ws d b : List ℕ) (i left from to : ℕ) : Type 0 where
   fit : getD ws (i + 3) 0 ≤ 4294967288
   sizes : getD ws (i + 3) 0 + sizes ws (i + 4) (left - 1) + from ≤ length d
-  room : to + 24 + eights (getD ws (i + 3) 0) + extentsLength ws (i + 4) (left - 1) ≤ length b
+  room : to + 24 + rounded (getD ws (i + 3) 0) + extentsLength ws (i + 4) (left - 1) ≤ length b
 
 next : (c : tie.In-loop Inv-loop μ-loop) → Next (c .before .before .before .before .before .args .entries .now) (c .before .before .before .before .before .args .contents .now) (c .before .loop .buf) (c .before .loop .i) (c .before .loop .left) (c .before .loop .from) (c .before .loop .to)
 next c =
@@ -101,7 +101,7 @@ cast-rounded c = let h = next (c .before .before .before .before .before .before
 rounded-requires : tie.Need-rounded-requires Inv-loop μ-loop
 rounded-requires c κs = search needs
 
-whole : (c : tie.After-rounded Inv-loop μ-loop) → c .rounded .result ≡ eights (getD (c .before .before .before .before .before .before .before .before .before .before .before .before .before .before .args .entries .now) (c .before .before .before .before .before .before .before .before .before .before .loop .i + 3) 0)
+whole : (c : tie.After-rounded Inv-loop μ-loop) → c .rounded .result ≡ rounded (getD (c .before .before .before .before .before .before .before .before .before .before .before .before .before .before .args .entries .now) (c .before .before .before .before .before .before .before .before .before .before .loop .i + 3) 0)
 whole c = c .rounded .ensures
 
 add-to : tie.Need-add-to Inv-loop μ-loop

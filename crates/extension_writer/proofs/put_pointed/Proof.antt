@@ -4,13 +4,14 @@ use mathlib.Core.Path.{_≡_, ap, _∙_}
 use mathlib.Core.List.{[], append-assoc}
 use native.Mathlib.Omega.{arith}
 use lib.ListN.{length, length-replicate}
-use Rattle.fields.proofs.Laws.{first-field, then-bytes}
-use Rattle.extensions.specs.Extensions.{pairs, zeros, pointersBytes, extentsBytes, pointedBytes}
+use Rattle.fields.proofs.Fields.{first-field, then-bytes}
+use Rattle.extensions.specs.Extensions.{pairs, pointersBytes, extentsBytes, pointedBytes}
 use Rattle.extension_writer.specs.Writing.{described, extentsLength}
 use Rattle.extension_writer.proofs.Writes.{length-described, length-pointers, length-extents, pointers-described}
 use borrow.Author.Needs.{needs}
 use Rattle.extension_writer.proofs.put_pointed.Statement.{statement}
 use Rattle.extension_writer.proofs.put_pointed.Tie as tie
+use Rattle.fields.specs.Fields.{zeros}
 
 cast-paired : tie.Need-cast-paired
 cast-paired c = search needs
@@ -30,23 +31,23 @@ add-put-pointers c = search needs
 put-pointers-requires : tie.Need-put-pointers-requires
 put-pointers-requires c κs = search needs
 
-add-clear : tie.Need-add-clear
-add-clear c = search needs
+add-fill : tie.Need-add-fill
+add-fill c = search needs
 
-mul-clear : tie.Need-mul-clear
-mul-clear c = search needs
+mul-fill : tie.Need-mul-fill
+mul-fill c = search needs
 
-add-clear-2 : tie.Need-add-clear-2
-add-clear-2 c = search needs
+add-fill-2 : tie.Need-add-fill-2
+add-fill-2 c = search needs
 
-sub-clear : tie.Need-sub-clear
-sub-clear c = search needs
+sub-fill : tie.Need-sub-fill
+sub-fill c = search needs
 
-mul-clear-2 : tie.Need-mul-clear-2
-mul-clear-2 c = search needs
+mul-fill-2 : tie.Need-mul-fill-2
+mul-fill-2 c = search needs
 
-clear-requires : tie.Need-clear-requires
-clear-requires c κs = search needs
+fill-requires : tie.Need-fill-requires
+fill-requires c κs = search needs
 
 add-put-extents : tie.Need-add-put-extents
 add-put-extents c = search needs
@@ -82,7 +83,7 @@ returns c =
     let run = first-field 4 all (c .before .before .before .before .before .before .before .before .before .before .before .before .before .before .write-u32 .ensures) in
     let run2 = then-bytes ps (4 * n) run many (omega arith) (c .before .before .before .before .before .before .before .before .before .before .put-pointers .ensures) in
     let place : a .at + 4 + 4 * n ≡ a .at + (4 + 4 * n) = omega arith in
-    let run3 = then-bytes (zeros (4 * (all - n))) (4 * (all - n)) run2 (length-replicate {A = ℕ} (4 * (all - n)) 0) (omega arith) (rw place at (c .before .before .before .before .before .before .clear .ensures)) in
+    let run3 = then-bytes (zeros (4 * (all - n))) (4 * (all - n)) run2 (length-replicate {A = ℕ} (4 * (all - n)) 0) (omega arith) (rw place at (c .before .before .before .before .before .before .fill .ensures)) in
     let last : a .at + 4 + 4 * all ≡ a .at + (4 + 4 * n + 4 * (all - n)) = omega arith in
     let run4 = then-bytes es (extentsLength ws 0 n) run3 long (omega arith) (rw last at (c .before .before .put-extents .ensures)) in
     run4 .holds ∙ (rw (length-described ws d 0 n, pointers-described ws d [] 0 n, same) (simp append-assoc))
@@ -97,12 +98,12 @@ put-pointed-spec =
     write-u32-requires
     add-put-pointers
     put-pointers-requires
-    add-clear
-    mul-clear
-    add-clear-2
-    sub-clear
-    mul-clear-2
-    clear-requires
+    add-fill
+    mul-fill
+    add-fill-2
+    sub-fill
+    mul-fill-2
+    fill-requires
     add-put-extents
     mul-put-extents
     add-put-extents-2

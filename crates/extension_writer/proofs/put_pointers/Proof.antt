@@ -6,7 +6,7 @@ use mathlib.Core.List.{[]}
 use native.Mathlib.Omega.{arith}
 use lib.ListN.{length, getD}
 use Rattle.fields.specs.Fields.{written}
-use Rattle.fields.proofs.Laws.{written-none, length-written}
+use Rattle.fields.proofs.Fields.{written-none, length-written}
 use Rattle.extensions.specs.Extensions.{pointersBytes}
 use Rattle.extension_writer.specs.Writing.{described, wordsWritable}
 use Rattle.extension_writer.proofs.Writes.{Entry, entry, words-first, pointers-step, described-none}

@@ -2,7 +2,7 @@
 use mathlib.Core.Path.{_≡_, sym, _∙_}
 use native.Mathlib.Omega.{arith}
 use Rattle.extensions.specs.Extensions.{frontAnswer}
-use Rattle.extensions.proofs.Laws.{walked-stop, array-stop, array-null, array-rest, Fronted, fronted}
+use Rattle.extensions.proofs.ArrayWalk.{walked-stop, array-stop, array-null, array-rest, Fronted, fronted}
 use borrow.Author.Needs.{needs}
 use Rattle.extensions.proofs.array.Statement.{statement}
 use Rattle.extensions.proofs.array.Tie as tie

@@ -5,7 +5,7 @@ use lib.ListN.{length}
 use Rattle.bindings.specs.Bindings.{bytesAt}
 use Rattle.extensions.specs.Extensions.{placeOf}
 use Rattle.extensions.specs.declared.Extension.{Extension}
-use Rattle.extensions.proofs.Laws.{Lies, lies}
+use Rattle.extensions.proofs.ArrayWalk.{Lies, lies}
 use borrow.Author.Needs.{needs}
 use Rattle.extensions.proofs.content.Statement.{statement}
 use Rattle.extensions.proofs.content.Tie as tie

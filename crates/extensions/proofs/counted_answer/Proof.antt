@@ -8,7 +8,7 @@ use lib.Dec.{leb}
 use lib.ListN.{length}
 use Rattle.fields.specs.Fields.{field}
 use Rattle.extensions.specs.Extensions.{pairs, pointersAnswer}
-use Rattle.extensions.proofs.Laws.{counted-short, counted-differ, counted-pointers, counted-rest, pointers-room}
+use Rattle.extensions.proofs.ArrayWalk.{counted-short, counted-differ, counted-pointers, counted-rest, pointers-room}
 use borrow.Author.Needs.{needs}
 use Rattle.extensions.proofs.counted_answer.Statement.{statement}
 use Rattle.extensions.proofs.counted_answer.Tie as tie

@@ -7,9 +7,9 @@ use borrow.Author.Tests.{leb-true, not-true, not-false}
 use borrow.Author.Needs.{needs}
 use lib.Dec.{leb}
 use lib.ListN.{length}
-use Rattle.fields.specs.Fields.{field}
-use Rattle.extensions.specs.Extensions.{eights, sizeAt}
-use Rattle.extensions.proofs.Laws.{extent-short, extent-sizes, extent-cut, extent-rest}
+use Rattle.fields.specs.Fields.{field, rounded}
+use Rattle.extensions.specs.Extensions.{sizeAt}
+use Rattle.extensions.proofs.ArrayWalk.{extent-short, extent-sizes, extent-cut, extent-rest}
 use Rattle.extensions.proofs.extent_answer.Statement.{statement}
 use Rattle.extensions.proofs.extent_answer.Tie as tie
 
@@ -40,14 +40,14 @@ read-u32-requires-2 c κs = search needs
 cast-if2 : tie.Need-cast-if2
 cast-if2 c = search needs
 
-whole : (c : tie.After-rounded) → c .rounded .result ≡ eights (sizeAt (c .before .before .before .before .before .args .s .now) (c .before .before .before .before .before .args .at))
-whole c = c .rounded .ensures ∙ ap eights (c .before .read-u32 .ensures)
+whole : (c : tie.After-rounded) → c .rounded .result ≡ rounded (sizeAt (c .before .before .before .before .before .args .s .now) (c .before .before .before .before .before .args .at))
+whole c = c .rounded .ensures ∙ ap rounded (c .before .read-u32 .ensures)
 
 returns-2 : tie.Need-returns-2
 returns-2 c =
     sym (extent-sizes (c .before .before .before .before .before .before .before .args .s .now) (c .before .before .before .before .before .before .before .args .at) (fixed (c .before .before .before .before)) (λ z. c .if2 .taken (c .before .read-u322 .ensures ∙ z ∙ sym (whole (c .before .before)))))
 
-sizes : (c : tie.Else2) → field (c .before .before .before .before .before .before .before .args .s .now) (c .before .before .before .before .before .before .before .args .at) 4 ≡ eights (sizeAt (c .before .before .before .before .before .before .before .args .s .now) (c .before .before .before .before .before .before .before .args .at))
+sizes : (c : tie.Else2) → field (c .before .before .before .before .before .before .before .args .s .now) (c .before .before .before .before .before .before .before .args .at) 4 ≡ rounded (sizeAt (c .before .before .before .before .before .before .before .args .s .now) (c .before .before .before .before .before .before .before .args .at))
 sizes c = sym (c .before .read-u322 .ensures) ∙ c .if2 .left ∙ whole (c .before .before)
 
 add-inside : tie.Need-add-inside

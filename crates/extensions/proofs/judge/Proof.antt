@@ -6,7 +6,7 @@ use native.Mathlib.Omega.{arith}
 use borrow.Author.Tests.{leb-true, not-true, not-false}
 use lib.Dec.{leb}
 use lib.ListN.{length}
-use Rattle.extensions.proofs.Laws.{walk-short, walk-null, walk-rest}
+use Rattle.extensions.proofs.ArrayWalk.{walk-short, walk-null, walk-rest}
 use borrow.Author.Needs.{needs}
 use Rattle.extensions.proofs.judge.Statement.{statement}
 use Rattle.extensions.proofs.judge.Tie as tie

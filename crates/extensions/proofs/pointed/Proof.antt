@@ -2,7 +2,7 @@
 use Prim.Native.Nat.{_+_}
 use mathlib.Core.Path.{_≡_, sym, ap, _∙_}
 use Rattle.extensions.specs.Extensions.{pairs, countAt, countedAnswer}
-use Rattle.extensions.proofs.Laws.{walked-stop, pointed-stop, pointed-rest}
+use Rattle.extensions.proofs.ArrayWalk.{walked-stop, pointed-stop, pointed-rest}
 use borrow.Author.Needs.{needs}
 use Rattle.extensions.proofs.pointed.Statement.{statement}
 use Rattle.extensions.proofs.pointed.Tie as tie

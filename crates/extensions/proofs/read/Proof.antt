@@ -3,7 +3,7 @@ use mathlib.Core.Path.{_≡_, sym, ap, _∙_}
 use native.Mathlib.Omega.{arith}
 use borrow.Author.Tests.{eq-eqb, ne-eqb}
 use Rattle.extensions.specs.Extensions.{readExtensions, extensionsCount, extensionsAnswer}
-use Rattle.extensions.proofs.Laws.{walk-answer, Accepted, accepted}
+use Rattle.extensions.proofs.ArrayWalk.{walk-answer, Accepted, accepted}
 use borrow.Author.Needs.{needs}
 use Rattle.extensions.proofs.read.Statement.{statement}
 use Rattle.extensions.proofs.read.Tie as tie

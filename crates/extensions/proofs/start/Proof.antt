@@ -3,10 +3,11 @@ use Prim.Native.Nat.{_+_, _-_, _<_}
 use mathlib.Core.Path.{_≡_, refl, sym, ap, _∙_}
 use native.Mathlib.Omega.{arith}
 use borrow.Author.Needs.{needs}
-use Rattle.extensions.specs.Extensions.{eights, sizeAt, extentAnswer, nextAt, extentsAnswer, startOf}
-use Rattle.extensions.proofs.Laws.{extents-first, start-none, start-more, Held, held}
+use Rattle.extensions.specs.Extensions.{sizeAt, extentAnswer, nextAt, extentsAnswer, startOf}
+use Rattle.extensions.proofs.ArrayWalk.{extents-first, start-none, start-more, Held, held}
 use Rattle.extensions.proofs.start.Statement.{statement}
 use Rattle.extensions.proofs.start.Tie as tie
+use Rattle.fields.specs.Fields.{rounded}
 
 abbrev Inv-loop : tie.InvT-loop
 Inv-loop s at n k i₀ left₀ skip₀ i left skip = (skip < left) × (extentsAnswer s i left ≡ 0) × (startOf s i skip ≡ startOf s at k)
@@ -34,7 +35,7 @@ rounded-requires c κs = search needs
 
 next : (c : tie.After-rounded Inv-loop μ-loop) → c .before .before .before .loop .i + (24 + c .rounded .result) ≡ nextAt (c .before .before .before .before .before .args .s .now) (c .before .before .before .loop .i)
 next c =
-    let e : c .rounded .result ≡ eights (sizeAt (c .before .before .before .before .before .args .s .now) (c .before .before .before .loop .i)) = c .rounded .ensures ∙ ap eights (c .before .read-u32 .ensures) in
+    let e : c .rounded .result ≡ rounded (sizeAt (c .before .before .before .before .before .args .s .now) (c .before .before .before .loop .i)) = c .rounded .ensures ∙ ap rounded (c .before .read-u32 .ensures) in
     omega arith
 
 add-i : tie.Need-add-i Inv-loop μ-loop

@@ -1,7 +1,7 @@
 -- `fields::copy`: what `inside` says is what `put_all` asks; else nothing is written.
 use mathlib.Core.Path.{sym, _∙_}
 use borrow.Author.Tests.{leb-true, leb-false}
-use Rattle.fields.proofs.Laws.{written-out}
+use Rattle.fields.proofs.Fields.{written-out}
 use borrow.Author.Needs.{needs}
 use Rattle.fields.proofs.copy.Statement.{statement}
 use Rattle.fields.proofs.copy.Tie as tie

@@ -3,7 +3,7 @@ use mathlib.Core.Path.{sym}
 use Prim.Native.Nat.{_+_}
 use native.Mathlib.Omega.{arith}
 use borrow.Author.Tests.{lt-leb}
-use Rattle.fields.proofs.Laws.{leb-sub}
+use Rattle.fields.proofs.Fields.{leb-sub}
 use Rattle.fields.proofs.inside.Statement.{statement}
 use Rattle.fields.proofs.inside.Tie as tie
 

@@ -1,20 +1,20 @@
 -- `fields::is_zero`: the number of the bytes from `i` on is zero exactly where the whole is.
-use Prim.Native.Nat.{_+_, _-_, _<_, _≤_}
-use mathlib.Core.Path.{_≡_, refl, sym, ap, _∙_}
+use Prim.Native.Nat.{_+_, _-_, _≤_}
+use mathlib.Core.Path.{_≡_, sym, ap, _∙_}
 use native.Mathlib.Omega.{arith}
 use native.Mathlib.Nat.{add-zero, sub-zero}
 use borrow.Author.Tests.{leb-true, leb-false, not-true, not-false}
 use borrow.Author.Needs.{needs}
 use lib.Dec.{eqb}
 use lib.ListN.{length, take, drop}
-use Rattle.fields.specs.Fields.{number, field}
-use Rattle.fields.proofs.Laws.{field-in, field-out, zero-first, nonzero-first}
+use Rattle.fields.specs.Fields.{bytesNumber, field}
+use Rattle.fields.proofs.Fields.{field-in, field-out, zero-first, nonzero-first}
 use Rattle.fields.proofs.is_zero.Statement.{statement}
 use Rattle.fields.proofs.is_zero.Tie as tie
 
 abbrev Inv-loop : tie.InvT-loop
 Inv-loop s at w i₀ i =
-    (i ≤ w) × (at + w ≤ length s) × (eqb (number (take (w - i) (drop (at + i) s))) 0 ≡ eqb (field s at w) 0)
+    (i ≤ w) × (at + w ≤ length s) × (eqb (bytesNumber (take (w - i) (drop (at + i) s))) 0 ≡ eqb (field s at w) 0)
 
 abbrev μ-loop : tie.MeasureT-loop
 μ-loop s at w i₀ i = w - i
@@ -58,7 +58,7 @@ loop-again c =
     (omega arith, l .inv .1, zero-first (a .s .now) (a .at) (a .w) (l .i) (omega arith) (l .inv .1) (c .if2 .left) ∙ l .inv .2)
 
 returns-3 : tie.Need-returns-3 Inv-loop μ-loop
-unfolding number
+unfolding bytesNumber
 returns-3 c =
     let a = c .before .before .before .before .before .args in
     let l = c .before .loop in

@@ -4,20 +4,20 @@ use mathlib.Core.Path.{_≡_, sym, _∙_}
 use native.Mathlib.Omega.{arith}
 use native.Mathlib.Nat.{add-zero, sub-zero}
 use lib.ListN.{getD, take, drop}
-use Rattle.fields.specs.Fields.{number}
-use Rattle.fields.proofs.Laws.{field-in, read-more, read-bound, bound-word}
+use Rattle.fields.specs.Fields.{bytesNumber}
+use Rattle.fields.proofs.Fields.{field-in, read-more, read-bound, bound-word}
 use Rattle.fields.proofs.number.Statement.{statement}
 use Rattle.fields.proofs.number.Tie as tie
 
 abbrev Inv-loop : tie.InvT-loop
 Inv-loop s at w n₀ i₀ n i =
-    (i ≤ w) × (n ≡ number (take (w - i) (drop (at + i) s))) × (n < 256 ^ (w - i))
+    (i ≤ w) × (n ≡ bytesNumber (take (w - i) (drop (at + i) s))) × (n < 256 ^ (w - i))
 
 abbrev μ-loop : tie.MeasureT-loop
 μ-loop s at w n₀ i₀ n i = i
 
 loop-holds : tie.Need-loop-holds Inv-loop μ-loop
-unfolding number
+unfolding bytesNumber
 loop-holds c =
     let e : c .args .w - c .args .w ≡ 0 = omega arith in
     (omega arith, rw e, rw e (omega arith))

@@ -4,7 +4,7 @@ use mathlib.Core.Path.{_≡_, refl, sym, _∙_}
 use native.Mathlib.Omega.{arith}
 use lib.ListN.{length, length-set}
 use Rattle.fields.specs.Fields.{encode, written}
-use Rattle.fields.proofs.Laws.{written-none, written-byte}
+use Rattle.fields.proofs.Fields.{written-none, written-byte}
 use native.Mathlib.Nat.{add-zero, sub-zero}
 use Rattle.fields.proofs.put.Statement.{statement}
 use Rattle.fields.proofs.put.Tie as tie

@@ -5,7 +5,7 @@ use mathlib.Core.List.{[]}
 use native.Mathlib.Omega.{arith}
 use lib.ListN.{length, drop, length-set}
 use Rattle.fields.specs.Fields.{written}
-use Rattle.fields.proofs.Laws.{written-none, written-copy}
+use Rattle.fields.proofs.Fields.{written-none, written-copy}
 use native.Mathlib.Nat.{add-zero}
 use lib.ListN.{drop-of-length-le}
 use Rattle.fields.proofs.put_all.Statement.{statement}

@@ -1,7 +1,7 @@
 -- `fields::read`: what `inside` says is what `number` asks; else the field is 0.
 use mathlib.Core.Path.{sym, _∙_}
 use borrow.Author.Tests.{leb-true, leb-false}
-use Rattle.fields.proofs.Laws.{field-out, power-positive}
+use Rattle.fields.proofs.Fields.{field-out, power-positive}
 use borrow.Author.Needs.{needs}
 use Rattle.fields.proofs.read.Statement.{statement}
 use Rattle.fields.proofs.read.Tie as tie

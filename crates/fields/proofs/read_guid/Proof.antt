@@ -5,7 +5,7 @@ use native.Mathlib.Omega.{arith}
 use borrow.Author.Tests.{leb-true, leb-false}
 use lib.ListN.{length}
 use Rattle.fields.specs.Fields.{field}
-use Rattle.fields.proofs.Laws.{field-out}
+use Rattle.fields.proofs.Fields.{field-out}
 use borrow.Author.Needs.{needs}
 use Rattle.fields.proofs.read_guid.Statement.{statement}
 use Rattle.fields.proofs.read_guid.Tie as tie
@@ -25,7 +25,7 @@ read-u64-requires-2 : tie.Need-read-u64-requires-2
 read-u64-requires-2 c κs = search needs
 
 returns : tie.Need-returns
-returns c = cc (c .before .read-u64 .ensures, c .read-u642 .ensures)
+returns c = λ u. record { low = c .before .read-u64 .ensures u; high = c .read-u642 .ensures u }
 
 returns-2 : tie.Need-returns-2
 returns-2 c =

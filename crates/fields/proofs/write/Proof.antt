@@ -4,7 +4,7 @@ use Prim.Native.Nat.{_+_, _<_}
 use borrow.Author.Tests.{leb-true, leb-false}
 use lib.ListN.{length}
 use Rattle.fields.specs.Fields.{encode}
-use Rattle.fields.proofs.Laws.{written-out, length-encode}
+use Rattle.fields.proofs.Fields.{written-out, length-encode}
 use borrow.Author.Needs.{needs}
 use Rattle.fields.proofs.write.Statement.{statement}
 use Rattle.fields.proofs.write.Tie as tie

@@ -5,7 +5,7 @@ use native.Mathlib.Omega.{arith}
 use borrow.Author.Tests.{leb-true, leb-false}
 use lib.ListN.{length}
 use Rattle.fields.specs.Fields.{guidBytes}
-use Rattle.fields.proofs.Laws.{first-field, then-field, written-out, length-guid}
+use Rattle.fields.proofs.Fields.{first-field, then-field, written-out, length-guid}
 use borrow.Author.Needs.{needs}
 use Rattle.fields.proofs.write_guid.Statement.{statement}
 use Rattle.fields.proofs.write_guid.Tie as tie

@@ -3,7 +3,7 @@ use mathlib.Core.Path.{_≡_, sym}
 use native.Mathlib.Nat.{sub-zero}
 use native.Mathlib.Omega.{arith}
 use lib.ListN.{length}
-use Rattle.fields.proofs.Laws.{written-none}
+use Rattle.fields.proofs.Fields.{written-none}
 use Prim.Native.Nat.{_-_}
 use Rattle.fragments.proofs.Rest.{take-least}
 use borrow.Author.Needs.{needs}

@@ -1,7 +1,7 @@
 -- `fragments::tail_end`: object data, or a list.
 use native.Mathlib.Omega.{arith}
 use borrow.Author.Tests.{eq-eqb, ne-eqb}
-use Rattle.references.proofs.Laws.{size-most}
+use Rattle.references.proofs.Forms.{size-most}
 use borrow.Author.Needs.{needs}
 use Rattle.fragments.proofs.tail_end.Statement.{statement}
 use Rattle.fragments.proofs.tail_end.Tie as tie

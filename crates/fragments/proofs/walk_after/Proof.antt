@@ -1,7 +1,7 @@
 -- `fragments::walk_after`: no form, object data, or a list.
 use native.Mathlib.Omega.{arith}
 use borrow.Author.Tests.{ne-eqb}
-use Rattle.references.proofs.Laws.{size-most}
+use Rattle.references.proofs.Forms.{size-most}
 use borrow.Author.Needs.{needs}
 use Rattle.fragments.proofs.walk_after.Statement.{statement}
 use Rattle.fragments.proofs.walk_after.Tie as tie

@@ -6,7 +6,7 @@ use native.Mathlib.Omega.{arith}
 use borrow.Author.Tests.{leb-true, not-true, not-false, eq-eqb, ne-eqb}
 use lib.Dec.{leb, eqb}
 use Rattle.references.specs.References.{fixedSize}
-use Rattle.references.proofs.Laws.{size-most}
+use Rattle.references.proofs.Forms.{size-most}
 use Rattle.fragments.specs.Fragments.{inTail}
 use borrow.Author.Needs.{needs}
 use Rattle.fragments.proofs.walked.Statement.{statement}

@@ -1,9 +1,9 @@
 -- `loading::is_snapshot_of`: the buffer holds the table's own snapshot, which is compared.
-use mathlib.Core.Path.{_≡_, sym, ap, _∙_}
+use mathlib.Core.Path.{sym, ap, _∙_}
 use native.Mathlib.Omega.{arith}
 use Prim.Native.Nat.{ℕ}
 use mathlib.Core.List.{List}
-use lib.ListN.{length, length-replicate}
+use lib.ListN.{length-replicate}
 use Rattle.bindings.specs.Bindings.{sameWords}
 use lib.Seq.{length-take-le}
 use Rattle.table.specs.View.{memory}

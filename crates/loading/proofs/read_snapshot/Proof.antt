@@ -1,9 +1,8 @@
 -- `loading::read_snapshot`: read, judged, compared.
 use borrow.Author.Needs.{needs}
-use mathlib.Core.Path.{_≡_, sym, _∙_}
+use mathlib.Core.Path.{sym, _∙_}
 use native.Mathlib.Omega.{arith}
 use borrow.Author.Tests.{not-true, not-false}
-use Rattle.table.specs.View.{memory, view}
 use Rattle.calls.proofs.Calls.{sound-table}
 use Rattle.loading.proofs.Loading.{lent, not-read, not-sound, read-sound}
 use Rattle.loading.proofs.read_snapshot.Statement.{statement}

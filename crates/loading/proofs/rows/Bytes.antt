@@ -7,7 +7,7 @@ use native.Mathlib.Omega.{arith}
 use lib.ListN.{length, take, drop, length-drop, drop-of-length-le}
 use lib.Seq.{drop-drop, take-all}
 use Rattle.fields.specs.Fields.{field}
-use Rattle.fields.proofs.Laws.{field-drop}
+use Rattle.fields.proofs.Fields.{field-drop}
 use Rattle.lists.specs.Lists.{tabulate}
 use Rattle.lists.proofs.Tests.{below-or-not}
 use Rattle.lists.proofs.Lists.{tabulate-ext}

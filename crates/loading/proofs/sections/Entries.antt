@@ -9,7 +9,7 @@ use lib.ListN.{length, getD, drop}
 use lib.Seq.{drop-drop}
 use Rattle.kinds.proofs.Refusing.{true-false}
 use Rattle.fields.specs.Fields.{field}
-use Rattle.fields.proofs.Laws.{field-drop}
+use Rattle.fields.proofs.Fields.{field-drop}
 use Rattle.lists.specs.Lists.{every, keep, among}
 use Rattle.lists.proofs.Tests.{true-or-false, and-intro}
 use Rattle.rules.specs.Entries.{Exporter, Object, Interface, PingSet, Entries, Ordered, oids, listBytes, withExporters, withObjects, withInterfaces, withSets}

@@ -9,7 +9,7 @@ use lib.ListN.{length, drop, length-drop}
 use lib.Seq.{drop-drop}
 use Rattle.kinds.proofs.Refusing.{true-false}
 use Rattle.fields.specs.Fields.{field}
-use Rattle.fields.proofs.Laws.{field-drop}
+use Rattle.fields.proofs.Fields.{field-drop}
 use Rattle.rules.specs.Entries.{Entries}
 use Rattle.rules.specs.Snapshot.{Front, readRow}
 use Rattle.loading.specs.declared.rows.Section.{Section}

@@ -10,11 +10,11 @@ use lib.ListN.{length, getD}
 use Rattle.kinds.specs.Refusals.{order, _gives_}
 use Rattle.kinds.specs.declared.Guid.{Guid}
 use Rattle.fields.specs.Fields.{written}
-use Rattle.fields.proofs.Laws.{written-front}
+use Rattle.fields.proofs.Fields.{written-front}
 use Rattle.bindings.specs.Bindings.{listAnswer}
 use Rattle.bindings.specs.Filter.{filtered, writeFiltered}
 use Rattle.bindings.specs.declared.filter.Filtered.{Filtered}
-use Rattle.bindings.proofs.Laws.{front-list}
+use Rattle.bindings.proofs.ListAnswers.{front-list}
 use Rattle.bindings.proofs.FilterWriting.{answer-room, answer-done, write-refused, write-done}
 use Rattle.lists.proofs.Tests.{below-or-not}
 use Rattle.rules.specs.Entries.{Exporter, exporterRow}

@@ -13,8 +13,9 @@ use Rattle.kinds.proofs.Refusing.{eq-differ, ne-differ}
 use Rattle.fields.specs.Fields.{field}
 use Rattle.bindings.specs.Bindings.{listLength}
 use Rattle.bindings.specs.declared.Place.{Place}
-use Rattle.references.specs.References.{isCustom, referenceAnswer, tailPlace}
-use Rattle.references.proofs.Laws.{accepted, oxid-at, tail-number, tail-within, tail-bytes}
+use Rattle.references.specs.References.{isCustom, referenceAt, referenceAnswer, tailPlace}
+use Rattle.references.specs.declared.Reference.{Reference}
+use Rattle.references.proofs.Forms.{accepted, flags-at, tail-number, tail-within, tail-bytes}
 use Rattle.lists.specs.Lists.{firstIndex}
 use Rattle.rules.specs.Entries.{Entries, oxids, exporterRow}
 use Rattle.rules.specs.Calls.{Call, Reply}
@@ -54,8 +55,9 @@ module _ (reference : List ℕ) {x : Place} (own : x ≡ tailPlace reference) wh
     unfolding number refusals
     form-left e = row-passes (differ (referenceAnswer reference) 0) (referenceAnswer reference) _ refl (eq-differ (referenceAnswer reference) 0 good-reference)
 
-    pub same-oxid : (field reference 4 4 ≡ 4 → ⊥) → field reference 32 8 ≡ oxidOf reference
-    same-oxid other = sym (oxid-at reference (accepted reference good-reference .form) other)
+    -- the form that is read is the one that the bytes name
+    pub same-form : {r : Reference} → r ≡ referenceAt reference → r .flags ≡ field reference 4 4
+    same-form e = ap (λ (r : Reference). r .flags) e ∙ flags-at reference (accepted reference good-reference .form)
 
 -- ---- the list of a live exporter, in the store
 

@@ -5,9 +5,9 @@ use native.Mathlib.Omega.{arith}
 use native.Mathlib.Nat.{add-sub-cancel-left}
 use borrow.Author.Needs.{needs}
 use borrow.Author.Tests.{not-true, not-false}
-use Rattle.fields.proofs.Laws.{take-rest}
-use Rattle.elements.proofs.Laws.{content-within, element-short, element-other, element-refused, element-inner}
-use Rattle.references.proofs.Laws.{headed, opened, extended-room, layout-none, layout-head, layout-plain, layout-front, layout-element}
+use Rattle.fields.proofs.Fields.{take-rest}
+use Rattle.elements.proofs.ElementAnswers.{content-within, element-short, element-other, element-refused, element-inner}
+use Rattle.references.proofs.Forms.{headed, opened, extended-room, layout-none, layout-head, layout-plain, layout-front, layout-element}
 use borrow.Fn.Kinds.{In}
 use borrow.Fn.PlainCycle.{Measures, is, falls, and}
 use Rattle.references.proofs.element.Reads as element

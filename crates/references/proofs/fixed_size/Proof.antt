@@ -1,6 +1,6 @@
 use mathlib.Core.Path.{sym}
 use Rattle.references.specs.References.{fixedSize}
-use Rattle.references.proofs.Laws.{by-other}
+use Rattle.references.proofs.Forms.{by-other}
 use Rattle.references.proofs.fixed_size.Statement.{statement}
 use Rattle.references.proofs.fixed_size.Tie as tie
 

@@ -1,5 +1,5 @@
 use native.Mathlib.Omega.{arith}
-use Rattle.references.proofs.Laws.{list-end}
+use Rattle.references.proofs.Forms.{list-end}
 use borrow.Author.Needs.{needs}
 use Rattle.references.proofs.list_end.Statement.{statement}
 use Rattle.references.proofs.list_end.Tie as tie

@@ -7,9 +7,9 @@ use lib.ListN.{length}
 use Rattle.fields.specs.Fields.{field}
 use Rattle.bindings.specs.Bindings.{bindingAt, bytesAt}
 use Rattle.bindings.specs.declared.Place.{Place}
-use Rattle.bindings.proofs.Laws.{Within, within-binding}
+use Rattle.bindings.proofs.ListAnswers.{Within, within-binding}
 use Rattle.references.specs.References.{fixedSize, referenceAnswer, tailOf, moved, referenceBinding}
-use Rattle.references.proofs.Laws.{tail-number, tail-start, tail-within, tail-length, binding-refused, binding-custom, binding-listed}
+use Rattle.references.proofs.Forms.{tail-number, tail-start, tail-within, tail-length, binding-refused, binding-custom, binding-listed}
 use borrow.Author.Needs.{needs}
 use Rattle.references.proofs.locate.Statement.{statement}
 use Rattle.references.proofs.locate.Tie as tie

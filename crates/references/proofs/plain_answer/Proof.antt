@@ -4,9 +4,9 @@ use native.Mathlib.Omega.{arith}
 use borrow.Author.Tests.{ne-eqb}
 use lib.ListN.{length}
 use Rattle.fields.specs.Fields.{field}
-use Rattle.fields.proofs.Laws.{take-rest}
+use Rattle.fields.proofs.Fields.{take-rest}
 use Rattle.references.specs.References.{fixedSize, plainAnswer}
-use Rattle.references.proofs.Laws.{headed, custom-room}
+use Rattle.references.proofs.Forms.{headed, custom-room}
 use borrow.Author.Needs.{needs}
 use Rattle.references.proofs.plain_answer.Statement.{statement}
 use Rattle.references.proofs.plain_answer.Tie as tie

@@ -1,30 +1,15 @@
--- `reference_answer`: the layout's answer, then 22.
-use mathlib.Core.Path.{sym, _∙_}
-use Rattle.kinds.specs.Refusals.{order}
-use Rattle.kinds.proofs.Refusing.{ne-differ, eq-differ}
+-- `reference_answer`: eight levels are left.
 use Rattle.references.specs.References.{referenceAnswer}
 use borrow.Author.Needs.{needs}
 use Rattle.references.proofs.reference_answer.Statement.{statement}
 use Rattle.references.proofs.reference_answer.Tie as tie
 
-layout-requires : tie.Need-layout-requires
-layout-requires c κs = search needs
+answer-within-requires : tie.Need-answer-within-requires
+answer-within-requires c κs = search needs
 
 returns : tie.Need-returns
-unfolding referenceAnswer order
-returns c = let n = c .before .layout .ensures in simp (ne-differ _ _ (λ z. c .if1 .taken (n ∙ z))) n
-
-names-nil-requires : tie.Need-names-nil-requires
-names-nil-requires c κs = search needs
-
-returns-2 : tie.Need-returns-2
-unfolding referenceAnswer order
-returns-2 c = simp (eq-differ _ _ (sym (c .before .before .before .layout .ensures) ∙ c .before .before .if1 .left), sym (c .before .names-nil .ensures) ∙ c .if2 .taken)
-
-returns-3 : tie.Need-returns-3
-unfolding referenceAnswer order
-returns-3 c = simp (eq-differ _ _ (sym (c .before .before .before .layout .ensures) ∙ c .before .before .if1 .left), sym (c .before .names-nil .ensures) ∙ c .if2 .left)
+unfolding referenceAnswer
+returns c = c .answer-within .ensures
 
 pub reference-answer-spec : {M : Type 1} → statement M
-reference-answer-spec =
-    tie.close (tie.spec layout-requires returns names-nil-requires returns-2 returns-3)
+reference-answer-spec = tie.close (tie.spec answer-within-requires returns)

@@ -1,6 +1,7 @@
 -- `tail_place`: a refusal; the list of an extended reference; or from the end of the fixed fields to the end.
 use mathlib.Core.Path.{sym, ap, _∙_}
 use borrow.Author.Tests.{eq-eqb, ne-eqb}
+use lib.ListN.{length}
 use Rattle.fields.specs.Fields.{field}
 use Rattle.bindings.specs.Bindings.{refusal}
 use Rattle.references.specs.References.{fixedSize, tailPlace}
@@ -31,7 +32,7 @@ unfolding tailPlace fixedSize
 returns-2 c =
     let n = c .before .before .before .before .reference-answer .ensures in
     let f = sym (c .before .before .read-u32 .ensures) ∙ c .before .if2 .taken in
-    rw (eq-eqb _ _ (sym n ∙ c .before .before .before .if1 .left), f) (cc (c .list-end .ensures .0))
+    rw (eq-eqb _ _ (sym n ∙ c .before .before .before .if1 .left), f) (λ u. record { answer = 0; from = 68; to = c .list-end .ensures .0 u })
 
 fixed-size-requires : tie.Need-fixed-size-requires
 fixed-size-requires c κs = search needs
@@ -42,7 +43,7 @@ returns-3 c =
     let n = c .before .before .before .before .reference-answer .ensures in
     let s = c .before .before .before .before .before .before .args .s .now in
     let f = c .before .before .read-u32 .ensures in
-    rw (eq-eqb _ _ (sym n ∙ c .before .before .before .if1 .left), ne-eqb (field s 4 4) 8 (λ z. c .before .if2 .left (f ∙ z))) (cc (c .fixed-size .ensures ∙ ap fixedSize f))
+    rw (eq-eqb _ _ (sym n ∙ c .before .before .before .if1 .left), ne-eqb (field s 4 4) 8 (λ z. c .before .if2 .left (f ∙ z))) (λ u. record { answer = 0; from = (c .fixed-size .ensures ∙ ap fixedSize f) u; to = length s })
 
 pub tail-place-spec : {M : Type 1} → statement M
 tail-place-spec =

@@ -7,7 +7,7 @@ use native.Mathlib.Omega.{arith}
 use lib.Dec.{ltb}
 use lib.ListN.{length, getD, take, length-append}
 use Rattle.fields.specs.Fields.{encode, written}
-use Rattle.fields.proofs.Laws.{length-encode}
+use Rattle.fields.proofs.Fields.{length-encode}
 use Rattle.bindings.specs.Bindings.{joined}
 use Rattle.lists.specs.Lists.{every}
 use Rattle.bindings.specs.Bindings.{joined}

@@ -6,7 +6,7 @@ use native.Mathlib.Omega.{arith}
 use native.Mathlib.Nat.{zero-add}
 use borrow.Author.Tests.{lt-ltb, le-ltb}
 use lib.ListN.{length}
-use Rattle.fields.proofs.Laws.{written-front}
+use Rattle.fields.proofs.Fields.{written-front}
 use Rattle.rules.specs.Calls.{Call}
 use Rattle.rules.specs.Rules.{refusals, number, next, results, refused, done}
 use Rattle.rules.specs.Snapshot.{snapshotBytes}

@@ -11,7 +11,7 @@ use lib.ListN.{length, getD, drop, set}
 use lib.Seq.{set-split}
 use Rattle.kinds.specs.declared.Guid.{Guid}
 use Rattle.fields.specs.Fields.{encode, guidBytes, written}
-use Rattle.fields.proofs.Laws.{length-encode, length-guid, written-in, written-none}
+use Rattle.fields.proofs.Fields.{length-encode, length-guid, written-in, written-none}
 use Rattle.bindings.specs.Bindings.{joined, listAnswer}
 use Rattle.lists.specs.Lists.{tabulate}
 use Rattle.lists.proofs.Tests.{and-right}

@@ -3,8 +3,8 @@ use Prim.Native.Nat.{ℕ, _+_, _%_, _^_, _<_}
 use mathlib.Core.Path.{_≡_, refl, ap, _∙_}
 use mathlib.Core.List.{List, [], _∷_, map}
 use native.Mathlib.Omega.{arith}
-use lib.ListN.{length, getD, set, replicate}
-use lib.Seq.{map-set-same, getD-set-same}
+use lib.ListN.{length, getD, set}
+use lib.Seq.{map-set-same}
 use Rattle.kinds.specs.declared.Guid.{Guid}
 use Rattle.lists.specs.Lists.{tabulate}
 use Rattle.lists.proofs.Lists.{tabulate-ext, tabulate-getD, map-tabulate}
@@ -13,24 +13,24 @@ use Rattle.columns.specs.Members.{memberRows}
 use Rattle.columns.specs.declared.members.Members.{Members}
 use Rattle.columns.proofs.members.Bits.{members-none}
 use Rattle.columns.proofs.members.Making.{zero-member}
-use Rattle.rules.specs.Entries.{withNext, Object, Interface, PingSet, heardAt, pingedAt, withSequence, withMembers}
-use Rattle.rules.specs.Rules.{enteredCounts, makeSet, noObject, noInterface, noSet}
+use Rattle.rules.specs.Entries.{withNext, Object, Interface, PingSet, heardAt, pingedAt, withSequence, withMembers, interfacePlaces, setPlaces}
+use Rattle.rules.specs.Rules.{makeSet, noObject, noInterface, noSet}
 use Rattle.table.specs.View.{objectKind, interfaceKind, setKind, objectCount, interfaceCount, setCount, asObject, asInterface, asSet, objectsOf, interfacesOf, setsOf, oidsOf, memberValues, clockOf, nextOf, memory, view}
 use Rattle.rules.specs.PingRows.{changeSet}
 use Rattle.table.specs.Edits.{Only, Pushed, Pulled, Became, addInterface, addSet, dropInterface, dropSet, changeObject, changeInterface}
-use Rattle.table.proofs.edit.Rows.{live, noRows, only-word, only-stored, only-stored-two, live-stored, live-stored-two, made-pushed, made-pulled, made-changed}
-use Rattle.table.proofs.edit.Views.{sets-kept, became-objects, became-interfaces, became-sets, became-next}
+use Rattle.table.proofs.edit.Rows.{live, only-stored, only-stored-two, live-stored, live-stored-two, made-pushed, made-pulled, made-changed}
+use Rattle.table.proofs.edit.Views.{sets-kept, became-objects, became-interfaces, became-sets}
 
 -- ---- rows that are entered, taken out, or changed
 
 module _ (ws ws′ : List ℕ) where
   -- an interface by its row
-  interface-pushed : (n : ℕ) (r : List ℕ) → n ≡ interfaceCount ws → n < 256 → Pushed interfaceKind 4 n r ws ws′ → Became (addInterface (asInterface r)) ws ws′
+  interface-pushed : (n : ℕ) (r : List ℕ) → n ≡ interfaceCount ws → n < interfacePlaces → Pushed interfaceKind 4 n r ws ws′ → Became (addInterface (asInterface r)) ws ws′
   unfolding interfacesOf
   interface-pushed n r e b p = became-interfaces ws ws′ _ (p .only) (made-pushed interfaceKind 4 asInterface ws ws′ n e r p b)
 
   -- an interface by its fields
-  pub interface-added : (n : ℕ) (ipid iid : Guid) (oid : ℕ) (cs : List ℕ) → length cs ≡ 9 → ((k : ℕ) → getD cs k 0 < 2 ^ 32) → n ≡ interfaceCount ws → n < 256
+  pub interface-added : (n : ℕ) (ipid iid : Guid) (oid : ℕ) (cs : List ℕ) → length cs ≡ 9 → ((k : ℕ) → getD cs k 0 < 2 ^ 32) → n ≡ interfaceCount ws → n < interfacePlaces
       → Pushed interfaceKind 4 n (ipid .low ∷ ipid .high ∷ iid .low ∷ iid .high ∷ oid ∷ tabulate 9 (λ k. getD cs k 0)) ws ws′
       → Became (addInterface (record { ipid = ipid; iid = iid; object = oid; counts = cs })) ws ws′
   interface-added n ipid iid oid cs nine h e b q =
@@ -52,12 +52,12 @@ module _ (ws ws′ : List ℕ) where
   interface-changed f i r o h e g = became-interfaces ws ws′ _ o (made-changed interfaceKind 4 asInterface ws ws′ noInterface f i r h e g)
 
   -- a set by its row
-  set-pushed : (n : ℕ) (r : List ℕ) → n ≡ setCount ws → n < 32 → Pushed setKind 5 n r ws ws′ → Became (addSet (asSet (oidsOf ws) r)) ws ws′
+  set-pushed : (n : ℕ) (r : List ℕ) → n ≡ setCount ws → n < setPlaces → Pushed setKind 5 n r ws ws′ → Became (addSet (asSet (oidsOf ws) r)) ws ws′
   unfolding setsOf
   set-pushed n r e b p = became-sets ws ws′ _ (p .only) (made-pushed setKind 5 (asSet (oidsOf ws)) ws ws′ n e r p b)
 
   -- a set by its fields
-  pub set-added : (n number q t : ℕ) (m : Members) → q < 65536 → n ≡ setCount ws → n < 32 → Pushed setKind 5 n (number ∷ q ∷ t ∷ m .low ∷ m .high ∷ []) ws ws′
+  pub set-added : (n number q t : ℕ) (m : Members) → q < 65536 → n ≡ setCount ws → n < setPlaces → Pushed setKind 5 n (number ∷ q ∷ t ∷ m .low ∷ m .high ∷ []) ws ws′
       → Became (addSet (record { number = number; sequence = q; pinged = t; members = memberValues (oidsOf ws) m })) ws ws′
   set-added n number q t m h e b p =
       let z : q % 65536 ≡ q = omega arith in

@@ -9,6 +9,7 @@ use lib.Seq.{getD-set-same, getD-set-other}
 use Rattle.columns.specs.Members.{Cut}
 use Rattle.columns.specs.declared.members.Members.{Members}
 use Rattle.lists.proofs.Tests.{same-or-not}
+use Rattle.rules.specs.Entries.{setPlaces}
 use Rattle.table.specs.View.{setCount}
 use Rattle.table.specs.Edits.{membersAt, MembersCut}
 
@@ -16,7 +17,7 @@ use Rattle.table.specs.Edits.{membersAt, MembersCut}
 pub record CutTo (i : ℕ) (ws₀ ws : List ℕ) (r : ℕ) : Type 0 where
   pub size : length ws ≡ length ws₀
   pub cut : (q : ℕ) → q < r → Cut i (membersAt ws₀ q) (membersAt ws q)
-  pub left : (q : ℕ) → r ≤ q → q < 32 → membersAt ws q ≡ membersAt ws₀ q
+  pub left : (q : ℕ) → r ≤ q → q < setPlaces → membersAt ws q ≡ membersAt ws₀ q
   pub others : (x : ℕ) → (x < 160) ⊎ (224 ≤ x) → getD ws x 0 ≡ getD ws₀ x 0
 
 -- no row
@@ -27,7 +28,7 @@ cut-none i ws = record { size = refl; cut = λ q h. absurd (omega arith); left =
 abbrev pub stored : List ℕ → ℕ → Members → List ℕ
 stored ws r m = set (set ws (160 + r) (m .low)) (192 + r) (m .high)
 
-module _ (ws : List ℕ) (r : ℕ) (m : Members) (h : r < 32) (s : length ws ≡ 8192) where
+module _ (ws : List ℕ) (r : ℕ) (m : Members) (h : r < setPlaces) (s : length ws ≡ 8192) where
   -- another word
   stored-other : (x : ℕ) → (x ≡ 160 + r → ⊥) → (x ≡ 192 + r → ⊥) → getD (stored ws r m) x 0 ≡ getD ws x 0
   stored-other x a b = getD-set-other (set ws (160 + r) (m .low)) (192 + r) x (m .high) 0 b ∙ getD-set-other ws (160 + r) x (m .low) 0 a
@@ -43,7 +44,7 @@ module _ (ws : List ℕ) (r : ℕ) (m : Members) (h : r < 32) (s : length ws ≡
       λ u. record { low = low u; high = high u }
 
   -- the members at another row
-  stored-apart : (q : ℕ) → q < 32 → (q ≡ r → ⊥) → membersAt (stored ws r m) q ≡ membersAt ws q
+  stored-apart : (q : ℕ) → q < setPlaces → (q ≡ r → ⊥) → membersAt (stored ws r m) q ≡ membersAt ws q
   stored-apart q b d =
       let low = stored-other (160 + q) (omega arith) (omega arith) in
       let high = stored-other (192 + q) (omega arith) (omega arith) in

@@ -16,7 +16,7 @@ use Rattle.columns.specs.declared.members.Members.{Members}
 use Rattle.lists.proofs.Lists.{every-tabulate, every-tabulate-at, keep-map, keep-ext-on, getD-map, map-append, map-delete, map-ext-on, map-map, map-tabulate, tabulate-ext}
 use Rattle.lists.proofs.Distinct.{eqb-decides, distinct-at}
 use Rattle.columns.proofs.members.Bits.{below-cut, cut-values}
-use Rattle.rules.specs.Entries.{Object, PingSet, withMembers}
+use Rattle.rules.specs.Entries.{Object, PingSet, withMembers, objectPlaces}
 use Rattle.rules.specs.Rules.{noObject}
 use Rattle.table.specs.View.{objectKind, setKind, objectCount, setCount, asObject, asSet, objectsOf, setsOf, oidsOf, memberValues}
 use Rattle.table.specs.Edits.{Only, Pushed, Pulled, MembersCut, membersAt, membersBelow, Became, addObject, dropObject}
@@ -58,7 +58,7 @@ longer ids o r h =
     λ u. record { number = asSet ids r .number; sequence = asSet ids r .sequence; pinged = asSet ids r .pinged; members = e u }
 
 -- a row of the objects is entered, and the sets are the same
-pub object-pushed : (ws ws′ : List ℕ) (n : ℕ) (r : List ℕ) → n ≡ objectCount ws → n < 128 → membersBelow ws ≡ true → Pushed objectKind 3 n r ws ws′
+pub object-pushed : (ws ws′ : List ℕ) (n : ℕ) (r : List ℕ) → n ≡ objectCount ws → n < objectPlaces → membersBelow ws ≡ true → Pushed objectKind 3 n r ws ws′
     → Became (addObject (asObject r)) ws ws′
 unfolding objectsOf setsOf membersBelow
 object-pushed ws ws′ n r e b h p =
@@ -72,7 +72,7 @@ object-pushed ws ws′ n r e b h p =
 -- ---- an object goes
 
 -- of distinct OIDs, those of the members but the one at k
-left-members : (ids : List ℕ) (k : ℕ) (m r : Members) → Cut k m r → k < length ids → length ids ≤ 128 → distinct eqb ids ≡ true → Below (length ids) m ≡ true
+left-members : (ids : List ℕ) (k : ℕ) (m r : Members) → Cut k m r → k < length ids → length ids ≤ objectPlaces → distinct eqb ids ≡ true → Below (length ids) m ≡ true
     → memberValues (deleteAt k ids) r ≡ keep (λ o. not (eqb o (getD ids k 0))) (memberValues ids m)
 left-members ids k m r c h l d b =
     cut-values k m r c 0 ids (omega arith)

@@ -4,17 +4,15 @@ use mathlib.Core.Path.{_≡_, refl, sym, ap, _∙_}
 use mathlib.Core.Bool.{Bool, true, false, not, _&&_}
 use mathlib.Core.List.{List, [], _∷_, _++_, map}
 use borrow.Author.Tests.{not-true, not-false}
-use lib.Dec.{eqb}
 use lib.ListN.{take, drop}
 use Rattle.kinds.specs.declared.Guid.{Guid}
 use Rattle.lists.specs.Lists.{every, distinct, apart, among, holding}
 use Rattle.lists.specs.Guids.{nil, sameGuid}
 use Rattle.columns.specs.Guids.{guids}
 use Rattle.lists.proofs.Tests.{holding-fails, holding-passes, holding-last}
-use Rattle.lists.proofs.Lists.{every-map, every-ext, every-append, some-map}
+use Rattle.lists.proofs.Lists.{every-map, every-append}
 use Rattle.lists.proofs.Distinct.{distinct-append}
-use Rattle.rules.specs.Entries.{Entries, Object, Interface}
-use Rattle.rules.specs.Sound.{properGuids, objectsHaveInterfaces}
+use Rattle.rules.specs.Sound.{properGuids}
 
 -- ---- chains of clauses: t is the outcome of the first clause that is left
 
@@ -56,10 +54,6 @@ module _ {A : Type 0} (f : A → ℕ) (xs : List A) {col : List ℕ} (q : col �
   -- the words of a column stand in another
   pub column-in : {b ids : List ℕ} → b ≡ ids → t ≡ every (among b) col → t ≡ every (λ x. among ids (f x)) xs
   column-in {b} {ids} r e = column-test (among ids) (e ∙ ap (λ (y : List ℕ). every (among y) col) r)
-
--- each object has an interface where each OID is the object of one
-pub have-interfaces : (e : Entries) → every (λ (o : Object). among (map (λ (i : Interface). i .object) (e .interfaces)) (o .oid)) (e .objects) ≡ objectsHaveInterfaces e
-have-interfaces e = every-ext _ _ (λ o. some-map (eqb (o .oid)) (λ i. i .object) (e .interfaces)) (e .objects)
 
 -- identifiers of two lists: each list is proper, and no identifier stands in both
 abbrev pub pairClauses : List Guid → List Guid → List Bool

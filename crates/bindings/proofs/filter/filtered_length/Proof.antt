@@ -3,7 +3,7 @@ use mathlib.Core.Path.{sym, ap, _∙_}
 use native.Mathlib.Omega.{arith}
 use lib.ListN.{length}
 use Rattle.bindings.specs.Bindings.{listLength}
-use Rattle.bindings.proofs.Laws.{accepted}
+use Rattle.bindings.proofs.ListAnswers.{accepted}
 use Rattle.bindings.proofs.FilterWriting.{no-words, filtered-size}
 use borrow.Author.Needs.{needs}
 use Rattle.bindings.proofs.filter.filtered_length.Statement.{statement}

@@ -2,7 +2,7 @@
 use mathlib.Core.Path.{refl, sym}
 use native.Mathlib.Nat.{add-zero}
 use borrow.Author.Needs.{needs}
-use Rattle.fields.proofs.Laws.{written-none}
+use Rattle.fields.proofs.Fields.{written-none}
 use Rattle.bindings.proofs.filter.put.Statement.{statement}
 use Rattle.bindings.proofs.filter.put.Tie as tie
 

@@ -4,9 +4,9 @@ use mathlib.Core.Path.{_≡_, sym, ap, _∙_}
 use native.Mathlib.Omega.{arith}
 use lib.ListN.{length}
 use Rattle.fields.specs.Fields.{written, Bytes}
-use Rattle.fields.proofs.Laws.{length-written}
+use Rattle.fields.proofs.Fields.{length-written}
 use Rattle.bindings.specs.Bindings.{count, listLength}
-use Rattle.bindings.proofs.Laws.{accepted}
+use Rattle.bindings.proofs.ListAnswers.{accepted}
 use Rattle.bindings.proofs.FilterWriting.{no-words, filtered-size, filtered-written, filtered-count}
 use borrow.Author.Needs.{needs}
 use Rattle.bindings.proofs.filter.put_filtered.Statement.{statement}

@@ -6,7 +6,7 @@ use native.Mathlib.Omega.{arith}
 use borrow.Author.Needs.{needs}
 use lib.ListN.{length, take, drop}
 use Rattle.fields.specs.Fields.{written, field, Bytes}
-use Rattle.fields.proofs.Laws.{length-written}
+use Rattle.fields.proofs.Fields.{length-written}
 use Rattle.lists.specs.Lists.{among}
 use Rattle.bindings.specs.Bindings.{words, joined}
 use Rattle.bindings.specs.ListBytes.{wordBytes}

@@ -20,7 +20,15 @@ read-u32-requires-4 : tie.Need-read-u32-requires-4
 read-u32-requires-4 c κs = search needs
 
 returns : tie.Need-returns
-returns c = cc (c .read-u324 .ensures, c .before .read-u323 .ensures, c .before .before .read-u322 .ensures, c .before .before .before .read-u32 .ensures, c .before .before .before .before .read-guid .ensures)
+returns c =
+    λ u.
+    record {
+      id = c .before .before .before .before .read-guid .ensures u;
+      reserved = c .before .before .before .read-u32 .ensures u;
+      marshal = c .before .before .read-u322 .ensures u;
+      count = c .before .read-u323 .ensures u;
+      frozen = c .read-u324 .ensures u;
+    }
 
 pub fields-spec : {M : Type 1} → statement M
 fields-spec =

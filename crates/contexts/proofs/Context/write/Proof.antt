@@ -3,9 +3,9 @@ use mathlib.Core.Path.{_≡_, refl, sym, _∙_}
 use native.Mathlib.Omega.{arith}
 use borrow.Author.Tests.{eq-eqb, ne-eqb}
 use lib.ListN.{length}
-use Rattle.fields.proofs.Laws.{first-bytes, then-bytes}
+use Rattle.fields.proofs.Fields.{first-bytes, then-bytes}
 use Rattle.contexts.specs.Contexts.{headBytes, contextBytes, writeContextAnswer, writeContext}
-use Rattle.contexts.proofs.Laws.{length-head, context-room}
+use Rattle.contexts.proofs.Properties.{length-head, context-room}
 use borrow.Author.Needs.{needs}
 use Rattle.contexts.proofs.Context.write.Statement.{statement}
 use Rattle.contexts.proofs.Context.write.Tie as tie
@@ -18,7 +18,7 @@ unfolding writeContext
 returns c =
     let number = c .before .judge .ensures in
     let no = c .if1 .taken in
-    (simp (ne-eqb _ _ (λ z. no (number ∙ z))) (cc number), simp (ne-eqb _ _ no))
+    (simp (ne-eqb _ _ (λ z. no (number ∙ z))) (λ u. record { answer = number u; length = 0 }), simp (ne-eqb _ _ no))
 
 done : (c : tie.Else1) → writeContextAnswer (c .before .before .before .before .args .self) (c .before .before .before .before .args .properties .now) (length (c .before .before .before .before .args .buf .now)) ≡ 0
 done c = sym (c .before .judge .ensures) ∙ c .if1 .left

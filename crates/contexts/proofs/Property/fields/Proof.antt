@@ -14,7 +14,7 @@ read-u32-requires : tie.Need-read-u32-requires
 read-u32-requires c κs = search needs
 
 returns : tie.Need-returns
-returns c = cc (c .read-u32 .ensures, c .before .read-guid2 .ensures, c .before .before .read-guid .ensures)
+returns c = λ u. record { clsid = c .before .before .read-guid .ensures u; policy = c .before .read-guid2 .ensures u; flags = c .read-u32 .ensures u }
 
 pub fields-spec : {M : Type 1} → statement M
 fields-spec =

@@ -4,10 +4,10 @@ use mathlib.Core.Path.{sym, ap, _∙_}
 use native.Mathlib.Omega.{arith}
 use borrow.Author.Tests.{eq-eqb, ne-eqb}
 use lib.ListN.{length}
-use Rattle.fields.proofs.Laws.{take-rest}
+use Rattle.fields.proofs.Fields.{take-rest}
 use Rattle.bindings.specs.declared.Place.{Place}
 use Rattle.contexts.specs.Contexts.{readProperty}
-use Rattle.contexts.proofs.Laws.{property-within, property-after}
+use Rattle.contexts.proofs.Properties.{property-within, property-after}
 use borrow.Author.Needs.{needs}
 use Rattle.contexts.proofs.Property.read.Statement.{statement}
 use Rattle.contexts.proofs.Property.read.Tie as tie
@@ -23,7 +23,7 @@ unfolding readProperty
 returns c =
     let e = c .before .before .before .locate .ensures in
     let n = ap (λ (x : Place). x .answer) e in
-    rw (ne-eqb _ _ (λ z. c .before .if1 .taken (n ∙ z))) (cc (n, c .zero .ensures))
+    rw (ne-eqb _ _ (λ z. c .before .if1 .taken (n ∙ z))) (λ u. record { answer = n u; property = c .zero .ensures u })
 
 after : (c : tie.Else1) → 40 ≤ c .before .before .locate .result .from
 after c =
@@ -64,7 +64,7 @@ returns-2 c =
     let n = ap (λ (x : Place). x .answer) e in
     let from = ap (λ (x : Place). x .from) e in
     let p = rw (take-rest s _, from) at (c .fields .ensures) in
-    rw (eq-eqb _ _ (sym n ∙ c .before .before .before .if1 .left)) (cc p)
+    rw (eq-eqb _ _ (sym n ∙ c .before .before .before .if1 .left)) (λ u. record { answer = 0; property = p u })
 
 pub read-spec : {M : Type 1} → statement M
 read-spec =

@@ -4,9 +4,9 @@ use mathlib.Core.List.{append-assoc}
 use native.Mathlib.Omega.{arith}
 use borrow.Author.Tests.{eq-eqb, ne-eqb}
 use lib.ListN.{length}
-use Rattle.fields.proofs.Laws.{first-guid, then-guid, then-field, then-bytes}
+use Rattle.fields.proofs.Fields.{first-guid, then-guid, then-field, then-bytes}
 use Rattle.contexts.specs.Contexts.{propertyBytes, writePropertyAnswer, writeProperty}
-use Rattle.contexts.proofs.Laws.{PropertyWritable, property-writable}
+use Rattle.contexts.proofs.Properties.{PropertyWritable, property-writable}
 use borrow.Author.Needs.{needs}
 use Rattle.contexts.proofs.Property.write.Statement.{statement}
 use Rattle.contexts.proofs.Property.write.Tie as tie
@@ -19,7 +19,7 @@ unfolding writeProperty
 returns c =
     let number = c .before .judge .ensures in
     let no = c .if1 .taken in
-    (simp (ne-eqb _ _ (λ z. no (number ∙ z))) (cc number), simp (ne-eqb _ _ no))
+    (simp (ne-eqb _ _ (λ z. no (number ∙ z))) (λ u. record { answer = number u; length = 0 }), simp (ne-eqb _ _ no))
 
 done : (c : tie.Else1) → writePropertyAnswer (c .before .before .before .before .args .self) (c .before .before .before .before .args .content .now) (length (c .before .before .before .before .args .buf .now)) ≡ 0
 done c = sym (c .before .judge .ensures) ∙ c .if1 .left

@@ -1,7 +1,7 @@
 -- `Extension::found`: the fields of extension k.
 use native.Mathlib.Omega.{arith}
 use Rattle.extensions.specs.Extensions.{extensionFrom}
-use Rattle.extensions.proofs.Laws.{Held, held}
+use Rattle.extensions.proofs.ArrayWalk.{Held, held}
 use borrow.Author.Needs.{needs}
 use Rattle.extensions.proofs.Extension.found.Statement.{statement}
 use Rattle.extensions.proofs.Extension.found.Tie as tie

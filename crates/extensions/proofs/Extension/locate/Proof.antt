@@ -4,7 +4,7 @@ use mathlib.Core.Path.{_≡_, sym, ap, _∙_}
 use native.Mathlib.Omega.{arith}
 use borrow.Author.Tests.{lt-ltb, le-ltb, eq-eqb, ne-eqb}
 use Rattle.extensions.specs.Extensions.{countAt, extensionsCount, extensionAt, extensionsAnswer}
-use Rattle.extensions.proofs.Laws.{walk-answer, Accepted, accepted, some-array}
+use Rattle.extensions.proofs.ArrayWalk.{walk-answer, Accepted, accepted, some-array}
 use borrow.Author.Needs.{needs}
 use Rattle.extensions.proofs.Extension.locate.Statement.{statement}
 use Rattle.extensions.proofs.Extension.locate.Tie as tie

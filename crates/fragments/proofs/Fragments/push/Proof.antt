@@ -1,7 +1,7 @@
 -- `Fragments::push`: the first 84 bytes one by one, the others at once.
 use mathlib.Core.Path.{ap, _∙_}
 use native.Mathlib.Nat.{sub-zero}
-use Rattle.fields.proofs.Laws.{take-rest}
+use Rattle.fields.proofs.Fields.{take-rest}
 use Rattle.fragments.specs.Fragments.{Reading}
 use Rattle.fragments.proofs.Rest.{push-parts}
 use borrow.Author.Needs.{needs}

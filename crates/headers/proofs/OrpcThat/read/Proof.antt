@@ -2,9 +2,9 @@
 use mathlib.Core.Path.{sym, ap, _∙_}
 use borrow.Author.Tests.{eq-eqb, ne-eqb}
 use Rattle.extensions.specs.declared.Walked.{Walked}
-use Rattle.extensions.proofs.Laws.{walk-answer}
+use Rattle.extensions.proofs.ArrayWalk.{walk-answer}
 use Rattle.headers.specs.Headers.{readThat, thatAt}
-use Rattle.headers.proofs.Laws.{that-end}
+use Rattle.headers.proofs.HeaderAnswers.{that-end}
 use borrow.Author.Needs.{needs}
 use Rattle.headers.proofs.OrpcThat.read.Statement.{statement}
 use Rattle.headers.proofs.OrpcThat.read.Tie as tie
@@ -19,7 +19,7 @@ returns : tie.Need-returns
 unfolding readThat
 returns c =
     let number = ap (λ (x : Walked). x .answer) (c .before .before .before .judge .ensures) ∙ walk-answer _ 4 in
-    simp (ne-eqb _ _ (λ z. c .before .if1 .taken (number ∙ z))) (cc (number, c .new .ensures))
+    simp (ne-eqb _ _ (λ z. c .before .if1 .taken (number ∙ z))) (λ u. record { answer = number u; header = c .new .ensures u; extensions = record { pointer = 0; array = 0; count = 0 }; length = 0 })
 
 read-u32-requires : tie.Need-read-u32-requires
 read-u32-requires c κs = search needs
@@ -35,7 +35,9 @@ unfolding readThat thatAt
 returns-2 c =
     let number = ap (λ (x : Walked). x .answer) (c .before .before .before .before .before .judge .ensures) ∙ walk-answer _ 4 in
     let done = sym number ∙ c .before .before .before .if1 .left in
-    simp (eq-eqb _ _ done) (cc (c .before .new2 .ensures, c .before .before .read-u32 .ensures, c .read .ensures, that-end _ _ (c .before .before .before .before .before .judge .ensures) done))
+    let header = c .before .new2 .ensures ∙ (λ u. record { flags = c .before .before .read-u32 .ensures u }) in
+    let end = that-end _ _ (c .before .before .before .before .before .judge .ensures) done in
+    simp (eq-eqb _ _ done) (λ u. record { answer = 0; header = header u; extensions = c .read .ensures u; length = end u })
 
 pub read-spec : {M : Type 1} → statement M
 read-spec =

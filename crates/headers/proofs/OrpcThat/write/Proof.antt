@@ -2,10 +2,10 @@
 use mathlib.Core.Path.{refl, sym, _∙_}
 use borrow.Author.Tests.{lt-ltb, le-ltb}
 use Rattle.kinds.specs.Refusals.{order}
-use Rattle.fields.proofs.Laws.{first-field, then-field}
+use Rattle.fields.proofs.Fields.{first-field, then-field}
 use Rattle.headers.specs.Headers.{thatBytes}
 use mathlib.Core.List.{[]}
-use Rattle.headers.proofs.Laws.{plain, plain-answer, write-answer}
+use Rattle.headers.proofs.HeaderAnswers.{plain, plain-answer, write-answer}
 use borrow.Author.Needs.{needs}
 use Rattle.headers.proofs.OrpcThat.write.Statement.{statement}
 use Rattle.headers.proofs.OrpcThat.write.Tie as tie

@@ -2,9 +2,9 @@
 use mathlib.Core.Path.{_∙_}
 use borrow.Author.Tests.{eq-eqb, ne-eqb}
 use Rattle.fields.specs.Fields.{encode}
-use Rattle.fields.proofs.Laws.{length-encode}
+use Rattle.fields.proofs.Fields.{length-encode}
 use Rattle.headers.specs.Headers.{thatBytes}
-use Rattle.headers.proofs.Laws.{refused-walk, done-walk, room, written-before}
+use Rattle.headers.proofs.HeaderAnswers.{refused-walk, done-walk, room, written-before}
 use borrow.Author.Needs.{needs}
 use Rattle.headers.proofs.OrpcThat.write_with.Statement.{statement}
 use Rattle.headers.proofs.OrpcThat.write_with.Tie as tie

@@ -3,7 +3,7 @@ use mathlib.Core.Path.{sym, ap, _∙_}
 use borrow.Author.Tests.{eq-eqb, ne-eqb}
 use Rattle.extensions.specs.Extensions.{noExtension}
 use Rattle.headers.specs.Headers.{thisExtension}
-use Rattle.headers.proofs.Laws.{this-number}
+use Rattle.headers.proofs.HeaderAnswers.{this-number}
 use borrow.Author.Needs.{needs}
 use Rattle.headers.proofs.OrpcThis.extension.Statement.{statement}
 use Rattle.headers.proofs.OrpcThis.extension.Tie as tie

@@ -5,8 +5,8 @@ use lib.ListN.{length}
 use Rattle.bindings.specs.Bindings.{bytesAt}
 use Rattle.extensions.specs.Extensions.{placeOf}
 use Rattle.extensions.specs.declared.Extension.{Extension}
-use Rattle.extensions.proofs.Laws.{Lies}
-use Rattle.headers.proofs.Laws.{this-lies}
+use Rattle.extensions.proofs.ArrayWalk.{Lies}
+use Rattle.headers.proofs.HeaderAnswers.{this-lies}
 use borrow.Author.Needs.{needs}
 use Rattle.headers.proofs.OrpcThis.extension_data.Statement.{statement}
 use Rattle.headers.proofs.OrpcThis.extension_data.Tie as tie

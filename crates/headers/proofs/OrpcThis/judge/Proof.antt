@@ -4,9 +4,9 @@ use mathlib.Core.Path.{sym, _∙_}
 use native.Mathlib.Omega.{arith}
 use borrow.Author.Tests.{lt-ltb, le-ltb, eq-eqb, ne-eqb}
 use Rattle.kinds.specs.Refusals.{order}
+use Rattle.kinds.proofs.Refusing.{last-row}
 use Rattle.fields.specs.Fields.{field}
 use Rattle.extensions.specs.Extensions.{extensionsAnswer, walk}
-use Rattle.extensions.proofs.Laws.{last-row}
 use Rattle.headers.specs.Headers.{thisAnswer, thisWalk}
 use borrow.Author.Needs.{needs}
 use Rattle.headers.proofs.OrpcThis.judge.Statement.{statement}

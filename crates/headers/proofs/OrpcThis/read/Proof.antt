@@ -2,7 +2,7 @@
 use mathlib.Core.Path.{sym, _∙_}
 use borrow.Author.Tests.{eq-eqb, ne-eqb}
 use Rattle.headers.specs.Headers.{readThis, thisAt}
-use Rattle.headers.proofs.Laws.{this-number, this-end}
+use Rattle.headers.proofs.HeaderAnswers.{this-number, this-end}
 use borrow.Author.Needs.{needs}
 use Rattle.headers.proofs.OrpcThis.read.Statement.{statement}
 use Rattle.headers.proofs.OrpcThis.read.Tie as tie
@@ -17,7 +17,7 @@ returns : tie.Need-returns
 unfolding readThis
 returns c =
     let number = this-number _ _ (c .before .before .before .judge .ensures) in
-    simp (ne-eqb _ _ (λ z. c .before .if1 .taken (number ∙ z))) (cc (number, c .new .ensures))
+    simp (ne-eqb _ _ (λ z. c .before .if1 .taken (number ∙ z))) (λ u. record { answer = number u; header = c .new .ensures u; extensions = record { pointer = 0; array = 0; count = 0 }; length = 0 })
 
 read-guid-requires : tie.Need-read-guid-requires
 read-guid-requires c κs = search needs
@@ -39,7 +39,9 @@ unfolding readThis thisAt
 returns-2 c =
     let number = this-number _ _ (c .before .before .before .before .before .before .before .judge .ensures) in
     let done = sym number ∙ c .before .before .before .before .before .if1 .left in
-    simp (eq-eqb _ _ done) (cc (c .before .new2 .ensures, c .before .before .read-u32 .ensures, c .before .before .before .read-u16 .ensures, c .before .before .before .before .read-guid .ensures, c .read .ensures, this-end _ _ (c .before .before .before .before .before .before .before .judge .ensures) done))
+    let header = c .before .new2 .ensures ∙ (λ u. record { minor = c .before .before .before .read-u16 .ensures u; flags = c .before .before .read-u32 .ensures u; causality = c .before .before .before .before .read-guid .ensures u }) in
+    let end = this-end _ _ (c .before .before .before .before .before .before .before .judge .ensures) done in
+    simp (eq-eqb _ _ done) (λ u. record { answer = 0; header = header u; extensions = c .read .ensures u; length = end u })
 
 pub read-spec : {M : Type 1} → statement M
 read-spec =

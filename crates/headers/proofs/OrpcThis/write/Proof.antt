@@ -2,9 +2,9 @@
 use mathlib.Core.Path.{refl}
 use borrow.Author.Tests.{lt-ltb, le-ltb}
 use Rattle.kinds.specs.Refusals.{order}
-use Rattle.fields.proofs.Laws.{first-bytes, then-field}
+use Rattle.fields.proofs.Fields.{first-bytes, then-field}
 use Rattle.headers.specs.Headers.{thisFront, thisBytes, thisWritten}
-use Rattle.headers.proofs.Laws.{plain, plain-answer, length-front}
+use Rattle.headers.proofs.HeaderAnswers.{plain, plain-answer, length-front}
 use borrow.Author.Needs.{needs}
 use Rattle.headers.proofs.OrpcThis.write.Statement.{statement}
 use Rattle.headers.proofs.OrpcThis.write.Tie as tie

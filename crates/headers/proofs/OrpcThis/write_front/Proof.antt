@@ -1,7 +1,7 @@
 -- `OrpcThis::write_front`: the fields are a run of writes from the front.
 use native.Mathlib.Omega.{arith}
 use Rattle.fields.specs.Fields.{encode}
-use Rattle.fields.proofs.Laws.{first-field, then-field, then-guid}
+use Rattle.fields.proofs.Fields.{first-field, then-field, then-guid}
 use Rattle.headers.specs.Headers.{thisFront}
 use borrow.Author.Needs.{needs}
 use Rattle.headers.proofs.OrpcThis.write_front.Statement.{statement}

@@ -4,7 +4,7 @@ use native.Mathlib.Omega.{arith}
 use borrow.Author.Tests.{eq-eqb, ne-eqb, lt-ltb}
 use Rattle.kinds.specs.Refusals.{order}
 use Rattle.headers.specs.Headers.{thisFront, thisBytes, thisWritten, thisWriting}
-use Rattle.headers.proofs.Laws.{refused-walk, done-walk, room, written-before, this-writing, length-front}
+use Rattle.headers.proofs.HeaderAnswers.{refused-walk, done-walk, room, written-before, this-writing, length-front}
 use borrow.Author.Needs.{needs}
 use Rattle.headers.proofs.OrpcThis.write_with.Statement.{statement}
 use Rattle.headers.proofs.OrpcThis.write_with.Tie as tie

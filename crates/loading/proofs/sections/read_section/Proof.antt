@@ -4,7 +4,7 @@ use native.Mathlib.Omega.{arith}
 use borrow.Author.Needs.{needs}
 use borrow.Author.Tests.{not-true, not-false}
 use lib.ListN.{drop, length-drop}
-use Rattle.fields.proofs.Laws.{take-rest}
+use Rattle.fields.proofs.Fields.{take-rest}
 use Rattle.rules.specs.Contract.{Whole}
 use Rattle.table.specs.View.{memory, view}
 use Rattle.loading.specs.Rows.{withSection}

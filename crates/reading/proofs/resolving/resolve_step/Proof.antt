@@ -9,7 +9,7 @@ use lib.ListN.{length, getD}
 use Rattle.kinds.specs.Refusals.{order, _gives_}
 use Rattle.kinds.specs.declared.Guid.{Guid}
 use Rattle.fields.specs.Fields.{written}
-use Rattle.fields.proofs.Laws.{written-front}
+use Rattle.fields.proofs.Fields.{written-front}
 use Rattle.rules.specs.Entries.{Exporter, exporterRow}
 use Rattle.rules.specs.Calls.{Call}
 use Rattle.rules.specs.Rules.{noExporter, refusals, number, next, results, refused, done}

@@ -19,7 +19,15 @@ read-u64-requires-2 : tie.Need-read-u64-requires-2
 read-u64-requires-2 c κs = search needs
 
 returns : tie.Need-returns
-returns c = cc (c .before .before .before .before .read-guid .ensures, c .before .before .before .read-u32 .ensures, c .before .before .read-u322 .ensures, c .before .read-u64 .ensures, c .read-u642 .ensures)
+returns c =
+    λ u.
+    record {
+      flags = c .before .before .before .read-u32 .ensures u;
+      public = c .before .before .read-u322 .ensures u;
+      oxid = record { 0 = c .before .read-u64 .ensures u };
+      oid = record { 0 = c .read-u642 .ensures u };
+      ipid = c .before .before .before .before .read-guid .ensures u;
+    }
 
 pub read-spec : {M : Type 1} → statement M
 read-spec =

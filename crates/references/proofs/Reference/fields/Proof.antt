@@ -2,8 +2,8 @@
 use Prim.Native.Nat.{ℕ, _+_}
 use mathlib.Core.Path.{sym, ap, _∙_}
 use Rattle.fields.specs.Fields.{guidAt}
-use Rattle.references.specs.References.{referenceAt}
-use Rattle.references.proofs.Laws.{by-other}
+use Rattle.references.specs.References.{standard, handler, custom, extended, referenceAt}
+use Rattle.references.proofs.Forms.{by-other}
 use borrow.Author.Needs.{needs}
 use Rattle.references.proofs.Reference.fields.Statement.{statement}
 use Rattle.references.proofs.Reference.fields.Tie as tie
@@ -25,7 +25,7 @@ unfolding referenceAt
 returns c =
     let iid = c .before .before .before in
     let flags = iid .before .read-u32 .ensures in
-    rw (← flags, c .before .if1 .taken) (cc (c .standard .ensures, iid .read-guid .ensures, c .before .before .read .ensures))
+    rw (← flags, c .before .if1 .taken) (c .standard .ensures ∙ (λ u. standard (iid .read-guid .ensures u) (c .before .before .read .ensures u)))
 
 read-guid-requires-2 : tie.Need-read-guid-requires-2
 read-guid-requires-2 c κs = search needs
@@ -40,7 +40,7 @@ returns-2 c =
     let block = test .before .before in
     let iid = block .before in
     let flags = iid .before .read-u32 .ensures in
-    rw (← flags, test .if2 .taken) (cc (c .handler .ensures, iid .read-guid .ensures, block .read .ensures, c .before .read-guid2 .ensures))
+    rw (← flags, test .if2 .taken) (c .handler .ensures ∙ (λ u. handler (iid .read-guid .ensures u) (block .read .ensures u) (c .before .read-guid2 .ensures u)))
 
 read-guid-requires-3 : tie.Need-read-guid-requires-3
 read-guid-requires-3 c κs = search needs
@@ -60,7 +60,7 @@ returns-3 c =
     let test = c .before .before .before .before in
     let iid = test .before .before .before .before in
     let flags = iid .before .read-u32 .ensures in
-    rw (← flags, test .if3 .taken) (cc (c .custom .ensures, iid .read-guid .ensures, c .before .before .before .read-guid3 .ensures, c .before .before .read-u322 .ensures, c .before .read-u323 .ensures))
+    rw (← flags, test .if3 .taken) (c .custom .ensures ∙ (λ u. custom (iid .read-guid .ensures u) (c .before .before .before .read-guid3 .ensures u) (c .before .before .read-u322 .ensures u) (c .before .read-u323 .ensures u)))
 
 list-end-requires : tie.Need-list-end-requires
 list-end-requires c κs = search needs
@@ -80,7 +80,7 @@ returns-4 c =
     let flags = c .before .before .before .before .before .before .before .before .before .read-u32 .ensures in
     let s = c .before .before .before .before .before .before .before .before .before .before .before .args .s .now in
     let element = c .before .read-guid4 .ensures ∙ ap (λ (n : ℕ). guidAt s (n + 8)) (c .before .before .list-end .ensures .0) in
-    rw (← flags, c .before .before .before .if4 .taken) (cc (c .extended .ensures, c .before .before .before .before .before .before .before .before .read-guid .ensures, c .before .before .before .before .before .before .before .read .ensures, element))
+    rw (← flags, c .before .before .before .if4 .taken) (c .extended .ensures ∙ (λ u. extended (c .before .before .before .before .before .before .before .before .read-guid .ensures u) (c .before .before .before .before .before .before .before .read .ensures u) (element u)))
 
 zero-requires : tie.Need-zero-requires
 zero-requires c κs = search needs

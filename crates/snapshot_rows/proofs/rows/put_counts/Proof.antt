@@ -7,7 +7,7 @@ use Rattle.lists.specs.Lists.{tabulate}
 use Rattle.rules.specs.Snapshot.{inRow}
 use Rattle.snapshot_rows.specs.Rows.{countRow}
 use lib.ListN.{getD}
-use Rattle.fields.proofs.Laws.{length-encode}
+use Rattle.fields.proofs.Fields.{length-encode}
 use Rattle.rules.specs.Entries.{countOf}
 use Rattle.rules.specs.Rules.{noInterface}
 use Rattle.table.specs.View.{interfacesOf}

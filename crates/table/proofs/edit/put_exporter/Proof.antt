@@ -4,7 +4,7 @@ use Prim.Native.Nat.{_+_, _≤_}
 use lib.ListN.{length}
 use Rattle.table.specs.View.{listStart}
 use Rattle.table.proofs.StoredLists.{placed, placed-list, placed-others}
-use Rattle.table.proofs.edit.Lists.{exporter-pushed}
+use Rattle.table.proofs.edit.ExporterLists.{exporter-pushed}
 use borrow.Author.Needs.{needs}
 use Rattle.table.proofs.edit.put_exporter.Statement.{statement}
 use Rattle.table.proofs.edit.put_exporter.Tie as tie

@@ -7,7 +7,7 @@ use lib.ListN.{length}
 use Rattle.table.specs.View.{listStart}
 use Rattle.table.specs.Placed.{closed}
 use Rattle.table.proofs.StoredLists.{starts-rise, closed-up}
-use Rattle.table.proofs.edit.Lists.{exporter-pulled}
+use Rattle.table.proofs.edit.ExporterLists.{exporter-pulled}
 use borrow.Author.Needs.{needs}
 use Rattle.table.proofs.edit.remove_exporter.Statement.{statement}
 use Rattle.table.proofs.edit.remove_exporter.Tie as tie

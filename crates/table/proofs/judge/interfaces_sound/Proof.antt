@@ -5,8 +5,7 @@ use mathlib.Core.List.{List}
 use lib.ListN.{drop}
 use Rattle.lists.specs.Lists.{holding}
 use Rattle.rules.specs.Entries.{Entries}
-use Rattle.rules.specs.Sound.{interfaceObjectsLive}
-use Rattle.table.specs.Clauses.{interfaceClauses}
+use Rattle.rules.specs.Sound.{interfaceObjectsLive, interfaceClauses}
 use Rattle.table.specs.View.{memory, view}
 use Rattle.table.proofs.Columns.{oids-column, interface-objects-column}
 use Rattle.table.proofs.judge.Clauses.{judged-fails, judged-passes, judged-last, column-read, column-in}

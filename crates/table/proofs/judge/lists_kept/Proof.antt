@@ -11,7 +11,8 @@ use native.Mathlib.Omega.{arith}
 use native.Mathlib.Numerals.{add-one}
 use lib.ListN.{length, length-drop}
 use Rattle.bindings.specs.Bindings.{frontAnswer, listLength}
-use Rattle.bindings.proofs.Laws.{front}
+use Rattle.bindings.proofs.ListAnswers.{front}
+use Rattle.rules.specs.Entries.{exporterPlaces}
 use Rattle.rules.specs.Sound.{longestList}
 use Rattle.table.specs.View.{listStart, listFrom}
 use Rattle.table.proofs.StoredLists.{start-first, start-next}
@@ -31,7 +32,7 @@ good-list : (s : List ℕ) (i : ℕ) → frontAnswer (listFrom s i) ≡ 0 → li
 good-list s i e h = rw (eq-eqb (frontAnswer (listFrom s i)) 0 e) (sym (le-leb (listLength (listFrom s i)) longestList h))
 
 abbrev Inv-loop : tie.InvT-loop
-Inv-loop words store n at₀ k₀ at k = (n ≤ 16) × (everyRow n (keptRow store) ≡ everyFrom k n (keptRow store)) × (at ≡ listStart store k) × (at ≤ length store)
+Inv-loop words store n at₀ k₀ at k = (n ≤ exporterPlaces) × (everyRow n (keptRow store) ≡ everyFrom k n (keptRow store)) × (at ≡ listStart store k) × (at ≤ length store)
 
 abbrev μ-loop : tie.MeasureT-loop
 μ-loop words store n at₀ k₀ at k = n - k

@@ -4,13 +4,13 @@ use mathlib.Core.Path.{_≡_, refl, ap, _∙_}
 use mathlib.Core.List.{List}
 use lib.Dec.{leb}
 use lib.ListN.{drop}
-use Rattle.lists.specs.Lists.{holding}
+use Rattle.lists.specs.Lists.{holding, every, among}
 use Rattle.rules.specs.Entries.{Entries, oids}
-use Rattle.rules.specs.Sound.{proper, objectExportersLive, objectsHaveInterfaces, heardBefore}
-use Rattle.table.specs.Clauses.{objectClauses}
+use Rattle.rules.specs.Sound.{proper, objectExportersLive, objectsHaveInterfaces, heardBefore, objectClauses}
+use Rattle.rules.proofs.Groups.{serving-objects}
 use Rattle.table.specs.View.{memory, view}
 use Rattle.table.proofs.Columns.{oxids-column, oids-column, object-exporters-column, heard-column, interface-objects-column}
-use Rattle.table.proofs.judge.Clauses.{judged-fails, judged-passes, judged-last, column-read, column-test, column-in, have-interfaces}
+use Rattle.table.proofs.judge.Clauses.{judged-fails, judged-passes, judged-last, column-read, column-test, column-in}
 use borrow.Author.Needs.{needs}
 use Rattle.table.proofs.judge.objects_sound.Statement.{statement}
 use Rattle.table.proofs.judge.objects_sound.Tie as tie
@@ -72,7 +72,7 @@ interfaces-judged c s =
     let st = at .before .before .before .before .before .before .before .before .before in
     let ws = st .args .words .now in
     let named = column-read ws 1792 (at .column5 .ensures) (at .before .before .before .before .before .interface-count .ensures .0) (interface-objects-column ws (st .pre)) in
-    column-in (λ o. o .oid) (At at s .objects) (oids-read at s) named (c .all-in2 .ensures) ∙ have-interfaces (At at s)
+    c .all-in2 .ensures ∙ (λ u. every (among (named u)) (oids-read at s u)) ∙ serving-objects (At at s .objects) (At at s .interfaces)
 
 heard-judged : (c : tie.After-all-at-most) (s : List ℕ) → c .all-at-most .result ≡ heardBefore (At (c .before .before .before .before .before .before .before .before) s)
 heard-judged c s =

@@ -9,8 +9,7 @@ use lib.ListN.{drop}
 use Rattle.lists.specs.Lists.{every, holding}
 use Rattle.lists.proofs.Tests.{holding-fails, holding-passes}
 use Rattle.rules.specs.Entries.{Entries, PingSet, setNumbers}
-use Rattle.rules.specs.Sound.{proper, overdue, pingedBefore, pingedRecently, setsBelowNext}
-use Rattle.table.specs.Clauses.{setClauses}
+use Rattle.rules.specs.Sound.{proper, overdue, pingedBefore, pingedRecently, setsBelowNext, setClauses}
 use Rattle.table.specs.View.{memory, view}
 use Rattle.table.proofs.Columns.{set-numbers-column, pinged-column}
 use Rattle.table.proofs.judge.Clauses.{judged-fails, judged-passes, judged-last, column-read, column-test}

@@ -1,23 +1,33 @@
 -- `judge::sound`: both lengths, then the groups of clauses in turn.
 use Prim.Native.Nat.{ℕ}
 use mathlib.Core.Path.{_≡_, sym, _∙_}
+use mathlib.Core.Bool.{Bool}
+use mathlib.Core.List.{List, _∷_}
 use borrow.Author.Tests.{eq-eqb, ne-eqb, not-false}
-use lib.ListN.{drop}
+use lib.Dec.{eqb}
+use lib.ListN.{length, drop}
 use Rattle.lists.specs.Lists.{holding}
 use Rattle.lists.proofs.Tests.{holding-fails, holding-passes, holding-head}
-use Rattle.table.specs.View.{memory, soundMemory}
-use Rattle.table.proofs.judge.Clauses.{judged-fails, judged-passes, judged-last}
-use Rattle.table.proofs.judge.Groups.{memoryClauses, memory-groups}
+use Rattle.rules.specs.Sound.{groups}
+use Rattle.rules.specs.Contract as contract
+use Rattle.rules.proofs.SoundLaws.{sound-groups}
+use Rattle.table.specs.View.{memory, view, soundMemory}
+use Rattle.table.proofs.judge.Clauses.{judged-fails, judged-passes, judged-last, clauses-after}
 use borrow.Author.Needs.{needs}
 use Rattle.table.proofs.judge.sound.Statement.{statement}
 use Rattle.table.proofs.judge.sound.Tie as tie
 
--- the clauses that are left
+-- both lengths, and the groups of clauses
+abbrev clauses : List ℕ → List ℕ → List Bool
+clauses ws store = eqb (length ws) 8192 ∷ eqb (length store) 8192 ∷ groups (view (memory ws store))
+
+-- those that are left
 abbrev Left : ℕ → tie.Start → Type 0
-Left k st = soundMemory (memory (st .args .words .now) (st .args .store .now)) ≡ holding (drop k (memoryClauses (st .args .words .now) (st .args .store .now)))
+Left k st = soundMemory (memory (st .args .words .now) (st .args .store .now)) ≡ holding (drop k (clauses (st .args .words .now) (st .args .store .now)))
 
 all-left : (st : tie.Start) → Left 0 st
-all-left st = memory-groups (st .args .words .now) (st .args .store .now)
+unfolding contract.soundMemory
+all-left st = clauses-after _ _ _ _ (sound-groups (view (memory (st .args .words .now) (st .args .store .now))))
 
 left-1 : (c : tie.Else1) → Left 1 (c .before .before .before)
 left-1 c = holding-passes _ _ (all-left (c .before .before .before)) (eq-eqb _ 8192 (c .if1 .left))

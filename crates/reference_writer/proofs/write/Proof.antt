@@ -1,0 +1,135 @@
+-- `write`: the header, the body, the tail and the elements are a run of writes from the front.
+use Prim.Native.Nat.{ℕ, _+_, _-_, _<_, _≤_}
+use mathlib.Core.Path.{_≡_, refl, sym, ap, _∙_}
+use mathlib.Core.List.{List}
+use native.Mathlib.Omega.{arith}
+use borrow.Author.Tests.{ne-eqb}
+use lib.ListN.{length}
+use borrow.Rule.Slice.PartMut.{putMid, mid-len}
+use native.Mathlib.Nat.{add-sub-cancel-left}
+use Rattle.fields.specs.Fields.{written}
+use Rattle.fields.specs.declared.Written.{Written}
+use Rattle.fields.proofs.Fields.{first-bytes, then-bytes}
+use Rattle.reference_writer.specs.Writing.{headerBytes, bodyBytes, elementsBytes, referenceBytes, valueAnswer, writtenLength}
+use Rattle.references.proofs.Forms.{size-most}
+use Rattle.reference_writer.proofs.Writable.{length-header, length-body, Valued, valued, write-refused, write-short, write-fits, written-part}
+use Rattle.reference_writer.proofs.RoundTrip.{length-elements}
+use borrow.Author.Needs.{needs}
+use Rattle.reference_writer.proofs.write.Statement.{statement}
+use Rattle.reference_writer.proofs.write.Tie as tie
+
+from-place : (s y z : List ℕ) (a b : ℕ) → a ≡ b → z ≡ written s a y → z ≡ written s b y
+from-place s y z a b e h = h ∙ ap (λ (k : ℕ). written s k y) e
+
+value-answer-requires : tie.Need-value-answer-requires
+value-answer-requires c κs = search needs
+
+returns : tie.Need-returns
+returns c =
+    let number = c .before .value-answer .ensures in
+    let no = c .if1 .taken in
+    let refused : ℕ → Written = λ n. record { answer = n; length = 0 } in
+    (ap refused number ∙ sym (write-refused _ _ _ _ (λ z. no (number ∙ z))), simp (ne-eqb _ _ no))
+
+fixed-size-requires : tie.Need-fixed-size-requires
+fixed-size-requires c κs = search needs
+
+done : (c : tie.Else1) → valueAnswer (c .before .before .before .before .before .args .reference) (c .before .before .before .before .before .args .tail .now) (c .before .before .before .before .before .args .x .now) ≡ 0
+done c = sym (c .before .value-answer .ensures) ∙ c .if1 .left
+
+ok : (c : tie.Else1) → Valued (c .before .before .before .before .before .args .reference) (c .before .before .before .before .before .args .tail .now) (c .before .before .before .before .before .args .x .now)
+ok c = valued _ _ _ (done c)
+
+add-at : tie.Need-add-at
+add-at c = omega (arith, size-most (c .before .before .before .before .before .before .args .reference .flags), c .fixed-size .ensures)
+
+elements-length-requires : tie.Need-elements-length-requires
+elements-length-requires c κs = ok (c .before) .given
+
+add-length : tie.Need-add-length
+add-length c = omega (arith, size-most (c .before .before .before .before .before .before .before .args .reference .flags), c .before .fixed-size .ensures, c .elements-length .ensures .1)
+
+returns-2 : tie.Need-returns-2
+returns-2 c =
+    let start = c .before .before .before .before .before .before .before .before in
+    let size = c .before .before .fixed-size .ensures in
+    let more = c .before .elements-length .ensures .0 in
+    let short : length (start .args .buf .now) < writtenLength (start .args .reference) (start .args .tail .now) (start .args .x .now) = omega arith in
+    (sym (write-short _ _ _ _ (done (c .before .before .before)) short), refl)
+
+room : (c : tie.Else2) → writtenLength (c .before .before .before .before .before .before .before .before .args .reference) (c .before .before .before .before .before .before .before .before .args .tail .now) (c .before .before .before .before .before .before .before .before .args .x .now) ≤ length (c .before .before .before .before .before .before .before .before .args .buf .now)
+room c = omega (arith, c .if2 .left, c .before .elements-length .ensures .0, c .before .before .fixed-size .ensures)
+
+write-header-requires : tie.Need-write-header-requires
+write-header-requires c κs = let h = ok (c .before .before .before .before) in omega (arith, h .least, room (c .before))
+
+write-body-requires : tie.Need-write-body-requires
+write-body-requires c κs = search needs
+
+copy-requires : tie.Need-copy-requires
+copy-requires c κs = search needs
+
+sub-write-elements : tie.Need-sub-write-elements
+sub-write-elements c = search needs
+
+part-write-elements-start : tie.Need-part-write-elements-start
+part-write-elements-start c = search needs
+
+part-write-elements-end : tie.Need-part-write-elements-end
+part-write-elements-end c = search needs
+
+write-elements-requires : tie.Need-write-elements-requires
+write-elements-requires c κs = (ok (c .before .before .before .before .before .before .before .before .before .before .before .before .before .before .before .before) .given, mid-len _ _ _ (part-write-elements-end (c .before)) ∙ add-sub-cancel-left (c .before .before .before .before .before .before .before .before .before .before .before .before .before .before .before .fixed-size .result + length (c .before .before .before .before .before .before .before .before .before .before .before .before .before .before .before .before .before .before .before .before .before .args .tail .now)) (c .before .before .before .before .before .before .before .before .before .before .before .before .before .before .elements-length .result) ∙ c .before .before .before .before .before .before .before .before .before .before .before .before .before .before .elements-length .ensures .0)
+
+same-length : tie.Need-same-length
+same-length c = search needs
+
+returns-3 : tie.Need-returns-3
+unfolding referenceBytes
+returns-3 c =
+    let test = c .before .before .before .before .before .before .before .before .before .before .before .before .before .before .before .before in
+    let first = c .before .before .before .before .before .before .before .before .before .before .before .before .before .before .before .before .before .before .before in
+    let start = first .before .before .before .before .before in
+    let r = start .args .reference in
+    let t = start .args .tail .now in
+    let x = start .args .x .now in
+    let h = ok first in
+    let fits = room test in
+    let size = c .before .before .before .before .before .before .before .before .before .before .before .before .before .before .before .before .before .before .fixed-size .ensures in
+    let more = c .before .before .before .before .before .before .before .before .before .before .before .before .before .before .before .before .before .elements-length .ensures .0 in
+    let all = length-body r (h .form) in
+    let y = elementsBytes r x in
+    let last = length-elements r x in
+    let at : c .before .before .before .before .before .before .before .before .before .before .before .before .before .before .before .before .before .before .fixed-size .result ≡ 0 + (24 + length (bodyBytes r)) = omega arith in
+    let past : c .before .before .before .before .before .before .before .before .before .before .before .before .before .before .before .before .before .before .fixed-size .result + length t ≡ 0 + (24 + length (bodyBytes r) + length t) = omega arith in
+    let run = first-bytes (headerBytes r) 24 (length-header r) (c .before .before .before .before .before .before .before .before .before .before .before .before .before .before .write-header .ensures) in
+    let run2 = then-bytes (bodyBytes r) (length (bodyBytes r)) run refl (omega arith) (c .before .before .before .before .before .before .before .before .before .before .write-body .ensures) in
+    let run3 = then-bytes t (length t) run2 refl (omega arith) (rw at at (c .before .before .before .before .before .before .copy .ensures)) in
+    let a = c .before .before .before .before .before .before .before .before .before .before .before .before .before .before .before .before .before .before .fixed-size .result + length t in
+    let e = a + c .before .before .before .before .before .before .before .before .before .before .before .before .before .before .before .before .before .elements-length .result in
+    let part = ap (putMid a (e - a) _) (c .before .before .write-elements .ensures) ∙ written-part _ y a e (omega arith) (part-write-elements-end (c .before .before .before .before)) (omega arith) in
+    let run4 = then-bytes y (length y) run3 refl (omega arith) (from-place _ y _ a _ past part) in
+    let total : e ≡ writtenLength r t x = omega arith in
+    let made : ℕ → Written = λ n. record { answer = 0; length = n } in
+    (ap made total ∙ sym (write-fits _ _ _ _ (done first) fits), run4 .holds)
+
+pub write-spec : {M : Type 1} → statement M
+write-spec =
+    tie.close
+    (tie.spec
+    value-answer-requires
+    returns
+    fixed-size-requires
+    add-at
+    elements-length-requires
+    add-length
+    returns-2
+    write-header-requires
+    write-body-requires
+    copy-requires
+    sub-write-elements
+    part-write-elements-start
+    part-write-elements-end
+    write-elements-requires
+    same-length
+    returns-3)
