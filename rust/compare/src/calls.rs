@@ -24,6 +24,21 @@ struct Memory {
     store: Vec<u8>,
 }
 
+impl Memory {
+    /// Memory that holds anything.
+    fn any(random: &mut Random) -> Memory {
+        Memory {
+            words: (0..=LENGTH).map(|_| random.word()).collect(),
+            store: random.bytes(LENGTH + 1),
+        }
+    }
+
+    /// A call that is lent a table's words and bytes.
+    fn perform<S: Subject>(&mut self, call: &Op) -> Reply {
+        S::perform(&mut self.words[..LENGTH], &mut self.store[..LENGTH], call)
+    }
+}
+
 /// Both sides of a run.
 struct Pair<S> {
     memory: Memory,
@@ -36,11 +51,7 @@ struct Pair<S> {
 impl<S: Subject> Pair<S> {
     /// Both sides reset, the subject on memory that holds anything.
     fn new(noise: u64) -> Result<Pair<S>, String> {
-        let mut random = Random::new(noise);
-        let memory = Memory {
-            words: (0..=LENGTH).map(|_| random.word()).collect(),
-            store: random.bytes(LENGTH + 1),
-        };
+        let memory = Memory::any(&mut Random::new(noise));
         let mut pair = Pair {
             before: memory.clone(),
             memory,
@@ -175,15 +186,15 @@ impl<S: Subject> Pair<S> {
         let singles: Vec<Op> = items.chunks(24).map(single).collect();
         for (ops, what) in [(parts, "cut"), (singles, "one by one")] {
             let mut memory = self.before.clone();
-            let (words, store) = (&mut memory.words[..LENGTH], &mut memory.store[..LENGTH]);
             let mut joined = Vec::new();
             for op in &ops {
-                let reply = S::perform(words, store, op);
+                let reply = memory.perform::<S>(op);
                 match op {
                     Op::CountList { .. } => joined.extend(reply.bytes),
                     _ => joined.push(reply.number as u8),
                 }
             }
+            let (words, store) = (&memory.words[..LENGTH], &memory.store[..LENGTH]);
             if joined != results[..n] || !decode::same(&decode::entries(words, store), &left) {
                 return Err(format!(
                     "{what}: results {joined:?} for {:?}",
@@ -219,29 +230,21 @@ impl<S: Subject> Pair<S> {
     fn swap_box(&mut self, pools: &Pools, random: &mut Random) -> Result<(), String> {
         const ROOM: usize = 65_000;
         let snapshot_of = |memory: &mut Memory| {
-            let (words, store) = (&mut memory.words[..LENGTH], &mut memory.store[..LENGTH]);
-            let r = S::perform(words, store, &Op::WriteSnapshot { room: ROOM });
+            let r = memory.perform::<S>(&Op::WriteSnapshot { room: ROOM });
             let length = r.values[0] as usize;
             let kept = r.number == 0 && r.bytes[length..] == buffer(ROOM)[length..];
             kept.then(|| r.bytes[..length].to_vec())
         };
-        let mut other = Memory {
-            words: (0..=LENGTH).map(|_| random.word()).collect(),
-            store: random.bytes(LENGTH + 1),
-        };
+        let mut other = Memory::any(random);
         let written = snapshot_of(&mut self.memory).ok_or("no snapshot")?;
         if written != snapshot::write(&self.side.entries) {
             return Err(format!("another snapshot: {written:?}"));
         }
-        let perform = |memory: &mut Memory, call: &Op| {
-            let (words, store) = (&mut memory.words[..LENGTH], &mut memory.store[..LENGTH]);
-            S::perform(words, store, call)
-        };
         for _ in 0..6 {
             let bytes = pools.snapshot(random, &self.side.entries);
             let demanded = snapshot::read(&bytes).err().unwrap_or(0);
             let before = other.clone();
-            let number = perform(&mut other, &Op::LoadSnapshot(bytes.clone())).number;
+            let number = other.perform::<S>(&Op::LoadSnapshot(bytes.clone())).number;
             let left = match number {
                 0 => snapshot_of(&mut other).as_ref() == Some(&bytes),
                 _ => other == before,
@@ -251,15 +254,15 @@ impl<S: Subject> Pair<S> {
             }
             self.tally.count(number);
         }
-        let load = perform(&mut other, &Op::LoadSnapshot(written));
+        let load = other.perform::<S>(&Op::LoadSnapshot(written));
         if load.number != 0 {
             return Err(format!("the load is refused by {}", load.number));
         }
         for _ in 0..10 {
             let call = pools.plain_call(random, &self.side.entries);
             let (here, there) = (
-                perform(&mut self.memory.clone(), &call),
-                perform(&mut other, &call),
+                self.memory.clone().perform::<S>(&call),
+                other.perform::<S>(&call),
             );
             if here != there {
                 return Err(format!("{call:?}: {here:?}, and in the other {there:?}"));

@@ -61,27 +61,39 @@ impl<'a> Arguments<'a> {
         (0..self.number()).map(|_| self.number()).collect()
     }
 
-    /// The hex digits that are left, as bytes; or `@n`, a list of n words with one binding, then `cut k`, without its last k bytes,
-    /// or `put k` and hex digits, with these bytes from byte k on.
+    /// The hex digits that are left, as bytes; or `@n`, a list of n words with one binding, then changes.
     fn bytes(&self) -> Vec<u8> {
         let spaces = self.rest.iter().take_while(|b| **b == b' ').count();
         match self.rest[spaces..] {
-            [b'@', ref rest @ ..] => Arguments { rest }.long_list(),
+            [b'@', ref rest @ ..] => {
+                let mut a = Arguments { rest };
+                let list = long_list(4 + 2 * a.number() as usize);
+                a.changed(list)
+            }
             _ => self.digits(),
         }
     }
 
-    fn long_list(&mut self) -> Vec<u8> {
-        let mut list = long_list(4 + 2 * self.number() as usize);
-        match self.name() {
-            b"cut" => list.truncate(list.len() - self.number() as usize),
-            b"put" => {
-                let (at, bytes) = (self.number() as usize, self.digits());
-                list[at..at + bytes.len()].copy_from_slice(&bytes);
+    /// Bytes with the changes that are left: `cut k`, without the last k bytes; `put k hex`, with these bytes from byte k on;
+    /// `insert k hex`, with these bytes before byte k.
+    fn changed(&mut self, mut bytes: Vec<u8>) -> Vec<u8> {
+        loop {
+            let change = self.name();
+            if change.is_empty() {
+                return bytes;
             }
-            _ => {}
+            let at = self.number() as usize;
+            let mut new = || Arguments { rest: self.name() }.digits();
+            match change {
+                b"cut" => bytes.truncate(bytes.len() - at),
+                b"put" => {
+                    let new = new();
+                    bytes[at..at + new.len()].copy_from_slice(&new);
+                }
+                b"insert" => drop(bytes.splice(at..at, new())),
+                _ => panic!("no such change"),
+            }
         }
-        list
     }
 
     fn digits(&self) -> Vec<u8> {

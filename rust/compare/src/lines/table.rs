@@ -18,8 +18,7 @@
 //!     w oxid room n protocol     the same with n times the protocol
 //!     H room                  writes the snapshot, which `i` and `y` then load
 //!     h hex                   loads a snapshot
-//!     i changes..             loads the last one that was written with changes: `cut k`, without its last k bytes; `put k hex`, with these
-//!                             bytes from byte k on; `insert k hex`, with these bytes before byte k
+//!     i changes..             loads the last one that was written, with changes: `cut k`, `put k hex`, `insert k hex`
 //!     y                       loads every shorter front of it: how many are refused by 23, and whether the table is kept
 //!     z way client room n bytes item  such a list (0 adds, 1 releases) of n times the item and so many bytes more
 //!     Z set sequence oid n m  a complex ping with n times the oid on its list of adds and m times on that of deletes
@@ -153,10 +152,8 @@ pub fn run<S: Stops>(input: &[u8]) -> String {
                 writeln!(out, "{} length {length} {bytes}", r.number).unwrap();
             }
             b'i' => {
-                let line = format!("h {}", hex(&changed(&saved, a)));
-                let rest = &line.as_bytes()[1..];
-                let a = Arguments { rest };
-                out += &called::<S>(b'h', a, &mut words, &mut store, &mut seen);
+                let load = Op::LoadSnapshot(a.changed(saved.clone()));
+                out += &performed::<S>(b'h', &load, &mut words, &mut store, &mut seen);
             }
             b'y' => {
                 let before = (words.clone(), store.clone());
@@ -289,16 +286,20 @@ fn flip_bits<S: Stops>(words: &mut [u64], store: &mut [u8], out: &mut String) {
     out.push('\n');
 }
 
-/// A call, what it answers, and whether it left what it was lent.
+/// The call of a line, performed.
 fn called<S: Stops>(
     letter: u8,
-    mut a: Arguments,
+    a: Arguments,
     words: &mut [u64],
     store: &mut [u8],
     seen: &mut Seen,
 ) -> String {
-    let before = (words.to_vec(), store.to_vec());
-    let op = match letter {
+    performed::<S>(letter, &call(letter, a), words, store, seen)
+}
+
+/// The call of a line.
+fn call(letter: u8, mut a: Arguments) -> Op {
+    match letter {
         b'J' | b'C' => Op::Census,
         b'R' => Op::Reset(a.number()),
         b'M' => Op::Members(a.number()),
@@ -398,9 +399,20 @@ fn called<S: Stops>(
         },
         b'h' => Op::LoadSnapshot(a.bytes()),
         other => panic!("no such line: {}", other as char),
-    };
-    let r = S::perform(words, store, &op);
-    let asked = match (letter, &op) {
+    }
+}
+
+/// A call, what it answers, and whether it left what it was lent.
+fn performed<S: Stops>(
+    letter: u8,
+    op: &Op,
+    words: &mut [u64],
+    store: &mut [u8],
+    seen: &mut Seen,
+) -> String {
+    let before = (words.to_vec(), store.to_vec());
+    let r = S::perform(words, store, op);
+    let asked = match (letter, op) {
         (b'Z', _) => b'Q',
         (b'w', _) => b'v',
         (_, Op::CountList { way: Way::Add, .. }) => b'a',
@@ -409,7 +421,7 @@ fn called<S: Stops>(
     };
     seen.insert((asked, r.number));
     let v = &r.values;
-    let mut out = match (letter, &op) {
+    let mut out = match (letter, op) {
         (b'J', _) => if r.number == 1 { "unsound" } else { "sound" }.to_string(),
         (b'L', _) => format!(
             "{} public {} private {} interfaces {} objects {}",
@@ -471,28 +483,6 @@ fn runs_of(results: &[u8]) -> String {
         n => format!("{n}x{}", run[0]),
     });
     runs.collect::<Vec<String>>().join(" ")
-}
-
-/// A snapshot as a line `i` says.
-fn changed(saved: &[u8], mut a: Arguments) -> Vec<u8> {
-    let mut bytes = saved.to_vec();
-    loop {
-        let change = a.name();
-        if change.is_empty() {
-            return bytes;
-        }
-        let at = a.number() as usize;
-        let mut new = || Arguments { rest: a.name() }.bytes();
-        match change {
-            b"cut" => bytes.truncate(bytes.len() - at),
-            b"put" => {
-                let new = new();
-                bytes[at..at + new.len()].copy_from_slice(&new);
-            }
-            b"insert" => drop(bytes.splice(at..at, new())),
-            _ => panic!("no such change"),
-        }
-    }
 }
 
 /// A snapshot in hex; of a long one a checksum (FNV-1a).
