@@ -13,12 +13,11 @@ use resolver::Resolved;
 use resolver::StopPlace;
 ghost use Rattle.rules.specs.Calls.{Call, adding, releasing, numbered};
 ghost use Rattle.table.specs.View.{memory, Performed};
-ghost use Rattle.reading.specs.Replies.{censusReply, membersReply};
+ghost use Rattle.reading.specs.Replies.{censusReply, membersReply, resolveReply};
 ghost use Rattle.counting.specs.Replies.{releaseReply};
 ghost use Rattle.leaving.specs.Replies.{clockReply};
 ghost use Rattle.listing.specs.Listing.{listReply};
 ghost use Rattle.pinging.specs.Replies.{pingReply};
-ghost use Rattle.reading.specs.Replies.{resolveReply};
 ghost use Rattle.reading.specs.NextStop.{StopFound};
 ghost use Rattle.saving.specs.Replies.{writtenReply};
 

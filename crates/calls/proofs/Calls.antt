@@ -10,16 +10,15 @@ use Rattle.kinds.specs.Refusals.{Row, order, _gives_}
 use Rattle.kinds.specs.declared.Guid.{Guid}
 use Rattle.rules.specs.Entries.{Entries, exporterRow, objectRow, interfaceRow, setRow}
 use Rattle.rules.specs.Calls.{Call, Reply}
-use Rattle.rules.specs.Rules.{isLiveExporter, isLiveObject, isLiveInterface, isLiveSet, noExporter, exporterOf, number, next, refused, done}
+use Rattle.rules.specs.Rules.{isLiveExporter, isLiveObject, isLiveInterface, isLiveSet, noExporter, exporterOf, number, next, refusedReply, acceptedReply}
 use Rattle.rules.specs.Contract.{Memory, lengthsOnly}
 use Rattle.rules.proofs.Performing.{unsound}
 use Rattle.rules.proofs.Stepping as stepping
 use Rattle.rules.proofs.Stepping.{performed-step}
 use Rattle.rules.proofs.SoundLaws.{sound-fields, table-fields}
 use Rattle.rules.proofs.ByRow.{exporter-live, object-live, interface-live, set-live, exporter-row}
-use Rattle.table.specs.View.{exporterCount, objectCount, interfaceCount, setCount, exportersOf, memory, view, soundMemory, SoundTable, Stepped, Performed}
-use Rattle.table.specs.Edits.{membersBelow}
-use Rattle.table.proofs.edit.Below.{live-below}
+use Rattle.table.specs.View.{exporterCount, objectCount, interfaceCount, setCount, exportersOf, memory, view, soundMemory, SoundTable, Stepped, Performed, membersBelow}
+use Rattle.table.proofs.MemberRows.{live-below}
 use Rattle.table.proofs.LiveRows.{exporters-length, objects-length, interfaces-length, sets-length}
 
 -- ---- calls
@@ -31,7 +30,7 @@ module _ {r : Bool} {m : Memory} (judged : r ≡ soundMemory m) where
 
   module _ (c : Call) (looks : lengthsOnly c ≡ false) where
     -- the table is refused
-    pub unsound-call : not r ≡ true → Performed c m (refused 1 c (view m)) m
+    pub unsound-call : not r ≡ true → Performed c m (refusedReply 1 c (view m)) m
     unsound-call h = unsound view c m looks (sym judged ∙ not-true r h)
 
     -- it is not, and the step is the call
@@ -42,11 +41,11 @@ module _ {r : Bool} {m : Memory} (judged : r ≡ soundMemory m) where
 
 module _ {c : Call} {m : Memory} (n : ℕ) (e : n ≡ number c (view m)) where
   -- the rules refuse the step
-  pub refused-step : (n ≡ 0 → ⊥) → Stepped c m (refused n c (view m)) m
+  pub refused-step : (n ≡ 0 → ⊥) → Stepped c m (refusedReply n c (view m)) m
   refused-step z = stepping.refused-step view c m n e z
 
   -- they accept it
-  pub accepted-step : n ≡ 0 → (m′ : Memory) → view m′ ≡ next c (view m) → Stepped c m (done c (view m)) m′
+  pub accepted-step : n ≡ 0 → (m′ : Memory) → view m′ ≡ next c (view m) → Stepped c m (acceptedReply c (view m)) m′
   accepted-step z m′ v = stepping.accepted-step view c m m′ (sym z ∙ e) v
 
 -- a step that leaves the table is a call that does

@@ -22,11 +22,9 @@ use Rattle.rules.proofs.Groups.{fine-distinct}
 use Rattle.rules.specs.Entries.{Object, PingSet, Ordered}
 use Rattle.rules.specs.Rules.{noObject, noSet}
 use Rattle.rules.proofs.SoundLaws.{sound-fields}
-use Rattle.table.specs.View.{objectCount, setCount, objectsOf, setsOf, oidsOf, memberValues, memory, view, SoundTable}
-use Rattle.table.specs.Edits.{membersAt, membersBelow}
+use Rattle.table.specs.View.{objectCount, setCount, objectsOf, setsOf, oidsOf, memberValues, memory, view, SoundTable, membersAt, membersBelow}
 use Rattle.table.proofs.LiveRows.{objects-length, sets-length}
-use Rattle.table.proofs.edit.Members.{oids-length, below-at}
-use Rattle.table.proofs.edit.Below.{row-members}
+use Rattle.table.proofs.MemberRows.{oids-length, below-at, row-members}
 use Rattle.calls.proofs.Calls.{sound-below}
 
 module _ (ids : List ℕ) (p : proper ids ≡ true) where

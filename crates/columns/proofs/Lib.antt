@@ -1,3 +1,3 @@
 pub mod Loops
 pub mod Moves
-pub mod Guids
+pub mod GuidColumns

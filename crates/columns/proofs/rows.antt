@@ -1,3 +1,3 @@
 -- Laws of rows of words, and of the loops over their columns.
 pub mod Laws
-pub mod Loops
+pub mod MovedRows

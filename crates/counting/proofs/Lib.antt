@@ -1,3 +1,3 @@
-pub mod Counts
+pub mod TwoCounts
 pub mod Dropping
 pub mod Releasing

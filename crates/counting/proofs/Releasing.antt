@@ -14,18 +14,18 @@ use Rattle.lists.specs.Lists.{some, deleteAt}
 use Rattle.rules.specs.Entries.{Interface, Entries, publicOf, privateOf, withInterfaces, atCounts, interfaceRow}
 use Rattle.rules.specs.Calls.{Call}
 use Rattle.rules.specs.Sound.{held}
-use Rattle.rules.specs.Rules.{noInterface, flag, noClient, refusals, number, next, results, refused, done}
+use Rattle.rules.specs.Rules.{noInterface, flag, noClient, refusals, number, next, results, refusedReply, acceptedReply}
 use Rattle.rules.specs.Contract.{Memory}
 use Rattle.rules.proofs.ByRow.{interfaceIn}
 use Rattle.rules.proofs.CountRows.{lessened, release-counted, release-empty, counted-values, empty-values}
 use Rattle.table.specs.View.{interfaceCount, interfacesOf, memory, view, SoundTable, Stepped}
-use Rattle.table.specs.Edits.{changeInterface, dropInterface}
+use Rattle.edit.specs.Edits.{changeInterface, dropInterface}
 use Rattle.table.proofs.LiveRows.{interfaces-length}
 use Rattle.settling.specs.Leaving.{withoutLeaving}
 use Rattle.settling.specs.declared.Leaving.the-variants.{NoInterface}
 use Rattle.counting.specs.Dropping.{InterfaceDropped}
 use Rattle.counting.specs.Replies.{releaseReply}
-use Rattle.counting.proofs.Counts.{counts-as}
+use Rattle.counting.proofs.TwoCounts.{counts-as}
 use Rattle.calls.proofs.Calls.{interface-tested, refused-step, accepted-step}
 
 -- clients are 0 to 7
@@ -44,7 +44,7 @@ delete-set (suc i) (y ∷ xs) x = ap (λ (l : List _). y ∷ l) (delete-set i xs
 
 pub no-client : (ws s : List ℕ) (c : ℕ) (i : Guid) (p q : ℕ) → 7 < c
     → Stepped (Call.release c i p q) (memory ws s) (releaseReply (record { answer = 20; public = 0; private = 0; interfaces = 0; objects = 0 })) (memory ws s)
-unfolding refused results number refusals order
+unfolding refusedReply results number refusals order
 no-client ws s c i p q h =
     let e : number (Call.release c i p q) (view (memory ws s)) ≡ 20 = rw (client-missing c h) in
     refused-step 20 (sym e) (λ z. omega arith)
@@ -64,7 +64,7 @@ module _ (ws s : List ℕ) (c : ℕ) (i : Guid) (p q : ℕ) {r n : ℕ} (client 
   before = view (memory ws s)
 
   pub no-interface : n ≤ r → Stepped (Call.release c i p q) (memory ws s) (releaseReply (record { answer = 6; public = 0; private = 0; interfaces = 0; objects = 0 })) (memory ws s)
-  unfolding refused results number refusals order
+  unfolding refusedReply results number refusals order
   no-interface l =
       let gone = interface-tested ws s i (found .row) (found .count) ∙ le-ltb r n l in
       let e : number (Call.release c i p q) before ≡ 6 = rw (client-here c client, gone) in
@@ -74,7 +74,7 @@ module _ (ws s : List ℕ) (c : ℕ) (i : Guid) (p q : ℕ) {r n : ℕ} (client 
   released : r < n → (m : Memory) (a b o d : ℕ) → view m ≡ next (Call.release c i p q) before
       → results (Call.release c i p q) before .values ≡ a ∷ b ∷ o ∷ d ∷ []
       → Stepped (Call.release c i p q) (memory ws s) (releaseReply (record { answer = 0; public = a; private = b; interfaces = o; objects = d })) m
-  unfolding done results number refusals order
+  unfolding acceptedReply results number refusals order
   released l m a b o d v e =
       let live = interface-tested ws s i (found .row) (found .count) ∙ lt-ltb r n l in
       let z : number (Call.release c i p q) before ≡ 0 = rw (client-here c client, live) in

@@ -4,28 +4,39 @@ use mathlib.Core.Path.{_≡_}
 use mathlib.Core.Bool.{Bool}
 use mathlib.Core.List.{List}
 use native.Mathlib.Omega.{arith}
-use borrow.Author.Tests.{ltb-false, leb-false}
+use borrow.Author.Tests.{ltb-false, leb-false, le-ltb, lt-leb}
 use lib.ListN.{length}
 use lib.Dec.{ltb, leb}
 use Rattle.kinds.specs.declared.Guid.{Guid}
-use Rattle.kinds.proofs.Refusing.{or-false, passed, passed-on}
+use Rattle.kinds.specs.Refusals.{order}
+use Rattle.kinds.proofs.Refusing.{eq-differ, or-false, passed, passed-on}
 use Rattle.bindings.specs.Bindings.{listAnswer}
-use Rattle.rules.specs.Entries.{Entries, listBytes, exporterPlaces, objectPlaces, interfacePlaces}
+use Rattle.rules.specs.Entries.{Entries, listsLength, exporterPlaces, objectPlaces, interfacePlaces}
 use Rattle.rules.specs.Calls.{Call}
-use Rattle.rules.specs.Rules.{refusals, number}
-use Rattle.rules.specs.Sound.{storeBytes}
+use Rattle.rules.specs.Rules.{refusals, number, listRefusals}
+use Rattle.rules.specs.Sound.{longestList, storeBytes}
 
 module _ (e : Entries) where
-  -- an exporter's list keeps the list rules, and fits into the store behind the live ones
-  pub exporter-fits : (x : ℕ) (u : Guid) (b : List ℕ) → number (Call.enterExporter x u b) e ≡ 0
-      → (listAnswer b ≡ 0) × (length (e .exporters) < exporterPlaces) × (listBytes (e .exporters) + length b ≤ storeBytes)
-  unfolding number refusals
-  exporter-fits x u b h =
-      let r = passed _ 3 _ (omega arith) h in
-      let s = passed-on (listAnswer b) _ (r .1) in
-      let l = passed _ 19 _ (omega arith) (s .1) in
-      let f = or-false (leb exporterPlaces (length (e .exporters))) (ltb storeBytes (listBytes (e .exporters) + length b)) (passed _ 9 _ (omega arith) (l .1) .0) in
-      (s .0, leb-false exporterPlaces (length (e .exporters)) (f .0), ltb-false storeBytes (listBytes (e .exporters) + length b) (f .1))
+  module _ (b : List ℕ) where
+    -- an exporter's list keeps the list rules, is not too long, and there are a place for the exporter and room behind the live lists
+    abbrev pub ListFits : Type 0
+    ListFits = (listAnswer b ≡ 0) × (length b ≤ longestList) × (length (e .exporters) < exporterPlaces) × (listsLength (e .exporters) + length b ≤ storeBytes)
+
+    pub list-fits : order (listRefusals b e) ≡ 0 → ListFits
+    list-fits h =
+        let s = passed-on (listAnswer b) _ h in
+        let l = passed _ 19 _ (omega arith) (s .1) in
+        let f = or-false (leb exporterPlaces (length (e .exporters))) (ltb storeBytes (listsLength (e .exporters) + length b)) (passed _ 9 _ (omega arith) (l .1) .0) in
+        (s .0, ltb-false longestList (length b) (l .0), leb-false exporterPlaces (length (e .exporters)) (f .0), ltb-false storeBytes (listsLength (e .exporters) + length b) (f .1))
+
+    pub fits-list : ListFits → order (listRefusals b e) ≡ 0
+    unfolding order
+    fits-list (a, l, p, r) =
+        rw (eq-differ (listAnswer b) 0 a, le-ltb longestList (length b) l, lt-leb exporterPlaces (length (e .exporters)) p, le-ltb storeBytes (listsLength (e .exporters) + length b) r)
+
+    pub exporter-fits : (x : ℕ) (u : Guid) → number (Call.enterExporter x u b) e ≡ 0 → ListFits
+    unfolding number refusals
+    exporter-fits x u h = list-fits (passed _ 3 _ (omega arith) h .1)
 
   -- an object needs a place for its interface too
   pub object-fits : (o x : ℕ) (i iid : Guid) (n : ℕ) (np : Bool) → number (Call.enterObject o x i iid n np) e ≡ 0

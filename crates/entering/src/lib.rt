@@ -3,17 +3,17 @@ use kinds::Guid;
 use kinds::Oid;
 use kinds::Oxid;
 use kinds::answer;
-use table::edit;
+use kinds::limits;
 use table::find;
-use table::judge;
-use table::limits;
 ghost use mathlib.Core.Path.{_≡_};
-ghost use mathlib.Core.Bool.{Bool};
+ghost use mathlib.Core.Bool.{Bool, true};
 ghost use mathlib.Core.List.{List};
 ghost use Prim.Native.Nat.{ℕ};
 ghost use Rattle.kinds.specs.declared.Guid.{Guid};
 ghost use Rattle.rules.specs.Calls.{Call, numbered};
-ghost use Rattle.rules.specs.Rules.{number};
+ghost use Rattle.kinds.specs.Refusals.{order};
+ghost use Rattle.rules.specs.Rules.{number, listRefusals};
+ghost use Rattle.rules.specs.Sound.{listsKept};
 ghost use Rattle.table.specs.View.{memory, view, SoundTable, Stepped, Performed};
 ghost use Rattle.rules.specs.Contract.{Whole};
 
@@ -30,6 +30,28 @@ pub fn reset<'a>(words: &'a mut [u64], store: &'a [u8], time: u64) -> u32
         return answer::UNSOUND;
     }
     edit::clear(words, time);
+    answer::DONE
+}
+
+// The number of a new exporter's list: 13; 14; 19; 9.
+pub fn list_number<'a>(words: &'a [u64], store: &'a [u8], list: &'a [u8]) -> u32
+    requires { ⌜ Whole (now words) × Whole (now store) × (listsKept (view (memory (now words) (now store))) ≡ true) ⌝ }
+    ensures { λ r. ⌜ r ≡ order (listRefusals (now (list .entry)) (view (memory (now (words .entry)) (now (store .entry))))) ⌝ }
+{
+    let judged = bindings::list_answer(list);
+    if judged != answer::DONE {
+        return judged;
+    }
+    if limits::LONGEST_LIST < list.len() {
+        return answer::LONG_LIST;
+    }
+    let n = find::exporter_count(words);
+    if limits::EXPORTER_PLACES <= n {
+        return answer::NO_PLACE;
+    }
+    if limits::BYTES < find::list_start(store, n) + list.len() {
+        return answer::NO_PLACE;
+    }
     answer::DONE
 }
 
@@ -53,21 +75,7 @@ fn exporter_number<'a>(
     if find::ipid_taken(words, unknown) {
         return answer::BAD_IDENTIFIER;
     }
-    let judged = bindings::list_answer(list);
-    if judged != answer::DONE {
-        return judged;
-    }
-    if limits::LONGEST_LIST < list.len() {
-        return answer::LONG_LIST;
-    }
-    let n = find::exporter_count(words);
-    if limits::EXPORTER_PLACES <= n {
-        return answer::NO_PLACE;
-    }
-    if limits::BYTES < find::list_start(store, n) + list.len() {
-        return answer::NO_PLACE;
-    }
-    answer::DONE
+    list_number(words, store, list)
 }
 
 // Enters an exporter with its remote-unknown IPID and its binding list: 0, or 1; 3; 13; 14; 19; 9.

@@ -2,7 +2,7 @@
 // read as 0, and bytes that do not fit are not written.
 use kinds::Guid;
 ghost use mathlib.Core.Path.{_≡_};
-ghost use Prim.Native.Nat.{_+_, _^_, _<_, _≤_};
+ghost use Prim.Native.Nat.{_+_, _^_, _<_, _≤_, min};
 ghost use lib.ListN.{length};
 ghost use lib.Dec.{eqb, leb};
 ghost use Rattle.fields.specs.Fields.{field, encode, written, zeros, rounded, guidAt, guidBytes};
@@ -32,6 +32,13 @@ pub fn inside(n: usize, at: usize, w: usize) -> bool
         return false;
     }
     w <= n - at
+}
+
+// n, or the number of bytes where they are fewer.
+pub fn within(s: &[u8], n: usize) -> usize
+    ensures { λ r. ⌜ r ≡ min n (length (now (s .entry))) ⌝ }
+{
+    if n < s.len() { n } else { s.len() }
 }
 
 // The number in the w bytes from at.

@@ -10,7 +10,7 @@ use Rattle.lists.specs.Lists.{tabulate}
 use Rattle.lists.proofs.Lists.{map-append, map-tabulate, length-tabulate, tabulate-ext, tabulate-getD}
 use Rattle.rules.specs.Calls.{Call, Counting, reset, enterExporter, removeExporter, enterObject, enterInterface, add, release, dropClient, countList, simplePing, complexPing, clock, resolve, resolveFiltered, census, members, nextStop, writeSnapshot, loadSnapshot}
 use Rattle.rules.specs.Items.{itemAt, itemCount, itemsOf, itemCall}
-use Rattle.rules.specs.Rules.{itemNumbers, number, results, done, refused, reply}
+use Rattle.rules.specs.Rules.{itemNumbers, number, results, acceptedReply, refusedReply, reply}
 use Rattle.rules.proofs.Stepping.{reply-number}
 use Rattle.rules.proofs.OneByOne.{length-numbers}
 use Rattle.history.specs.History.{History, live, itemsFed, lived, feed, feedAll, replies, numbers}
@@ -42,7 +42,7 @@ same-once c h = record { history = refl; answers = ap (λ (n : ℕ). n ∷ []) (
 -- an accepted list
 same-items : (w : Counting) (c : ℕ) (s b : List ℕ) (h : History) → Kept h → eqb (number (countList w c s b) (live h)) 0 ≡ true
     → Same (countList w c s b) h (tabulate (itemCount s) (λ k. record { call = itemCall w c (itemAt s k); number = getD (reply (countList w c s b) (live h) .buffer) k 0 }))
-unfolding itemsOf feed lived reply done results
+unfolding itemsOf feed lived reply acceptedReply results
 same-items w c s b h k e =
     record {
       history = ap (feedAll h) calls ∙ sym (items-fed w c (itemsOf s) h) ∙ sym list-fed;
@@ -69,7 +69,7 @@ same-items w c s b h k e =
     list-fed = ap (λ (t : Bool). cond t (itemsFed w c (itemsOf s) h) h) e
 
     written : reply (countList w c s b) (live h) .buffer ≡ ns ++ drop (length ns) b
-    written = ap (λ (t : Bool). cond t (done (countList w c s b) (live h)) (refused (number (countList w c s b) (live h)) (countList w c s b) (live h)) .buffer) e
+    written = ap (λ (t : Bool). cond t (acceptedReply (countList w c s b) (live h)) (refusedReply (number (countList w c s b) (live h)) (countList w c s b) (live h)) .buffer) e
 
 same : (c : Call) (h : History) → Kept h → Same c h (answered c (reply c (live h)))
 unfolding answered

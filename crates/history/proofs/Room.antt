@@ -17,8 +17,8 @@ use Rattle.contexts.specs.Contexts.{propertyLength, propertyAnswer, propertiesA
 use Rattle.elements.specs.Elements.{isReference, elementContent, elementFront, elementEnd, contentAnswer, elementAnswer}
 use Rattle.references.specs.References.{isCustom, isExtended, objectAnswer, elementStart, headAnswer, plainAnswer, extendedFront, extendedAnswer, formAnswer, layoutBy, layoutAnswer, referenceAnswer}
 use Rattle.lists.proofs.Tests.{below-or-not}
-use Rattle.rules.specs.Entries.{Exporter, Entries, listBytes, exporterPlaces, objectPlaces, interfacePlaces, setPlaces}
-use Rattle.rules.proofs.ListBytes.{bytes-joined}
+use Rattle.rules.specs.Entries.{Exporter, Entries, listsLength, exporterPlaces, objectPlaces, interfacePlaces, setPlaces}
+use Rattle.rules.proofs.ListsLength.{bytes-joined}
 use Rattle.rules.specs.Calls.{Call, reset, enterExporter, removeExporter, enterObject, enterInterface, add, release, dropClient, countList, simplePing, complexPing, clock, resolve, resolveFiltered, census, members, nextStop, writeSnapshot, loadSnapshot}
 use Rattle.rules.specs.Rules.{refusals, number}
 use Rattle.rules.specs.Contract.{Memory}
@@ -174,7 +174,7 @@ full-places places n h =
     (below-or-not n places)
 
 -- the live lists and a new one have so many bytes
-together-bytes : (xs : List Exporter) (new : List ℕ) → length (together xs new) ≡ listBytes xs + length new
+together-bytes : (xs : List Exporter) (new : List ℕ) → length (together xs new) ≡ listsLength xs + length new
 together-bytes xs new = length-append (joined (map (λ (x : Exporter). x .bindings) xs)) new ∙ ap (λ (n : ℕ). n + length new) (bytes-joined xs)
 
 -- of every call

@@ -12,7 +12,7 @@ use Rattle.lists.proofs.Tests.{true-or-false, same-or-not, and-left, and-right}
 use Rattle.rules.specs.Entries.{Entries}
 use Rattle.rules.specs.Calls.{Call, reset, enterExporter, removeExporter, enterObject, enterInterface, add, release, dropClient, countList, simplePing, complexPing, clock, resolve, resolveFiltered, census, members, nextStop, writeSnapshot, loadSnapshot, Reply}
 use Rattle.rules.specs.Sound.{sound}
-use Rattle.rules.specs.Rules.{refusals, number, next, results, refused, done, reply}
+use Rattle.rules.specs.Rules.{refusals, number, next, results, refusedReply, acceptedReply, reply}
 use Rattle.rules.specs.Contract as contract
 use Rattle.rules.specs.Contract.{Memory, rightLengths, lengthsOnly, fit, replyTo}
 use Rattle.rules.proofs.Stepping.{reply-number}
@@ -38,7 +38,7 @@ fits c m s =
 -- where answer 1 is not given, the rules answer
 pub fit-reply : (c : Call) (m : Memory) → fit view c m ≡ true → replyTo view c m ≡ reply c (view m)
 unfolding replyTo
-fit-reply c m f = ap (λ (b : Bool). cond b (reply c (view m)) (refused 1 c (view m))) f
+fit-reply c m f = ap (λ (b : Bool). cond b (reply c (view m)) (refusedReply 1 c (view m))) f
 
 -- a sound table is answered by them
 pub replied : (c : Call) (m : Memory) → soundMemory m ≡ true → replyTo view c m ≡ reply c (view m)
@@ -47,11 +47,11 @@ replied c m s = fit-reply c m (fits c m s)
 module _ (c : Call) (m m′ : Memory) (r : Reply) (p : Performed c m r m′) (z : r .number ≡ 0) where
   -- an accepted call is not refused by 1
   pub accepted-fits : fit view c m ≡ true
-  unfolding replyTo refused
+  unfolding replyTo refusedReply
   accepted-fits =
       ⊎-elim
       (λ t. t)
-      (λ f. let n : 1 ≡ 0 = sym (ap (λ (a : Bool). cond a (reply c (view m)) (refused 1 c (view m)) .number) f) ∙ sym (ap (λ (q : Reply). q .number) (p .answered)) ∙ z in absurd (omega arith))
+      (λ f. let n : 1 ≡ 0 = sym (ap (λ (a : Bool). cond a (reply c (view m)) (refusedReply 1 c (view m)) .number) f) ∙ sym (ap (λ (q : Reply). q .number) (p .answered)) ∙ z in absurd (omega arith))
       (true-or-false (fit view c m))
 
   pub accepted-reply : r ≡ reply c (view m)
@@ -107,7 +107,7 @@ run-follows (call {c} {r} {cs} {rs} {m} {m′} p t) h f =
 
 -- what a call that begins a history leaves and answers does not depend on the entries before it
 begins-alike : (c : Call) → begins c ≡ true → (e f : Entries) → (next c e ≡ next c f) × (reply c e ≡ reply c f)
-unfolding next reply number refusals order done results refused
+unfolding next reply number refusals order acceptedReply results refusedReply
 begins-alike (reset t) b e f = (refl, refl)
 begins-alike (enterExporter x u l) b e f = absurd (true≢false (sym b))
 begins-alike (removeExporter x) b e f = absurd (true≢false (sym b))

@@ -5,7 +5,6 @@ use mathlib.Core.Bool.{Bool, true, false, cond}
 use mathlib.Core.List.{List}
 use mathlib.Core.Logic.{inl, inr, ⊎-elim}
 use native.Mathlib.Omega.{arith}
-use borrow.Author.Tests.{eq-eqb}
 use lib.ListN.{length, drop}
 use lib.Seq.{take-at}
 use Rattle.kinds.specs.Refusals.{order}
@@ -14,10 +13,10 @@ use Rattle.rules.specs.Entries.{Entries}
 use Rattle.rules.specs.Calls.{Reply, writeSnapshot, loadSnapshot}
 use Rattle.rules.specs.Sound.{sound}
 use Rattle.rules.specs.Snapshot.{snapshotBytes, entriesOf, isSnapshot}
-use Rattle.rules.specs.Rules.{number, refusals, next, results, done, reply, refused}
-use Rattle.rules.specs.Contract.{Memory, Whole, fit}
+use Rattle.rules.specs.Rules.{number, refusals, next, results, acceptedReply, reply, refusedReply}
+use Rattle.rules.specs.Contract.{Memory, Whole}
 use Rattle.rules.proofs.SoundLaws.{table-fields}
-use Rattle.rules.proofs.Performing.{fit-sound}
+use Rattle.rules.proofs.Performing.{fit-sound, fit-lengths}
 use Rattle.rules.proofs.Stepping.{reply-number}
 use Rattle.rules.proofs.Swapping.{snapshot-fields, swaps, loads}
 use Rattle.table.specs.View.{view, soundMemory, Performed}
@@ -25,12 +24,7 @@ use Rattle.table.proofs.Fitting.{view-fits}
 use Rattle.history.specs.Swapping.{LoadsExactly, writtenIn, BoxesSwap}
 use Rattle.history.proofs.Runs.{fit-reply, accepted-fits, accepted-reply, replied}
 
--- a load looks at lengths only
-load-fits : (s : List ℕ) (m : Memory) → Whole (m .words) → Whole (m .store) → fit view (loadSnapshot s) m ≡ true
-unfolding fit
-load-fits s m w b = rw (eq-eqb (length (m .words)) 8192 w, eq-eqb (length (m .store)) 8192 b) refl
-
--- its number, by whether the bytes are a snapshot
+-- the number of a load, by whether the bytes are a snapshot
 abbrev numberBy : Bool → ℕ
 numberBy b = cond b 0 23
 
@@ -41,7 +35,7 @@ load-number s e = ⊎-elim (λ t. rw t refl) (λ f. rw f refl) (true-or-false (i
 module _ (s : List ℕ) (m m′ : Memory) (r : Reply) (w : Whole (m .words)) (b : Whole (m .store)) (p : Performed (loadSnapshot s) m r m′) where
   answered-number : r .number ≡ numberBy (isSnapshot s)
   answered-number =
-      ap (λ (q : Reply). q .number) (p .answered ∙ fit-reply (loadSnapshot s) m (load-fits s m w b))
+      ap (λ (q : Reply). q .number) (p .answered ∙ fit-reply (loadSnapshot s) m (fit-lengths view (loadSnapshot s) m refl w b))
       ∙ reply-number (loadSnapshot s) (view m)
       ∙ load-number s (view m)
 
@@ -71,15 +65,15 @@ loads-exactly s m m′ r w b p =
 
 -- what a write answers depends on the snapshot alone
 write-alike : (b : List ℕ) (e f : Entries) → snapshotBytes e ≡ snapshotBytes f → reply (writeSnapshot b) e ≡ reply (writeSnapshot b) f
-unfolding reply number refusals results done refused
+unfolding reply number refusals results acceptedReply refusedReply
 write-alike b e f q = rw q
 
 -- an accepted write is of the snapshot
 written-front : (b : List ℕ) (e : Entries) (w : Reply) → w ≡ reply (writeSnapshot b) e → w .number ≡ 0 → writtenIn w ≡ snapshotBytes e
-unfolding reply results done
+unfolding reply results acceptedReply
 written-front b e w a z =
     let n : number (writeSnapshot b) e ≡ 0 = sym (reply-number (writeSnapshot b) e) ∙ sym (ap (λ (q : Reply). q .number) a) ∙ z in
-    let d : w ≡ done (writeSnapshot b) e = a ∙ rw n in
+    let d : w ≡ acceptedReply (writeSnapshot b) e = a ∙ rw n in
     ap writtenIn d ∙ take-at (snapshotBytes e) (drop (length (snapshotBytes e)) b) (length (snapshotBytes e)) refl
 
 pub boxes-swap : BoxesSwap

@@ -1,8 +1,9 @@
-// The kinds of numbers that the crates share: identifiers, answer numbers and wire codes.
+// The kinds of numbers that the crates share: identifiers, answer numbers, wire codes, and how much a table holds.
 ghost use mathlib.Core.Path.{_≡_};
 ghost use Rattle.kinds.specs.Wire.{wireCode};
 
 pub mod answer;
+pub mod limits;
 
 // An exporter's number (OXID).
 #[repr(C)]

@@ -11,11 +11,11 @@ use Rattle.lists.proofs.Lists.{every-kept, length-keep}
 use Rattle.rules.specs.Entries.{Entries, oids, withClock}
 use Rattle.rules.specs.Calls.{Call}
 use Rattle.rules.specs.Sound.{proper, setMembersLive, heardWithin, pingedWithin}
-use Rattle.rules.specs.Rules.{refusals, number, next, results, refused, done, clockValues}
+use Rattle.rules.specs.Rules.{refusals, number, next, results, refusedReply, acceptedReply, clockValues}
 use Rattle.rules.proofs.SoundLaws.{sound-fields}
 use Rattle.rules.proofs.LeavingKeeps.{clock-next}
 use Rattle.table.specs.View.{objectCount, interfaceCount, setCount, memory, view, SoundTable, Stepped}
-use Rattle.table.specs.Edits.{Became}
+use Rattle.edit.specs.Edits.{Became}
 use Rattle.table.proofs.LiveRows.{objects-length, interfaces-length, sets-length}
 use Rattle.settling.specs.Leaving.{withoutLeaving, setsLeft}
 use Rattle.leaving.specs.Replies.{clockReply}
@@ -28,7 +28,7 @@ module _ (ws s : List ℕ) (t : ℕ) (h : SoundTable (memory ws s)) where
 
   -- the clock would go back
   pub clock-back : ltb t (getD ws 0 0) ≡ true → Stepped (Call.clock t) (memory ws s) (clockReply (record { answer = 2; exporters = 0; objects = 0; interfaces = 0; sets = 0 })) (memory ws s)
-  unfolding refused results number refusals order
+  unfolding refusedReply results number refusals order
   clock-back l =
       let e : number (Call.clock t) before ≡ 2 = rw l in
       refused-step 2 (sym e) (λ z. omega arith)
@@ -75,7 +75,7 @@ module _ (ws s : List ℕ) (t : ℕ) (h : SoundTable (memory ws s)) where
       pub clock-done : ltb t (getD ws 0 0) ≡ false → (a b c a₃ b₃ c₃ : ℕ)
           → a ≡ objectCount ws → b ≡ interfaceCount ws → c ≡ setCount ws → a₃ ≡ objectCount ws₃ → b₃ ≡ interfaceCount ws₃ → c₃ ≡ setCount ws₃
           → Stepped (Call.clock t) (memory ws s) (clockReply (record { answer = 0; exporters = 0; objects = a - a₃; interfaces = b - b₃; sets = c - c₃ })) (memory ws₃ s)
-      unfolding done results number refusals order
+      unfolding acceptedReply results number refusals order
       clock-done l a b c a₃ b₃ c₃ ea eb ec ea₃ eb₃ ec₃ =
           let z : number (Call.clock t) before ≡ 0 = rw l in
           let none = ap (λ (e : Entries). length (e .exporters)) expired in

@@ -13,10 +13,10 @@ use Rattle.lists.proofs.Distinct.{eqb-decides, entry-remove}
 use Rattle.rules.specs.Entries.{Exporter, Object, Entries, withExporters, exporterRow}
 use Rattle.rules.specs.Sound.{sound}
 use Rattle.rules.specs.Calls.{Call, numbered, removeExporter}
-use Rattle.rules.specs.Rules.{noExporter, withoutObjects, refusals, number, next, results, refused, done}
+use Rattle.rules.specs.Rules.{noExporter, withoutObjects, refusals, number, next, results, refusedReply, acceptedReply}
 use Rattle.rules.proofs.ByRow.{oxids-distinct}
 use Rattle.table.specs.View.{exporterCount, memory, view, SoundTable, Stepped}
-use Rattle.table.specs.Edits.{Became, dropExporter}
+use Rattle.edit.specs.Edits.{Became, dropExporter}
 use Rattle.table.proofs.LiveRows.{exporters-length}
 use Rattle.settling.specs.Leaving.{withoutLeaving}
 use Rattle.settling.specs.declared.Leaving.{Leaving}
@@ -37,7 +37,7 @@ remove-exporter-row e s x h =
 
 module _ (ws s : List ℕ) (x : ℕ) (h : SoundTable (memory ws s)) (r n : ℕ) (row : r ≡ exporterRow (view (memory ws s)) x) (count : n ≡ exporterCount ws) where
   pub no-exporter : n ≤ r → Stepped (Call.removeExporter x) (memory ws s) (numbered 4) (memory ws s)
-  unfolding refused results number refusals order
+  unfolding refusedReply results number refusals order
   no-exporter l =
       let gone = exporter-tested ws s x row count ∙ le-ltb r n l in
       let e : number (Call.removeExporter x) (view (memory ws s)) ≡ 4 = rw gone in
@@ -45,7 +45,7 @@ module _ (ws s : List ℕ) (x : ℕ) (h : SoundTable (memory ws s)) (r n : ℕ) 
 
   pub exporter-gone : r < n → (ws₁ ws₂ s₂ : List ℕ) → Became (withoutLeaving (ExporterRemoved (record { 0 = x }))) ws ws₁
       → view (memory ws₂ s₂) ≡ dropExporter r (view (memory ws₁ s)) → Stepped (Call.removeExporter x) (memory ws s) (numbered 0) (memory ws₂ s₂)
-  unfolding done results number refusals order
+  unfolding acceptedReply results number refusals order
   exporter-gone l ws₁ ws₂ s₂ settles drops =
       let e = view (memory ws s) in
       let live = exporter-tested ws s x row count ∙ lt-ltb r n l in

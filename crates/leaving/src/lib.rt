@@ -2,9 +2,7 @@
 use kinds::Oxid;
 use kinds::answer;
 use settling::Leaving;
-use table::edit;
 use table::find;
-use table::judge;
 ghost use mathlib.Core.Path.{_≡_};
 ghost use Prim.Native.Nat.{_<_};
 ghost use Rattle.rules.specs.Calls.{Call, numbered};

@@ -10,7 +10,7 @@ use Rattle.lists.proofs.Lists.{length-tabulate, getD-tabulate}
 use Rattle.rules.specs.Entries.{Entries}
 use Rattle.rules.specs.Calls.{Call, Counting}
 use Rattle.rules.specs.Items.{Item, itemAt, itemCount, itemsOf, itemCall}
-use Rattle.rules.specs.Rules.{itemDone, refusals, number, next, results, refused, done}
+use Rattle.rules.specs.Rules.{itemDone, refusals, number, next, results, refusedReply, acceptedReply}
 use Rattle.rules.specs.Contract.{Memory}
 use Rattle.rules.proofs.ListLoop.{noItem, Listed, listed-none, listed-next, listed-all}
 use Rattle.table.specs.View.{view, SoundTable, Stepped}
@@ -50,7 +50,7 @@ module _ (w : Counting) (c : ℕ) (s b₀ : List ℕ) (m₀ : Memory) where
 
     -- all are done
     pub going-all : k ≡ itemCount s → c ≤ 7 → length s % 24 ≡ 0 → itemCount s ≤ 65535 → itemCount s ≤ length b₀ → Stepped (Call.countList w c s b₀) m₀ (listReply 0 b) m
-    unfolding done results next number refusals order
+    unfolding acceptedReply results next number refusals order
     going-all h client whole limit room =
         let a = listed-all w c (itemsOf s) b₀ (view m₀) k b (view m) (g .listed) (h ∙ sym (items-length s)) in
         subst (λ (x : List ℕ). Stepped (Call.countList w c s b₀) m₀ (listReply 0 x) m) (sym (a .1))
@@ -58,20 +58,20 @@ module _ (w : Counting) (c : ℕ) (s b₀ : List ℕ) (m₀ : Memory) where
 
   -- the list is refused
   pub no-client : 7 < c → Stepped (Call.countList w c s b₀) m₀ (listReply 20 b₀) m₀
-  unfolding refused results number refusals order
+  unfolding refusedReply results number refusals order
   no-client h = refused-step 20 (rw (lt-ltb 7 c h)) (λ z. omega arith)
 
   module _ (client : c ≤ 7) where
     pub not-whole : (length s % 24 ≡ 0 → ⊥) → Stepped (Call.countList w c s b₀) m₀ (listReply 13 b₀) m₀
-    unfolding refused results number refusals order
+    unfolding refusedReply results number refusals order
     not-whole h = refused-step 13 (rw (le-ltb 7 c client, ne-eqb (length s % 24) 0 h)) (λ z. omega arith)
 
     module _ (whole : length s % 24 ≡ 0) where
       pub too-many : 65535 < itemCount s → Stepped (Call.countList w c s b₀) m₀ (listReply 10 b₀) m₀
-      unfolding refused results number refusals order
+      unfolding refusedReply results number refusals order
       too-many h = refused-step 10 (rw (le-ltb 7 c client, eq-eqb (length s % 24) 0 whole, lt-ltb 65535 (itemCount s) h)) (λ z. omega arith)
 
       pub no-room : itemCount s ≤ 65535 → length b₀ < itemCount s → Stepped (Call.countList w c s b₀) m₀ (listReply 15 b₀) m₀
-      unfolding refused results number refusals order
+      unfolding refusedReply results number refusals order
       no-room l h =
           refused-step 15 (rw (le-ltb 7 c client, eq-eqb (length s % 24) 0 whole, le-ltb 65535 (itemCount s) l, lt-ltb (length b₀) (itemCount s) h)) (λ z. omega arith)

@@ -1,6 +1,5 @@
 // Whole lists of adds and releases: items of 24 bytes, an IPID and two counts, as RemAddRef and RemRelease carry them.
 use kinds::answer;
-use table::judge;
 ghost use Prim.Native.Nat.{_≤_, _<_};
 ghost use Rattle.rules.specs.Rules.{mostListed};
 ghost use Rattle.rules.specs.Calls.{Call, adding, releasing};

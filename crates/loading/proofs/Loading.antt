@@ -12,7 +12,7 @@ use lib.ListN.{length, getD, take, drop, set, length-append, drop-of-length-le}
 use lib.Seq.{drop-cons, take-suc, take-suc-set, take-at}
 use Rattle.kinds.specs.Refusals.{order}
 use Rattle.kinds.proofs.Refusing.{true-false, same-test}
-use Rattle.fields.specs.Fields.{field, written, Bytes}
+use Rattle.fields.specs.Fields.{written, Bytes}
 use Rattle.fields.proofs.Fields.{written-front}
 use Rattle.fields.specs.declared.Written.{Written}
 use Rattle.bindings.specs.Bindings.{sameWords}
@@ -22,20 +22,22 @@ use Rattle.lists.proofs.Lists.{every-from-at}
 use Rattle.rules.specs.Entries.{Entries}
 use Rattle.rules.specs.Calls.{Call, Reply}
 use Rattle.rules.specs.Sound.{sound}
-use Rattle.rules.specs.Rules.{refusals, number, next, results, refused, done, reply, fronted}
-use Rattle.rules.specs.Contract.{Memory, Whole, fit, replyTo}
+use Rattle.rules.specs.Rules.{refusals, number, next, results, refusedReply, acceptedReply, reply, fronted}
+use Rattle.rules.specs.Contract.{Memory, Whole, replyTo}
 use Rattle.rules.specs.Snapshot.{snapshotBytes, entriesOf, placed, isSnapshot}
 use Rattle.rules.specs.Swapping.{longestSnapshot}
 use Rattle.rules.proofs.SoundLaws.{clause-at, table-made}
-use Rattle.rules.proofs.Performing.{refused-number, accepted}
+use Rattle.rules.proofs.Performing.{refused-number, accepted, fit-lengths}
 use Rattle.rules.proofs.Stepping.{refused-step}
-use Rattle.rules.proofs.Swapping.{snapshot-fields, snapshot-made, snapshot-fits, snapshot-count}
+use Rattle.rules.proofs.Swapping.{snapshot-fields, snapshot-made}
 use Rattle.rules.proofs.SnapshotSizes.{snapshot-inside}
 use Rattle.table.specs.View.{memory, view, soundMemory, SoundTable, Stepped, Performed}
 use Rattle.table.specs.Fitting.{Lent}
 use Rattle.table.proofs.Fitting.{view-fits}
 use Rattle.saving.specs.Replies.{writtenReply}
-use Rattle.loading.specs.Sections.{TableRead, SnapshotRead}
+use Rattle.snapshot_reader.specs.ReadSections.{TableRead}
+use Rattle.snapshot_reader.proofs.sections.Refused.{fails}
+use Rattle.loading.specs.Loading.{SnapshotRead}
 
 -- ---- the same bytes
 
@@ -89,16 +91,16 @@ module _ (m : Memory) (t : SoundTable m) (l : Lent m) (b b′ : List ℕ) (r : W
   fits-in : length bytes ≤ length b
   fits-in = let i = snapshot-inside (view m) (t .entries) (view-fits m l) in omega arith
 
-  answered : writtenReply r b′ ≡ done (Call.writeSnapshot b) (view m)
+  answered : writtenReply r b′ ≡ acceptedReply (Call.writeSnapshot b) (view m)
   unfolding reply number refusals order
   answered = w .answered ∙ rw (le-ltb (length b) (length bytes) fits-in)
 
   pub written-length : r .length ≡ length bytes
-  unfolding done results
+  unfolding acceptedReply results
   written-length = ap (λ (x : Reply). getD (x .values) 0 0) answered
 
   written-buffer : b′ ≡ fronted bytes b
-  unfolding done results
+  unfolding acceptedReply results
   written-buffer = ap (λ (x : Reply). x .buffer) answered
 
   pub written-inside : r .length ≤ length b′
@@ -111,25 +113,6 @@ module _ (m : Memory) (t : SoundTable m) (l : Lent m) (b b′ : List ℕ) (r : W
   written-own = rw (written-length, written-buffer) (take-at bytes (drop (length bytes) b) (length bytes) refl)
 
 -- ---- what is accepted
-
-fails : (b : Bool) → (b ≡ true → ⊥) → b ≡ false
-fails b h = ⊎-elim (λ t. absurd (h t)) (λ (f : b ≡ false). f) (true-or-false b)
-
--- bytes that no snapshot is as long as, and another count of numbers
-pub too-long : (s : List ℕ) → longestSnapshot < length s → isSnapshot s ≡ false
-too-long s h =
-    fails (isSnapshot s)
-    (λ t.
-    let y = snapshot-fields s t in
-    let l = snapshot-inside (entriesOf s) (y .sound) (snapshot-fits s t) in
-    let e = ap length (y .own) in
-    omega arith)
-
-pub other-count : (s : List ℕ) → (field s 0 2 ≡ 2 → ⊥) → isSnapshot s ≡ false
-other-count s h = fails (isSnapshot s) (λ t. h (snapshot-count s t))
-
-pub table-refused : (s : List ℕ) (e : Entries) → isSnapshot s ≡ false → TableRead s false e
-table-refused s e h = record { entries = λ t. absurd (true-false (sym t)); refused = λ t. h }
 
 -- the table was not read
 pub not-read : (s : List ℕ) (e : Entries) (r : Bool) → TableRead s r e → r ≡ false → SnapshotRead s false e
@@ -178,17 +161,13 @@ module _ (s ws store : List ℕ) (read : Bool) (h : TableRead s read (view (memo
 -- ---- the call
 
 module _ (s : List ℕ) (m : Memory) (w : Whole (m .words)) (b : Whole (m .store)) where
-  load-fit : fit view (Call.loadSnapshot s) m ≡ true
-  unfolding fit
-  load-fit = rw (eq-eqb (length (m .words)) 8192 w, eq-eqb (length (m .store)) 8192 b)
-
   -- no snapshot
-  pub load-refused : isSnapshot s ≡ false → Performed (Call.loadSnapshot s) m (refused 23 (Call.loadSnapshot s) (view m)) m
+  pub load-refused : isSnapshot s ≡ false → Performed (Call.loadSnapshot s) m (refusedReply 23 (Call.loadSnapshot s) (view m)) m
   unfolding replyTo number refusals order
   load-refused f =
       let st = refused-step view (Call.loadSnapshot s) m 23 (rw f) (omega arith) in
       record {
-        answered = st .answered ∙ rw load-fit;
+        answered = st .answered ∙ rw (fit-lengths view (Call.loadSnapshot s) m refl w b);
         kept = st .kept;
         soundAfter = λ z. absurd (omega (arith, sym (refused-number 23 (Call.loadSnapshot s) (view m)) ∙ z));
         became = st .became;
@@ -196,9 +175,9 @@ module _ (s : List ℕ) (m : Memory) (w : Whole (m .words)) (b : Whole (m .store
 
   -- a snapshot, and the words and bytes of a table that it was read into
   pub load-accepted : (ws store : List ℕ) → isSnapshot s ≡ true → Whole ws → Whole store → view (memory ws store) ≡ entriesOf s
-      → Performed (Call.loadSnapshot s) m (done (Call.loadSnapshot s) (view m)) (memory ws store)
+      → Performed (Call.loadSnapshot s) m (acceptedReply (Call.loadSnapshot s) (view m)) (memory ws store)
   unfolding number refusals order next
   load-accepted ws store t x y v =
-      accepted view (Call.loadSnapshot s) m (memory ws store) load-fit (rw t)
+      accepted view (Call.loadSnapshot s) m (memory ws store) (fit-lengths view (Call.loadSnapshot s) m refl w b) (rw t)
       (table-made view (memory ws store) (record { words = x; store = y; entries = ap sound v ∙ snapshot-fields s t .sound }))
       v

@@ -1,10 +1,7 @@
 // Loading a snapshot: the entries that its bytes hold take the table's place.
-mod rows;
-mod sections;
-
 use kinds::answer;
-use table::judge;
-use table::limits;
+use kinds::limits;
+use snapshot_reader::sections;
 ghost use mathlib.Core.Path.{_≡_};
 ghost use lib.ListN.{length};
 ghost use Rattle.bindings.specs.Bindings.{sameWords};
@@ -12,7 +9,7 @@ ghost use Rattle.rules.specs.Calls.{Call, numbered};
 ghost use Rattle.rules.specs.Contract.{Whole};
 ghost use Rattle.rules.specs.Snapshot.{snapshotBytes};
 ghost use Rattle.table.specs.View.{memory, view, SoundTable, Performed};
-ghost use Rattle.loading.specs.Sections.{SnapshotRead};
+ghost use Rattle.loading.specs.Loading.{SnapshotRead};
 
 // Whether two slices hold the same bytes.
 fn same_bytes<'a>(a: &'a [u8], b: &'a [u8]) -> bool
@@ -48,7 +45,7 @@ fn is_snapshot_of<'a>(words: &'a [u64], store: &'a [u8], s: &'a [u8]) -> bool
     requires { ⌜ SoundTable (memory (now words) (now store)) ⌝ }
     ensures { λ r. ⌜ r ≡ sameWords (snapshotBytes (view (memory (now (words .entry)) (now (store .entry))))) (now (s .entry)) ⌝ }
 {
-    let mut own = [0u8; sections::LONGEST];
+    let mut own = [0u8; limits::LONGEST_SNAPSHOT];
     let written = saving::write_snapshot_step(words, store, &mut own);
     let n = written.length;
     same_bytes(&own[..n], s)

@@ -26,11 +26,10 @@ use Rattle.rules.proofs.PingingKeeps.{newSet}
 use Rattle.rules.proofs.ByRow.{set-live, set-row}
 use Rattle.rules.proofs.PingRows.{complex-ping-row, complex-ping-new}
 use Rattle.rules.specs.PingRows.{changeSet, pingedRow, updatedRow}
-use Rattle.table.specs.View.{objectCount, setCount, setsOf, memory, view, oidsOf, memberValues}
-use Rattle.table.specs.Edits.{membersAt, Became}
+use Rattle.table.specs.View.{objectCount, setCount, setsOf, memory, view, oidsOf, memberValues, membersAt}
+use Rattle.edit.specs.Edits.{Became}
 use Rattle.table.proofs.LiveRows.{sets-length}
-use Rattle.table.proofs.edit.Members.{oids-length, below-at}
-use Rattle.table.proofs.edit.Below.{row-members, live-below}
+use Rattle.table.proofs.MemberRows.{oids-length, below-at, row-members, live-below}
 use Rattle.pinging.specs.Pinging.{withPingSet, pingSetRow, MembersUpdated}
 use Rattle.calls.proofs.Calls.{row-passes, two-rows}
 use Rattle.pinging.proofs.Memberships.{new-members}

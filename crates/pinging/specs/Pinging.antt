@@ -10,7 +10,7 @@ use Rattle.columns.specs.Members.{hasMember, InWords}
 use Rattle.columns.specs.declared.members.Members.{Members}
 use Rattle.rules.specs.Entries.{Entries, setNumbers, heardAt}
 use Rattle.rules.specs.Rules.{makeSet}
-use Rattle.table.specs.Edits.{changeObject}
+use Rattle.edit.specs.Edits.{changeObject}
 
 -- the object at row i is heard now, where it is a member
 abbrev pub heardRow : Members → ℕ → Entries → Entries

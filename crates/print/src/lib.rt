@@ -4,7 +4,8 @@ use libc::STDOUT_FILENO;
 
 pub mod line;
 pub mod list;
-mod words;
+pub mod pattern;
+pub mod words;
 
 pub fn text(s: &[u8]) {
     io::write_all(STDOUT_FILENO, s);
@@ -12,6 +13,15 @@ pub fn text(s: &[u8]) {
 
 pub fn end_line() {
     io::write_all(STDOUT_FILENO, b"\n");
+}
+
+// One of two texts.
+pub fn either(first: bool, one: &[u8], other: &[u8]) {
+    if first {
+        text(one);
+    } else {
+        text(other);
+    }
 }
 
 pub fn decimal(n: u64) {

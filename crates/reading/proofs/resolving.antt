@@ -1,2 +1,2 @@
 -- What the proofs of a resolve with requested protocols use.
-pub mod Filtering
+pub mod FilteredReplies

@@ -2,7 +2,6 @@
 use kinds::SetId;
 use kinds::answer;
 use table::find;
-use table::judge;
 ghost use Rattle.rules.specs.Calls.{Call};
 ghost use Rattle.table.specs.View.{memory, SoundTable, Stepped, Performed};
 ghost use Rattle.reading.specs.Replies.{censusReply, membersReply};

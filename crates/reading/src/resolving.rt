@@ -4,7 +4,6 @@ use kinds::Guid;
 use kinds::Oxid;
 use kinds::answer;
 use table::find;
-use table::judge;
 ghost use mathlib.Core.Path.{_≡_};
 ghost use Rattle.rules.specs.Calls.{Call};
 ghost use Rattle.table.specs.View.{memory, SoundTable, Stepped, Performed};

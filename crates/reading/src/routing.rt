@@ -3,7 +3,6 @@ use bindings::Place;
 use kinds::answer;
 use references::Reference;
 use table::find;
-use table::judge;
 ghost use mathlib.Core.Path.{_≡_};
 ghost use mathlib.Core.Bool.{true};
 ghost use Prim.Native.Nat.{_<_};

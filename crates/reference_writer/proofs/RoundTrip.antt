@@ -13,24 +13,20 @@ use Rattle.kinds.specs.Refusals.{_gives_, passes, differ, order}
 use Rattle.kinds.specs.declared.Guid.{Guid}
 use Rattle.kinds.proofs.Refusing.{by-test, eq-differ, accepted-by, passed, passed-on, last-row}
 use Rattle.fields.specs.Fields.{field, encode, guidAt, guidBytes, stored, Bytes, GuidFits, rounded, longest}
-use Rattle.fields.proofs.Fields.{guid-fits, field-bound, drop-bytes, part-of, field-part, guid-part, field-then, field-next, guid-then, take-rest, written-front}
+use Rattle.fields.proofs.Fields.{guid-fits, field-bound, drop-bytes, part-of, field-part, guid-part, field-then, field-next, guid-then, take-rest, written-front, field-drop}
 use Rattle.bindings.specs.Bindings.{listLength, frontAnswer, listAnswer}
 use Rattle.bindings.proofs.ListAnswers.{list-front, list-front-length, front-list}
-use Rattle.references.specs.References.{noGuid, noBlock, blockAt}
-use Rattle.reference_writer.specs.Writing.{blockBytes}
+use Rattle.references.specs.References.{noGuid, noBlock, blockAt, extendedSignature, isForm, isExtended, fixedSize, listEnd, elementStart, contentStart, contentLength, contentOf, referenceAt, headAnswer, objectAnswer, plainAnswer, extendedFront, extendedAnswer, formAnswer, layoutBy, layoutAnswer, tailEnd, tailPlace, tailOf, refused, readReference, hasNil, nilGiven, namesNil, referenceAnswer}
+use Rattle.reference_writer.specs.Writing.{blockBytes, headerBytes, bodyBytes, elementsBytes, referenceBytes, formed, tailAnswer, writeAnswer, writtenLength, valueAnswer}
 use Rattle.references.specs.declared.Block.{Block}
 use Rattle.elements.specs.Elements.{signature, isReference, elementBytes, contentSize, elementFront, elementContent, elementAnswer, givenAnswer}
-use Rattle.references.specs.References.{extendedSignature, isForm, isExtended, fixedSize, listEnd, elementStart, contentStart, contentLength, contentOf, referenceAt, headAnswer, objectAnswer, plainAnswer, extendedFront, extendedAnswer, formAnswer, layoutBy, layoutAnswer, tailEnd, tailPlace, tailOf, refused, readReference, hasNil, nilGiven, namesNil, referenceAnswer}
-use Rattle.reference_writer.specs.Writing.{headerBytes, bodyBytes, elementsBytes, referenceBytes, formed, tailAnswer, writeAnswer, writtenLength, valueAnswer}
-use Rattle.contexts.specs.Contexts.{isMarshaler}
+use Rattle.contexts.specs.Contexts.{isMarshaler, contextAnswer, contextAt, contextBytes, propertiesAt, propertiesBytes}
 use Rattle.references.specs.declared.Reference.{Reference}
 use Rattle.references.specs.declared.ReadReference.{ReadReference}
 use Rattle.elements.proofs.ElementAnswers.{fronted}
 use Rattle.references.proofs.Forms.{by-form, flags-at, Headed, Opened, opened}
 use Rattle.references.proofs.Nested.{Level, level, content-from}
 use Rattle.reference_writer.proofs.Writable.{length-header, length-body, given-parts}
-use Rattle.fields.proofs.Fields.{field-drop}
-use Rattle.contexts.specs.Contexts.{contextAnswer, contextAt, contextBytes, propertiesAt, propertiesBytes}
 use Rattle.contexts.proofs.RoundTrip.{context-write-then-read, context-read-then-write}
 use Rattle.reference_writer.specs.RoundTrips.{BlockFits, Fits, ReadAs, WriteThenRead, ReadThenWrite, Sized, WriterAsReader}
 use Rattle.elements.proofs.RoundTrip.{laid, length-element, element-given, element-back}

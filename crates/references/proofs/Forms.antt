@@ -9,19 +9,17 @@ use lib.Dec.{eqb, ltb}
 use lib.ListN.{length, drop, length-drop}
 use lib.Seq.{length-take-le}
 use Rattle.kinds.specs.Refusals.{differ, order}
-use Rattle.kinds.proofs.Refusing.{by-test, eq-differ, ne-differ, differ-false, passed, passed-on}
+use Rattle.kinds.proofs.Refusing.{by-test, eq-differ, ne-differ, differ-false, passed, passed-on, last-row}
 use Rattle.fields.specs.Fields.{field, guidAt}
 use Rattle.fields.proofs.Fields.{field-drop}
 use Rattle.bindings.specs.Bindings.{listLength, frontAnswer, bindingAt, refusal, bytesAt}
 use Rattle.bindings.specs.declared.Part.{Part}
 use Rattle.bindings.specs.declared.Place.{Place}
 use Rattle.bindings.proofs.ListAnswers.{Within, within-binding}
-use Rattle.contexts.specs.Contexts.{propertyPlace}
+use Rattle.contexts.specs.Contexts.{propertyPlace, isMarshaler}
 use Rattle.contexts.proofs.Properties.{property-within}
-use Rattle.kinds.proofs.Refusing.{last-row}
 use Rattle.elements.specs.Elements.{signature, elementAnswer}
 use Rattle.references.specs.References.{byForm, isForm, isCustom, fixedSize, headAnswer, plainAnswer, formAnswer, layoutBy, layoutAnswer, listEnd, elementStart, extendedSignature, extendedFront, extendedAnswer, referenceAnswer, referenceAt, tailEnd, tailPlace, tailOf, moved, referenceBinding, contextPlace}
-use Rattle.contexts.specs.Contexts.{isMarshaler}
 
 -- where the list of an extended reference ends, by its N
 pub list-end : (s : List ℕ) → 72 + 2 * field s 68 2 ≡ listEnd s

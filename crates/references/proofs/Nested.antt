@@ -10,9 +10,8 @@ use lib.ListN.{length, take, drop, length-drop}
 use lib.Seq.{drop-drop}
 use Rattle.kinds.proofs.Refusing.{passed-on}
 use Rattle.fields.specs.Fields.{field}
-use Rattle.references.specs.References.{blockAt}
+use Rattle.references.specs.References.{blockAt, isForm, listEnd, elementStart, contentStart, contentLength, contentOf, headAnswer, extendedFront, extendedAnswer, formAnswer, layoutBy, layoutAnswer, hasNil, nilGiven, namesNil, isExtended, referenceAnswer, elementPlace}
 use Rattle.elements.specs.Elements.{isReference, elementFront, elementContent, contentAnswer, elementAnswer}
-use Rattle.references.specs.References.{isForm, listEnd, elementStart, contentStart, contentLength, contentOf, headAnswer, extendedFront, extendedAnswer, formAnswer, layoutBy, layoutAnswer, hasNil, nilGiven, namesNil, isExtended, referenceAnswer, elementPlace}
 use Rattle.references.specs.Parts.{ElementFound}
 use Rattle.bindings.specs.Bindings.{refusal}
 use lib.Dec.{eqb}

@@ -22,7 +22,7 @@ use Rattle.rules.specs.Entries.{Object, Interface, PingSet, Entries, oid
 use Rattle.rules.specs.Calls.{Call, Counting, adding, releasing, add, release}
 use Rattle.rules.specs.Items.{Item, itemCall}
 use Rattle.rules.specs.Sound.{sound, held, hasInterface}
-use Rattle.rules.specs.Rules.{isLiveObject, isLiveInterface, noInterface, interfaceOf, passesCount, noClient, atInterface, dropEmpty, increased, decreased, flag, releaseValues, refusals, number, next, results, refused, done, reply}
+use Rattle.rules.specs.Rules.{isLiveObject, isLiveInterface, noInterface, interfaceOf, passesCount, noClient, atInterface, dropEmpty, increased, decreased, flag, releaseValues, refusals, number, next, results, refusedReply, acceptedReply, reply}
 use Rattle.rules.specs.EitherOrder.{callDone, takenIn, interfaceWent, objectWent, CountCall, callOf, before, behind, objectOf, BothLast, SameAnswer, OrderIrrelevant}
 use Rattle.rules.proofs.SoundLaws.{sound-fields}
 use Rattle.rules.proofs.Stepping.{reply-number}
@@ -367,23 +367,23 @@ zeros = 0 ∷ 0 ∷ 0 ∷ 0 ∷ []
 
 -- what an add answers
 add-values : (c : ℕ) (i : Guid) (p q : ℕ) (e : Entries) → reply (add c i p q) e .values ≡ []
-unfolding reply done refused results
+unfolding reply acceptedReply refusedReply results
 add-values c i p q e = by (eqb (number (add c i p q) e) 0)
   where
-    by : (b : Bool) → cond b (done (add c i p q) e) (refused (number (add c i p q) e) (add c i p q) e) .values ≡ []
+    by : (b : Bool) → cond b (acceptedReply (add c i p q) e) (refusedReply (number (add c i p q) e) (add c i p q) e) .values ≡ []
     by true = refl
     by false = refl
 
 -- what a release answers, accepted and refused
 release-values : (c : ℕ) (i : Guid) (p q : ℕ) (e : Entries) → eqb (number (release c i p q) e) 0 ≡ true → reply (release c i p q) e .values ≡ releaseValues c i p q e (callDone (release c i p q) e)
-unfolding reply done refused results
+unfolding reply acceptedReply refusedReply results
 release-values c i p q e t =
-    ap (λ (b : Bool). cond b (done (release c i p q) e) (refused (number (release c i p q) e) (release c i p q) e) .values) t
+    ap (λ (b : Bool). cond b (acceptedReply (release c i p q) e) (refusedReply (number (release c i p q) e) (release c i p q) e) .values) t
     ∙ ap (releaseValues c i p q e) (sym (ap (λ (b : Bool). cond b (next (release c i p q) e) e) t))
 
 release-zeros : (c : ℕ) (i : Guid) (p q : ℕ) (e : Entries) → eqb (number (release c i p q) e) 0 ≡ false → reply (release c i p q) e .values ≡ zeros
-unfolding reply done refused results
-release-zeros c i p q e t = ap (λ (b : Bool). cond b (done (release c i p q) e) (refused (number (release c i p q) e) (release c i p q) e) .values) t
+unfolding reply acceptedReply refusedReply results
+release-zeros c i p q e t = ap (λ (b : Bool). cond b (acceptedReply (release c i p q) e) (refusedReply (number (release c i p q) e) (release c i p q) e) .values) t
 
 -- what was taken and whether the interface went, by what the call looks at and what it leaves
 answer-from : (w : Counting) (c : ℕ) (t : Item) (e e′ : Entries) → number (itemCall w c t) e′ ≡ number (itemCall w c t) e → interfaceOf e′ (t .ipid) ≡ interfaceOf e (t .ipid)

@@ -15,11 +15,11 @@ use Rattle.lists.proofs.Tests.{and-intro}
 use Rattle.lists.proofs.Lists.{every-snoc, every-mono, some-snoc, map-append, map-unread-at, every-changed-at}
 use Rattle.lists.proofs.Distinct.{eqb-decides}
 use Rattle.lists.proofs.Guids.{guid-decides}
-use Rattle.rules.specs.Entries.{Exporter, Object, Interface, PingSet, Entries, oxids, oids, interfaceIpids, ipids, listBytes, withExporters, withObjects, withInterfaces}
+use Rattle.rules.specs.Entries.{Exporter, Object, Interface, PingSet, Entries, oxids, oids, interfaceIpids, ipids, listsLength, withExporters, withObjects, withInterfaces}
 use Rattle.rules.specs.Sound.{longestList, storeBytes, properGuids, held, overdue, heardWithin}
 use Rattle.rules.specs.Rules.{atInterface, increased}
 use Rattle.rules.proofs.ChangedCounts.{increased-held}
-use Rattle.rules.proofs.ListBytes.{bytes-snoc}
+use Rattle.rules.proofs.ListsLength.{bytes-snoc}
 use Rattle.rules.proofs.Groups.{fine-mid, fine-snoc, fine-entered, interfaces-replaced, ExportersSound, ObjectsSound, InterfacesSound, SetsSound, Grouped}
 
 -- ---- more live identifiers
@@ -69,14 +69,14 @@ not-overdue now = lt-leb 360 (now - now) (omega arith)
 -- an exporter with a free OXID and a good list
 exporters-snoc : (x : Exporter) (xs : List Exporter) → ExportersSound xs
     → (eqb (x .oxid) 0 || among (map (λ (p : Exporter). p .oxid) xs) (x .oxid)) ≡ false
-    → listAnswer (x .bindings) ≡ 0 → length (x .bindings) ≤ longestList → listBytes xs + length (x .bindings) ≤ storeBytes → ExportersSound (xs ++ (x ∷ []))
+    → listAnswer (x .bindings) ≡ 0 → length (x .bindings) ≤ longestList → listsLength xs + length (x .bindings) ≤ storeBytes → ExportersSound (xs ++ (x ∷ []))
 exporters-snoc x xs s n a l f =
     record {
       ids = fine-entered eqb 0 (λ (p : Exporter). p .oxid) eqb-decides x xs n (s .ids);
       lists =
           every-snoc (λ (p : Exporter). eqb (listAnswer (p .bindings)) 0 && leb (length (p .bindings)) longestList) xs x
           ∙ rw (s .lists, eq-eqb (listAnswer (x .bindings)) 0 a) (le-leb (length (x .bindings)) longestList l);
-      inside = rw (bytes-snoc xs x) (le-leb (listBytes xs + length (x .bindings)) storeBytes f);
+      inside = rw (bytes-snoc xs x) (le-leb (listsLength xs + length (x .bindings)) storeBytes f);
     }
 
 -- an object with a free OID, of a live exporter, heard now
@@ -127,7 +127,7 @@ ids-snoc e i g f =
 
 -- an exporter entered
 pub exporter-entered : (e : Entries) (x : Exporter) → Grouped e → (eqb (x .oxid) 0 || among (oxids e) (x .oxid)) ≡ false → FreeIpid e (x .unknown)
-    → listAnswer (x .bindings) ≡ 0 → length (x .bindings) ≤ longestList → listBytes (e .exporters) + length (x .bindings) ≤ storeBytes
+    → listAnswer (x .bindings) ≡ 0 → length (x .bindings) ≤ longestList → listsLength (e .exporters) + length (x .bindings) ≤ storeBytes
     → Grouped (withExporters (e .exporters ++ (x ∷ [])) e)
 exporter-entered e x g n f a l b =
     record {

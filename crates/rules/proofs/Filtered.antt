@@ -18,7 +18,7 @@ use Rattle.lists.proofs.Tests.{and-left, and-right}
 use Rattle.rules.specs.Entries.{Exporter, Entries}
 use Rattle.rules.specs.Calls.{Call, Reply}
 use Rattle.rules.specs.Sound.{sound, longestList, listsKept}
-use Rattle.rules.specs.Rules.{noExporter, exporterOf, refusals, number, results, refused, done, reply}
+use Rattle.rules.specs.Rules.{noExporter, exporterOf, refusals, number, results, refusedReply, acceptedReply, reply}
 use Rattle.rules.specs.Contract.{Memory, rightLengths, fit, replyTo}
 use Rattle.rules.specs.Filtering.{FilteredAgrees}
 use Rattle.rules.proofs.SoundLaws.{sound-fields}
@@ -43,7 +43,7 @@ no-bytes protocols = refl
 module _ (e : Entries) (x : ℕ) (protocols buffer : List ℕ) (few : length protocols ≤ 65535) where
   -- where the filtered list is the stored one, so is the whole reply
   agrees : filtered protocols (exporterOf e x .bindings) ≡ exporterOf e x .bindings → reply (Call.resolveFiltered x protocols buffer) e ≡ reply (Call.resolve x buffer) e
-  unfolding reply done refused results number refusals order
+  unfolding reply acceptedReply refusedReply results number refusals order
   agrees same = rw (le-ltb 65535 (length protocols) few, same)
 
   module _ (b : Bytes (exporterOf e x .bindings)) (all : allRequested protocols (exporterOf e x .bindings) ≡ true) where
@@ -69,7 +69,7 @@ same-where false p q r f = refl
 pub filtered-replies : (view : Memory → Entries) (m : Memory) (x : ℕ) (protocols buffer : List ℕ) → length protocols ≤ 65535 → Bytes (exporterOf (view m) x .bindings)
     → allRequested protocols (exporterOf (view m) x .bindings) ≡ true
     → replyTo view (Call.resolveFiltered x protocols buffer) m ≡ replyTo view (Call.resolve x buffer) m
-unfolding replyTo fit refused results
+unfolding replyTo fit refusedReply results
 filtered-replies view m x protocols buffer few b all =
     same-where (rightLengths m && sound (view m)) _ _ _
     (λ t. filtered-agrees (view m) x protocols buffer few b all (and-right (rightLengths m) (sound (view m)) t))

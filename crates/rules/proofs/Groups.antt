@@ -12,7 +12,7 @@ use Rattle.lists.specs.Lists.{every, some, distinct, among}
 use Rattle.lists.proofs.Tests.{and-intro, and-left, and-right}
 use Rattle.lists.proofs.Lists.{every-map, every-ext, every-append, every-snoc, some-map, map-append}
 use Rattle.lists.proofs.Distinct.{Decides, Sublist, distinct-mid}
-use Rattle.rules.specs.Entries.{Exporter, Object, Interface, PingSet, Entries, oxids, oids, ipids, listBytes, withNext, withInterfaces, withSets}
+use Rattle.rules.specs.Entries.{Exporter, Object, Interface, PingSet, Entries, oxids, oids, ipids, listsLength, withNext, withInterfaces, withSets}
 use Rattle.rules.specs.Sound.{longestList, storeBytes, proper, properGuids, held, sound, heardWithin, pingedWithin}
 use Rattle.rules.proofs.SoundLaws.{Sound, sound-fields, sound-groups, none, _and_}
 
@@ -64,7 +64,7 @@ module _ {A : Type 0} (same : A → A → Bool) (zero : A) where
 pub record ExportersSound (xs : List Exporter) : Type 0 where
   pub ids : proper (map (λ (x : Exporter). x .oxid) xs) ≡ true
   pub lists : every (λ (x : Exporter). eqb (listAnswer (x .bindings)) 0 && leb (length (x .bindings)) longestList) xs ≡ true
-  pub inside : leb (listBytes xs) storeBytes ≡ true
+  pub inside : leb (listsLength xs) storeBytes ≡ true
 
 -- exporters are the live OXIDs
 pub record ObjectsSound (now : ℕ) (exporters : List ℕ) (os : List Object) : Type 0 where

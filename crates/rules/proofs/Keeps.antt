@@ -12,7 +12,7 @@ use Rattle.kinds.proofs.Refusing.{or-false, passed, passed-on, by-test}
 use Rattle.bindings.specs.Bindings.{listAnswer}
 use Rattle.lists.specs.Lists.{every, distinct, holding, among}
 use Rattle.lists.specs.Guids.{sameGuid}
-use Rattle.rules.specs.Entries.{Entries, exporterPlaces, fresh, oxids, oids, listBytes}
+use Rattle.rules.specs.Entries.{Entries, exporterPlaces, fresh, oxids, oids, listsLength}
 use Rattle.rules.specs.Calls.{Counting, adding, releasing, reset, enterExporter, removeExporter, enterObject, enterInterface, add, release, dropClient, countList, simplePing, complexPing, clock, resolve, resolveFiltered, census, members, nextStop, writeSnapshot, loadSnapshot}
 use Rattle.rules.specs.Items.{Item, itemsOf, itemCall}
 use Rattle.rules.specs.Sound.{longestList, storeBytes, sound}
@@ -28,7 +28,7 @@ use Rattle.rules.proofs.PingingKeeps.{set-pinged, members-pinged}
 
 -- no entries are sound
 pub fresh-sound : (t : ℕ) → sound (fresh t) ≡ true
-unfolding sound holding every distinct listBytes
+unfolding sound holding every distinct listsLength
 fresh-sound t = refl
 
 -- the calls whose refusals say what they need
@@ -39,9 +39,9 @@ module _ (e : Entries) (g : Grouped e) where
       let r = passed _ 3 _ (omega arith) h in
       let s = passed-on (listAnswer b) _ (r .1) in
       let l = passed _ 19 _ (omega arith) (s .1) in
-      let f = or-false (leb exporterPlaces (length (e .exporters))) (ltb storeBytes (listBytes (e .exporters) + length b)) (passed _ 9 _ (omega arith) (l .1) .0) in
+      let f = or-false (leb exporterPlaces (length (e .exporters))) (ltb storeBytes (listsLength (e .exporters) + length b)) (passed _ 9 _ (omega arith) (l .1) .0) in
       let n = or-false _ _ (r .0) in
-      exporter-entered e _ g (n .0) (n .1) (s .0) (ltb-false longestList (length b) (l .0)) (ltb-false storeBytes (listBytes (e .exporters) + length b) (f .1))
+      exporter-entered e _ g (n .0) (n .1) (s .0) (ltb-false longestList (length b) (l .0)) (ltb-false storeBytes (listsLength (e .exporters) + length b) (f .1))
 
   object-case : (o x : ℕ) (i iid : Guid) (n : ℕ) (np : Bool) → number (enterObject o x i iid n np) e ≡ 0 → Grouped (next (enterObject o x i iid n np) e)
   unfolding number refusals next

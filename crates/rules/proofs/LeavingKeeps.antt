@@ -11,11 +11,11 @@ use Rattle.lists.specs.Lists.{keep, every, among}
 use Rattle.lists.specs.Guids.{nil, sameGuid}
 use Rattle.lists.proofs.Lists.{every-map, every-mono, every-mono-on, every-from-at, every-kept, keep-map, keep-passes, map-unread, map-unread-at}
 use Rattle.lists.proofs.Distinct.{eqb-decides, some-same, some-same-keep-map, sublist-whole, sublist-keep, sublist-append}
-use Rattle.rules.specs.Entries.{Exporter, Object, Interface, PingSet, Entries, oxids, ipids, listBytes, withClock, withExporters, withInterfaces, withSets, withMembers}
+use Rattle.rules.specs.Entries.{Exporter, Object, Interface, PingSet, Entries, oxids, ipids, listsLength, withClock, withExporters, withInterfaces, withSets, withMembers}
 use Rattle.rules.specs.Calls.{clock}
 use Rattle.rules.specs.Sound.{storeBytes, properGuids, held, hasInterface, pingedWithin, heardWithin}
 use Rattle.rules.specs.Rules.{withoutObjects, atInterfaces, dropEmpty, next}
-use Rattle.rules.proofs.ListBytes.{bytes-kept}
+use Rattle.rules.proofs.ListsLength.{bytes-kept}
 use Rattle.rules.proofs.Groups.{fine-sublist, ExportersSound, ObjectsSound, SetsSound, Grouped, serving-objects}
 
 -- each number is among the numbers
@@ -25,11 +25,11 @@ among-itself ns = every-from-at (among ns) 0 ns (λ j h. some-same eqb eqb-decid
 -- ---- what is kept
 
 -- lists that stay lie inside the store
-inside-kept : (p : Exporter → Bool) (xs : List Exporter) → leb (listBytes xs) storeBytes ≡ true → leb (listBytes (keep p xs)) storeBytes ≡ true
+inside-kept : (p : Exporter → Bool) (xs : List Exporter) → leb (listsLength xs) storeBytes ≡ true → leb (listsLength (keep p xs)) storeBytes ≡ true
 inside-kept p xs h =
-    let l = leb-true (listBytes xs) storeBytes h in
+    let l = leb-true (listsLength xs) storeBytes h in
     let k = bytes-kept p xs in
-    le-leb (listBytes (keep p xs)) storeBytes (omega arith)
+    le-leb (listsLength (keep p xs)) storeBytes (omega arith)
 
 -- exporters of which some are kept
 exporters-kept : (p : Exporter → Bool) (xs : List Exporter) → ExportersSound xs → ExportersSound (keep p xs)

@@ -1,7 +1,7 @@
 pub mod Performing
 pub mod Stepping
 pub mod SoundLaws
-pub mod ListBytes
+pub mod ListsLength
 pub mod Groups
 pub mod ChangedCounts
 pub mod EnteringKeeps

@@ -19,7 +19,7 @@ use Rattle.lists.proofs.Lists.{length-tabulate, tabulate-ext}
 use Rattle.rules.specs.Entries.{Entries, publicOf, privateOf}
 use Rattle.rules.specs.Calls.{Counting, adding, releasing, countList}
 use Rattle.rules.specs.Items.{Item, itemAt, itemCount, itemsOf, itemCall}
-use Rattle.rules.specs.Rules.{isLiveInterface, interfaceOf, passesCount, noClient, counted, itemDone, itemsDone, itemNumbers, refusals, number, next, results, done}
+use Rattle.rules.specs.Rules.{isLiveInterface, interfaceOf, passesCount, noClient, counted, itemDone, itemsDone, itemNumbers, refusals, number, next, results, acceptedReply}
 use Rattle.rules.specs.OneByOne.{callsDone, callNumbers, ListsOneByOne, ListsCut}
 
 -- ---- one by one
@@ -100,7 +100,7 @@ unfolding number refusals order
 accepts w c s b e a = rw (a .client, eq-eqb (length s % 24) 0 (a .whole), le-ltb 65535 (itemCount s) (a .limit), le-ltb (length b) (itemCount s) (a .room))
 
 pub lists-one-by-one : ListsOneByOne
-unfolding next done results
+unfolding next acceptedReply results
 lists-one-by-one w c s b e h =
     let n = length-numbers w c (itemsOf s) e ∙ length-items s in
     record {

@@ -14,7 +14,7 @@ use Rattle.lists.specs.Order.{rising}
 use Rattle.lists.proofs.Lists.{length-keep, keep-map}
 use Rattle.lists.proofs.Order.{rising-in, length-rising}
 use Rattle.lists.proofs.Rising.{sum-rising, kept-rising}
-use Rattle.rules.specs.Entries.{Exporter, Object, Interface, PingSet, Entries, oids, listBytes}
+use Rattle.rules.specs.Entries.{Exporter, Object, Interface, PingSet, Entries, oids, listsLength}
 use Rattle.rules.specs.Snapshot.{objectBefore, interfaceBefore, exporterBefore, setBefore, membersInOrder, sorted, inRow, section, exporterBytes, objectBytes, interfaceBytes, setBytes, sections, placed}
 use Rattle.rules.specs.Swapping.{Each, SnapshotLength, SnapshotInside}
 use Rattle.rules.proofs.SoundLaws.{sound-fields, clause-at}
@@ -71,8 +71,8 @@ set-size p =
 
 -- ---- in a row
 
-exporters-size : (xs : List Exporter) → length (inRow exporterBytes xs) ≡ 26 * length xs + listBytes xs
-unfolding inRow listBytes
+exporters-size : (xs : List Exporter) → length (inRow exporterBytes xs) ≡ 26 * length xs + listsLength xs
+unfolding inRow listsLength
 exporters-size [] = refl
 exporters-size (x ∷ xs) =
     let a = length-append (exporterBytes x) (inRow exporterBytes xs) in
@@ -93,13 +93,13 @@ sets-size (s ∷ ss) =
 -- the sections, in the order in which the entries stand
 sections-size : (e : Entries) → Each (λ i. length (i .counts) ≡ 9) (e .interfaces)
     → length (sections e)
-    ≡ 26 + (26 * length (e .exporters) + listBytes (e .exporters)) + 25 * length (e .objects) + 76 * length (e .interfaces)
+    ≡ 26 + (26 * length (e .exporters) + listsLength (e .exporters)) + 25 * length (e .objects) + 76 * length (e .interfaces)
     + (20 * length (e .sets) + 8 * length (joined (map (λ (s : PingSet). s .members) (e .sets))))
 unfolding sections
 sections-size e nine =
     let k : ℕ = length (joined (map (λ (s : PingSet). s .members) (e .sets))) in
     let s : length (sections e)
-    ≡ 2 + 8 * 2 + (2 + (26 * length (e .exporters) + listBytes (e .exporters)) + (2 + 25 * length (e .objects) + (2 + 76 * length (e .interfaces) + (2 + (20 * length (e .sets) + 8 * k) + 0)))) =
+    ≡ 2 + 8 * 2 + (2 + (26 * length (e .exporters) + listsLength (e .exporters)) + (2 + 25 * length (e .objects) + (2 + 76 * length (e .interfaces) + (2 + (20 * length (e .sets) + 8 * k) + 0)))) =
     (length-section (encode 8) (e .clock ∷ e .next ∷ []) (length-numbers 8 (e .clock ∷ e .next ∷ []))
     then length-section exporterBytes (e .exporters) (exporters-size (e .exporters))
     then length-section objectBytes (e .objects) (length-uniform objectBytes 25 (e .objects) (λ o m. object-size o))
@@ -171,7 +171,7 @@ snapshot-inside e s f =
     let o = leb-true (length (e .objects)) 128 (clause-at _ 1 (f .places)) in
     let i = leb-true (length (e .interfaces)) 256 (clause-at _ 2 (f .places)) in
     let p = leb-true (length (e .sets)) 32 (clause-at _ 3 (f .places)) in
-    let l = leb-true (listBytes (e .exporters)) 8192 (sound-fields e s .listsInside) in
+    let l = leb-true (listsLength (e .exporters)) 8192 (sound-fields e s .listsInside) in
     let n = length-map (e .objects) (λ (o : Object). o .oid) in
     let m = members-few (oids e) 128 (omega arith) (e .sets) in
     omega arith

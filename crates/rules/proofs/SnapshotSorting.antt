@@ -19,7 +19,7 @@ use Rattle.lists.proofs.Guids.{guid-decides}
 use Rattle.lists.proofs.Order.{rising-in, every-rising, some-rising, length-rising}
 use Rattle.lists.proofs.Rising.{sum-rising, keys-some, keys-in, keys-every, keys-distinct, rising-once, ltb-asym, bytes-asym}
 use Rattle.lists.proofs.Elements.{In, every-in, in-every, in-some, keep-in, map-in, map-ext-in, keep-ext-in}
-use Rattle.rules.specs.Entries.{Exporter, Object, Interface, PingSet, Entries, oxids, oids, setNumbers, ipids, listBytes, Ordered}
+use Rattle.rules.specs.Entries.{Exporter, Object, Interface, PingSet, Entries, oxids, oids, setNumbers, ipids, listsLength, Ordered}
 use Rattle.rules.specs.Sound.{storeBytes, proper, sound, held, hasInterface, pingedWithin}
 use Rattle.rules.specs.Snapshot.{exporterBefore, objectBefore, interfaceBefore, setBefore, membersInOrder, sorted, placed}
 use Rattle.rules.specs.Swapping.{SetFits, Fits}
@@ -116,9 +116,9 @@ module _ {A : Type 0} (before : A → A → Bool) (f : A → ℕ) where
       (keys-distinct before f eqb eqb-decides xs (and-right (nonzero (map f xs)) _ t))
 
 -- the bytes of the lists
-pub lists-rising : (xs : List Exporter) → listBytes (rising exporterBefore xs) ≡ listBytes xs
-unfolding listBytes
-lists-rising xs = sum-rising exporterBefore listBytes (λ x. length (x .bindings)) (λ y ys. refl) xs
+pub lists-rising : (xs : List Exporter) → listsLength (rising exporterBefore xs) ≡ listsLength xs
+unfolding listsLength
+lists-rising xs = sum-rising exporterBefore listsLength (λ x. length (x .bindings)) (λ y ys. refl) xs
 
 module _ (e : Entries) (s : sound e ≡ true) where
   abbrev g : Sound e

@@ -9,15 +9,15 @@ use Rattle.lists.proofs.Tests.{same-or-not}
 use Rattle.rules.specs.Entries.{Entries}
 use Rattle.rules.specs.Calls.{Call, Reply}
 use Rattle.rules.specs.Sound.{sound}
-use Rattle.rules.specs.Rules.{number, next, refused, done, reply}
+use Rattle.rules.specs.Rules.{number, next, refusedReply, acceptedReply, reply}
 use Rattle.rules.specs.Contract.{Memory, lengthsOnly, soundMemory, fit, replyTo, SoundTable, Stepped, Performed}
 use Rattle.rules.proofs.SoundLaws.{table-fields, table-made}
-use Rattle.rules.proofs.Performing.{refused-number, done-number, fit-sound, unsound}
+use Rattle.rules.proofs.Performing.{refused-number, accepted-number, fit-sound, unsound}
 use Rattle.rules.proofs.Keeps.{keeps}
 
 -- the number of a reply is the number of the rules
 pub reply-number : (c : Call) (e : Entries) → reply c e .number ≡ number c e
-unfolding reply refused done
+unfolding reply refusedReply acceptedReply
 reply-number c e =
     ⊎-elim
     (λ z. rw z)
@@ -26,7 +26,7 @@ reply-number c e =
 
 module _ (view : Memory → Entries) (c : Call) (m : Memory) where
   -- the rules refuse the step
-  pub refused-step : (n : ℕ) → n ≡ number c (view m) → (n ≡ 0 → ⊥) → Stepped view c m (refused n c (view m)) m
+  pub refused-step : (n : ℕ) → n ≡ number c (view m) → (n ≡ 0 → ⊥) → Stepped view c m (refusedReply n c (view m)) m
   unfolding reply
   refused-step n e z =
       record {
@@ -36,12 +36,12 @@ module _ (view : Memory → Entries) (c : Call) (m : Memory) where
       }
 
   -- they accept it
-  pub accepted-step : (m′ : Memory) → 0 ≡ number c (view m) → view m′ ≡ next c (view m) → Stepped view c m (done c (view m)) m′
+  pub accepted-step : (m′ : Memory) → 0 ≡ number c (view m) → view m′ ≡ next c (view m) → Stepped view c m (acceptedReply c (view m)) m′
   unfolding reply
   accepted-step m′ e v =
       record {
         answered = rw (← e);
-        kept = λ z. absurd (z (done-number c (view m)));
+        kept = λ z. absurd (z (accepted-number c (view m)));
         became = λ z. v;
       }
 
@@ -70,7 +70,7 @@ module _ (view : Memory → Entries) (c : Call) (m : Memory) where
 
   -- judging, refusing by 1, and else stepping is the whole call
   pub judged-step : lengthsOnly c ≡ false → (judged : Bool) → judged ≡ soundMemory view m → (r : Reply) (m′ : Memory)
-      → (judged ≡ false → (r ≡ refused 1 c (view m)) × (m′ ≡ m))
+      → (judged ≡ false → (r ≡ refusedReply 1 c (view m)) × (m′ ≡ m))
       → (judged ≡ true → Stepped view c m r m′ × (length (m′ .words) ≡ 8192) × (length (m′ .store) ≡ 8192))
       → Performed view c m r m′
   judged-step l false j r m′ away on =

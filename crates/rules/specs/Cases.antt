@@ -14,7 +14,7 @@ use Rattle.rules.specs.Entries.{Interface, PingSet, Entries, fresh, with
 use Rattle.rules.specs.Calls.{Call, add, release, complexPing, clock, writeSnapshot, loadSnapshot, Reply}
 use Rattle.rules.specs.Sound.{sound}
 use Rattle.rules.specs.Snapshot.{sections, snapshotBytes}
-use Rattle.rules.specs.Rules.{enteredCounts, next, refused, reply}
+use Rattle.rules.specs.Rules.{enteredCounts, next, refusedReply, reply}
 
 -- ---- a case: what is asked, and what the documents say that it gives
 
@@ -39,7 +39,7 @@ pub data Outcome : Type 0 where
 
 -- a call is refused by 1 where the entries are not sound
 abbrev pub judged : Call → Entries → Reply
-judged c e = cond (sound e) (reply c e) (refused 1 c e)
+judged c e = cond (sound e) (reply c e) (refusedReply 1 c e)
 
 -- a refused call leaves them
 unfoldable pub outcome : Question → Outcome

@@ -8,7 +8,7 @@ use lib.Dec.{eqb}
 use Rattle.rules.specs.Entries.{Entries}
 use Rattle.rules.specs.Calls.{Call, reset, enterExporter, removeExporter, enterObject, enterInterface, add, release, dropClient, countList, simplePing, complexPing, clock, resolve, resolveFiltered, census, members, nextStop, writeSnapshot, loadSnapshot, Reply}
 use Rattle.rules.specs.Sound.{sound}
-use Rattle.rules.specs.Rules.{number, next, refused, reply}
+use Rattle.rules.specs.Rules.{number, next, refusedReply, reply}
 
 -- what is lent to every call: the array's words and the store's bytes
 pub record Memory : Type 0 where
@@ -60,7 +60,7 @@ module _ (view : Memory → Entries) where
 
   -- 1 where a length is wrong or the table is not sound, else what the rules say
   unfoldable pub replyTo : Call → Memory → Reply
-  replyTo c m = cond (fit c m) (reply c (view m)) (refused 1 c (view m))
+  replyTo c m = cond (fit c m) (reply c (view m)) (refusedReply 1 c (view m))
 
   -- m is sound: what a step is lent
   pub record SoundTable (m : Memory) : Type 0 where

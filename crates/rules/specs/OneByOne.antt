@@ -9,7 +9,7 @@ use Rattle.lists.specs.Lists.{every}
 use Rattle.rules.specs.Entries.{Entries}
 use Rattle.rules.specs.Calls.{Call, Counting, countList}
 use Rattle.rules.specs.Items.{itemSize, itemCount, itemsOf, itemCall}
-use Rattle.rules.specs.Rules.{number, next, results, done}
+use Rattle.rules.specs.Rules.{number, next, results, acceptedReply}
 
 -- calls done one after the other, a refused one leaving the entries: the entries after them, and their numbers
 unfoldable pub callsDone : List Call → Entries → Entries
@@ -23,7 +23,7 @@ callNumbers (c ∷ cs) e = number c e ∷ callNumbers cs (cond (eqb (number c e)
 -- the results and the live entries afterwards are those of the items done one by one from the left
 pub record OneByOne (w : Counting) (c : ℕ) (s b : List ℕ) (e : Entries) : Type 0 where
   pub entries : next (countList w c s b) e ≡ callsDone (map (itemCall w c) (itemsOf s)) e
-  pub bytes : done (countList w c s b) e .buffer ≡ callNumbers (map (itemCall w c) (itemsOf s)) e ++ drop (itemCount s) b
+  pub bytes : acceptedReply (countList w c s b) e .buffer ≡ callNumbers (map (itemCall w c) (itemsOf s)) e ++ drop (itemCount s) b
   -- 6 and 8 belong to one item
   pub numbers : every (λ (n : ℕ). eqb n 0 || eqb n 6 || eqb n 8) (results (countList w c s b) e .front) ≡ true
 

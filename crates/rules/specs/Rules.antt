@@ -13,7 +13,7 @@ use Rattle.bindings.specs.Filter.{filtered}
 use Rattle.references.specs.References.{referenceAnswer, referenceAt, isCustom, tailOf}
 use Rattle.lists.specs.Lists.{keep, some, every, firstOr, among}
 use Rattle.lists.specs.Guids.{nil, sameGuid}
-use Rattle.rules.specs.Entries.{Exporter, Object, Interface, PingSet, Entries, exporterPlaces, objectPlaces, interfacePlaces, setPlaces, countLimit, sequenceLimit, fresh, oxids, oids, setNumbers, interfaceIpids, ipids, listBytes, withClock, withNext, withExporters, withObjects, withInterfaces, withSets, heardAt, publicOf, privateOf, atCount, atCounts, pingedAt, withSequence, withMembers, withMembersOf}
+use Rattle.rules.specs.Entries.{Exporter, Object, Interface, PingSet, Entries, exporterPlaces, objectPlaces, interfacePlaces, setPlaces, countLimit, sequenceLimit, fresh, oxids, oids, setNumbers, interfaceIpids, ipids, listsLength, withClock, withNext, withExporters, withObjects, withInterfaces, withSets, heardAt, publicOf, privateOf, atCount, atCounts, pingedAt, withSequence, withMembers, withMembersOf}
 use Rattle.rules.specs.Calls.{Call, Counting, adding, releasing, reset, enterExporter, removeExporter, enterObject, enterInterface, add, release, dropClient, countList, simplePing, complexPing, clock, resolve, resolveFiltered, census, members, nextStop, writeSnapshot, loadSnapshot, Reply, Results, only}
 use Rattle.rules.specs.Items.{Item, itemSize, itemCount, itemsOf, itemCall}
 use Rattle.rules.specs.Sound.{longestList, storeBytes, held, hasInterface, heardWithin, pingedWithin}
@@ -106,14 +106,17 @@ staleSequence last new =
 
 -- ---- the refusals of each call, in their order
 
+-- of a new exporter's list
+abbrev pub listRefusals : List ℕ → Entries → List Row
+listRefusals b e =
+    passes (listAnswer b)
+    ∷ ltb longestList (length b) gives 19
+    ∷ (full exporterPlaces (e .exporters) || passesStore (listsLength (e .exporters) + length b)) gives 9
+    ∷ []
+
 unfoldable pub refusals : Call → Entries → List Row
 refusals (reset t) e = []
-refusals (enterExporter x u b) e =
-    (badOxid e x || badIpid e u) gives 3
-    ∷ passes (listAnswer b)
-    ∷ ltb longestList (length b) gives 19
-    ∷ (full exporterPlaces (e .exporters) || passesStore (listBytes (e .exporters) + length b)) gives 9
-    ∷ []
+refusals (enterExporter x u b) e = (badOxid e x || badIpid e u) gives 3 ∷ listRefusals b e
 refusals (removeExporter x) e = not (isLiveExporter e x) gives 4 ∷ []
 refusals (enterObject o x i iid n np) e =
     (badOid e o || badIpid e i) gives 3
@@ -357,13 +360,13 @@ results (writeSnapshot buffer) e = record { values = length (snapshotBytes e) �
 results (loadSnapshot s) e = only []
 
 -- document 01, "Answer numbers": a refusal returns its number, zero in every other result, an empty part, and keeps the buffer
-unfoldable pub refused : ℕ → Call → Entries → Reply
-refused n c e = record { number = n; values = map (λ (v : ℕ). 0) (results c e .values); part = []; buffer = results c e .buffer }
+unfoldable pub refusedReply : ℕ → Call → Entries → Reply
+refusedReply n c e = record { number = n; values = map (λ (v : ℕ). 0) (results c e .values); part = []; buffer = results c e .buffer }
 
-unfoldable pub done : Call → Entries → Reply
-done c e =
+unfoldable pub acceptedReply : Call → Entries → Reply
+acceptedReply c e =
     let r : Results = results c e in
     record { number = 0; values = r .values; part = r .part; buffer = fronted (r .front) (r .buffer) }
 
 unfoldable pub reply : Call → Entries → Reply
-reply c e = cond (eqb (number c e) 0) (done c e) (refused (number c e) c e)
+reply c e = cond (eqb (number c e) 0) (acceptedReply c e) (refusedReply (number c e) c e)

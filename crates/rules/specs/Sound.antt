@@ -8,7 +8,7 @@ use Rattle.kinds.specs.declared.Guid.{Guid}
 use Rattle.bindings.specs.Bindings.{listAnswer}
 use Rattle.lists.specs.Lists.{every, some, nonzero, distinct, among, holding}
 use Rattle.lists.specs.Guids.{nil, sameGuid}
-use Rattle.rules.specs.Entries.{Exporter, Object, Interface, PingSet, Entries, oxids, oids, setNumbers, ipids, listBytes}
+use Rattle.rules.specs.Entries.{Exporter, Object, Interface, PingSet, Entries, oxids, oids, setNumbers, ipids, listsLength}
 
 -- the seconds after which what was not heard goes: three ping periods
 abbrev pub timeout : ℕ
@@ -91,7 +91,7 @@ listsKept e = every (λ (x : Exporter). eqb (listAnswer (x .bindings)) 0 && leb 
 
 -- the lists lie inside the store: together they are no longer than it (document 02, request 12)
 abbrev pub listsInside : Entries → Bool
-listsInside e = leb (listBytes (e .exporters)) storeBytes
+listsInside e = leb (listsLength (e .exporters)) storeBytes
 
 -- document 01's "sound", of the live entries
 unfoldable pub sound : Entries → Bool

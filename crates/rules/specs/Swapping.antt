@@ -10,7 +10,7 @@ use Rattle.fields.specs.Fields.{guidBytes, Bytes, GuidFits}
 use Rattle.bindings.specs.Bindings.{joined}
 use Rattle.lists.specs.Lists.{keep, every, among}
 use Rattle.lists.specs.Order.{ascending, bytesBefore}
-use Rattle.rules.specs.Entries.{Exporter, Object, Interface, PingSet, Entries, countLimit, sequenceLimit, oxids, oids, setNumbers, interfaceIpids, listBytes, Ordered}
+use Rattle.rules.specs.Entries.{Exporter, Object, Interface, PingSet, Entries, countLimit, sequenceLimit, oxids, oids, setNumbers, interfaceIpids, listsLength, Ordered}
 use Rattle.rules.specs.Sound.{sound}
 use Rattle.rules.specs.Snapshot.{sorted, sections, snapshotBytes, entriesOf, placed, isSnapshot}
 
@@ -112,7 +112,7 @@ membersWritten e = length (joined (map (λ (s : PingSet). keep (among (s .member
 abbrev pub snapshotSize : Entries → ℕ
 snapshotSize e =
     26
-    + (26 * length (e .exporters) + listBytes (e .exporters))
+    + (26 * length (e .exporters) + listsLength (e .exporters))
     + 25 * length (e .objects)
     + 76 * length (e .interfaces)
     + (20 * length (e .sets) + 8 * membersWritten e)

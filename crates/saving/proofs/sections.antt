@@ -1,2 +1,2 @@
 -- Sections of a snapshot.
-pub mod Parts
+pub mod SectionRows

@@ -1,2 +1,2 @@
 -- Members counted.
-pub mod Counting
+pub mod MemberSum

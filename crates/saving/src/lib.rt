@@ -1,7 +1,6 @@
 // The call that writes a snapshot: the live entries as bytes, for another box to load.
 use fields::Written;
 use kinds::answer;
-use table::judge;
 ghost use mathlib.Core.Path.{_≡_};
 ghost use Rattle.rules.specs.Calls.{Call};
 ghost use Rattle.table.specs.View.{memory, SoundTable, Stepped, Performed};

@@ -10,21 +10,20 @@ use lib.Dec.{eqb, ltb}
 use lib.ListN.{length, getD, set, drop, length-map, length-set}
 use lib.Seq.{drop-length, drop-cons, drop-set-lt, getD-set-same}
 use Rattle.kinds.proofs.Refusing.{true-false, by-test}
-use Rattle.lists.specs.Lists.{keep, every, some, distinct, deleteAt, among}
+use Rattle.lists.specs.Lists.{keep, every, some, distinct, deleteAt, among, tabulate}
 use Rattle.lists.proofs.Tests.{true-or-false, and-intro}
 use Rattle.lists.proofs.Lists.{every-nil, every-from-at, every-map, every-mono, some-none, none-some, keep-all, keep-within, map-map, map-ext, getD-map, map-delete, length-delete}
 use Rattle.lists.proofs.Distinct.{eqb-decides, distinct-delete, among-delete, some-same, sublist-keep}
 use Rattle.columns.specs.Rows.{rowAt}
 use Rattle.columns.specs.Members.{memberRows}
-use Rattle.lists.specs.Lists.{tabulate}
 use Rattle.rules.specs.Entries.{Object, Interface, PingSet, Entries, countOf, withCount, oids, withObjects, withInterfaces, withSets, withMembers}
 use Rattle.rules.specs.Sound.{held, setMembersLive, pingedWithin}
 use Rattle.rules.specs.Rules.{noObject, noInterface, noSet, isLiveObject, emptied}
 use Rattle.rules.proofs.NothingGoes.{nothing-goes}
-use Rattle.table.specs.View.{objectCount, setCount, setsOf, memory, view, oidsOf}
-use Rattle.table.specs.Edits.{membersAt, membersBelow, dropObject, dropInterface, dropSet, changeInterface}
+use Rattle.table.specs.View.{objectCount, setCount, setsOf, memory, view, oidsOf, membersAt, membersBelow}
+use Rattle.edit.specs.Edits.{dropObject, dropInterface, dropSet, changeInterface}
 use Rattle.table.proofs.LiveRows.{sets-length, set-at}
-use Rattle.table.proofs.edit.Members.{oids-length, below-at}
+use Rattle.table.proofs.MemberRows.{oids-length, below-at}
 use Rattle.settling.specs.Leaving.{stays, objectsLeft, interfacesLeft, setsLeft, leftAt, interfaceLeftAt, setLeftAt, cleared, heldLeft, heldLeftAt}
 use Rattle.settling.proofs.ClientDrop.{clear-row, clear-all, row-cleared}
 use Rattle.settling.specs.declared.Leaving.{Leaving}

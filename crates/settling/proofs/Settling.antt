@@ -9,9 +9,8 @@ use Rattle.rules.specs.Entries.{oids}
 use Rattle.rules.specs.Sound.{proper, setMembersLive, sound}
 use Rattle.rules.proofs.SoundLaws.{sound-fields}
 use Rattle.rules.proofs.Groups.{fine-distinct}
-use Rattle.table.specs.View.{oidsOf, memory, view}
-use Rattle.table.specs.Edits.{membersBelow}
-use Rattle.table.proofs.edit.Below.{live-below}
+use Rattle.table.specs.View.{oidsOf, memory, view, membersBelow}
+use Rattle.table.proofs.MemberRows.{live-below}
 
 module _ (ws s : List ℕ) where
   pub asked : proper (oids (view (memory ws s))) ≡ true → setMembersLive (view (memory ws s)) ≡ true

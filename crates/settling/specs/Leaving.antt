@@ -7,7 +7,7 @@ use Rattle.lists.specs.Lists.{keep}
 use Rattle.rules.specs.Entries.{Object, Interface, Entries, withObjects, withInterfaces, withSets, withMembersOf}
 use Rattle.rules.specs.Sound.{held, hasInterface, heardWithin, pingedWithin}
 use Rattle.rules.specs.Rules.{noObject, noInterface, noSet, isLiveObject, withoutObjects, atInterfaces, anyIpid, emptied}
-use Rattle.table.specs.Edits.{dropObject, dropInterface, dropSet}
+use Rattle.edit.specs.Edits.{dropObject, dropInterface, dropSet}
 use Rattle.settling.specs.declared.Leaving.{Leaving}
 use Rattle.settling.specs.declared.Leaving.the-variants.{ExporterRemoved, NoInterface, Unheard}
 

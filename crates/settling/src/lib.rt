@@ -1,6 +1,5 @@
 // Rows that go: objects that do not stay, with their interfaces and memberships, and sets.
 use kinds::Oxid;
-use table::edit;
 use table::find;
 ghost use mathlib.Core.Path.{_≡_};
 ghost use mathlib.Core.Bool.{true};
@@ -9,8 +8,8 @@ ghost use lib.ListN.{getD};
 ghost use lib.Dec.{eqb};
 ghost use Rattle.lists.specs.Lists.{distinct};
 ghost use Rattle.rules.specs.Rules.{noObject};
-ghost use Rattle.table.specs.View.{objectCount, interfaceCount, setCount, Holds, oidsOf};
-ghost use Rattle.table.specs.Edits.{membersBelow, Became};
+ghost use Rattle.table.specs.View.{objectCount, interfaceCount, setCount, Holds, oidsOf, membersBelow};
+ghost use Rattle.edit.specs.Edits.{Became};
 ghost use Rattle.settling.specs.Leaving.{stays, withoutLeaving, objectsLeft, interfacesLeft, setsLeft, leftAt, interfaceLeftAt, setLeftAt, cleared, heldLeft, heldLeftAt};
 ghost use Rattle.rules.specs.Contract.{Whole};
 

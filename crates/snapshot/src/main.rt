@@ -1,15 +1,13 @@
 // Reads the snapshot of a table from standard input and prints what it holds, for people: the clock and the next set number, then
 // exporters, objects, interfaces and ping sets, one to a line.
 use kinds::answer;
+use kinds::limits;
 
 mod rows;
 mod sections;
 
-// The length of the longest snapshot.
-const LONGEST: usize = 64698;
-
 fn main() {
-    let mut input = [0u8; LONGEST + 1];
+    let mut input = [0u8; limits::LONGEST_SNAPSHOT + 1];
     whole(&mut input);
 }
 
@@ -30,9 +28,9 @@ fn report(s: &[u8]) {
 
 // Whether the bytes are a snapshot: the number of a load into a table of our own.
 fn load(s: &[u8]) -> u32 {
-    let mut words = [0u64; 8192];
-    let mut store = [0u8; 8192];
-    resolver::load_snapshot(&mut words, &mut store, s)
+    let mut words = [0u64; limits::WORDS];
+    let mut store = [0u8; limits::BYTES];
+    loading::load_snapshot(&mut words, &mut store, s)
 }
 
 fn refused(number: u32) {

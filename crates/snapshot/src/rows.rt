@@ -1,17 +1,12 @@
 // A row of each section, at the front of bytes: it is printed, and its length is answered.
-pub enum Kind {
-    Exporter,
-    Object,
-    Interface,
-    Set,
-}
+use snapshot_rows::Section;
 
-pub fn row(kind: Kind, s: &[u8], clock: u64) -> usize {
-    match kind {
-        Kind::Exporter => exporter(s),
-        Kind::Object => object(s, clock),
-        Kind::Interface => interface(s),
-        Kind::Set => set(s, clock),
+pub fn row(section: Section, s: &[u8], clock: u64) -> usize {
+    match section {
+        Section::Exporters => exporter(s),
+        Section::Objects => object(s, clock),
+        Section::Interfaces => interface(s),
+        Section::Sets => set(s, clock),
     }
 }
 

@@ -1,6 +1,6 @@
 // The sections of a snapshot, one after the other. Each begins with its count, of two bytes.
 use crate::rows;
-use crate::rows::Kind;
+use snapshot_rows::Section;
 ghost use Prim.Native.Nat.{_≤_};
 ghost use lib.ListN.{length};
 
@@ -11,37 +11,28 @@ pub fn print_all(s: &[u8]) {
     print::text(b" seconds\nnext set: ");
     print::decimal(fields::read_u64(s, 10));
     print::text(b"\nexporters: ");
-    let mut at = section(s, 18, Kind::Exporter, clock);
+    let mut at = print_section(s, fields::within(s, 18), Section::Exporters, clock);
     print::text(b"objects: ");
-    at = section(s, at, Kind::Object, clock);
+    at = print_section(s, at, Section::Objects, clock);
     print::text(b"interfaces: ");
-    at = section(s, at, Kind::Interface, clock);
+    at = print_section(s, at, Section::Interfaces, clock);
     print::text(b"sets: ");
-    section(s, at, Kind::Set, clock);
-}
-
-// The place n bytes after at, or the end of the bytes.
-fn past(s: &[u8], at: usize, n: usize) -> usize
-    ensures { λ r. ⌜ r ≤ length (now (s .entry)) ⌝ }
-{
-    if s.len() < at {
-        return s.len();
-    }
-    if s.len() - at < n {
-        return s.len();
-    }
-    at + n
+    print_section(s, at, Section::Sets, clock);
 }
 
 // The number of entries of the section at a place, and the entries; where it ends.
-fn section(s: &[u8], from: usize, kind: Kind, clock: u64) -> usize {
+fn print_section(s: &[u8], from: usize, section: Section, clock: u64) -> usize
+    requires { ⌜ from ≤ length (now s) ⌝ }
+    ensures { λ r. ⌜ r ≤ length (now (s .entry)) ⌝ }
+{
     let n = fields::read_u16(s, from);
     print::decimal(n as u64);
     print::end_line();
-    let mut at = past(s, from, 2);
+    let mut at = from + fields::within(&s[from..], 2);
     let mut i = 0;
     while i < n {
-        at = past(s, at, rows::row(kind, &s[at..], clock));
+        let rest = &s[at..];
+        at += fields::within(rest, rows::row(section, rest, clock));
         i += 1;
     }
     at

@@ -30,6 +30,17 @@ module _ {b₀ : List ℕ} {at₀ : ℕ} {x₀ b : List ℕ} {at : ℕ} where
   pub left-same : {x y : List ℕ} → x ≡ y → Left b₀ at₀ x₀ b at x → Left b₀ at₀ x₀ b at y
   left-same e l = rw e at l
 
+  -- there is room for what is left
+  pub left-fits : {x : List ℕ} → Room b₀ at₀ x₀ → Left b₀ at₀ x₀ b at x → Room b at x
+  left-fits room l =
+      let p = l .place in
+      let s = l .size in
+      omega arith
+
+  -- what is left of what is left
+  pub left-then : {x b′ y : List ℕ} {at′ : ℕ} → Left b₀ at₀ x₀ b at x → Left b at x b′ at′ y → Left b₀ at₀ x₀ b′ at′ y
+  left-then l m = record { left = m .left ∙ l .left; place = m .place ∙ l .place; size = m .size ∙ l .size }
+
   -- nothing is left
   pub left-none : {x : List ℕ} → x ≡ [] → Left b₀ at₀ x₀ b at x → Wrote b₀ at₀ x₀ b at
   left-none e l =

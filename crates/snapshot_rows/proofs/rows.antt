@@ -1,3 +1,3 @@
 -- The bytes of entries.
-pub mod Bytes
-pub mod Members
+pub mod FieldByField
+pub mod MembersInOrder

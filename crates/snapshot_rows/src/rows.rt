@@ -1,9 +1,10 @@
 // The bytes of one entry. Each function answers the place behind what it wrote.
+use crate::Section;
 use columns::members::Members;
 use table::find;
 ghost use mathlib.Core.Path.{_≡_};
 ghost use mathlib.Core.Bool.{true, cond};
-ghost use Prim.Native.Nat.{ℕ, _<_};
+ghost use Prim.Native.Nat.{_<_};
 ghost use lib.ListN.{length};
 ghost use lib.Dec.{ltb};
 ghost use Rattle.fields.specs.Fields.{encode, written};
@@ -12,10 +13,10 @@ ghost use Rattle.rules.specs.Contract.{Whole};
 ghost use Rattle.rules.specs.Snapshot.{inRow};
 ghost use Rattle.table.specs.View.{memory, SoundTable, exporterCount, objectCount, interfaceCount, setCount};
 ghost use Rattle.snapshot_rows.specs.Writing.{Room, Wrote};
-ghost use Rattle.snapshot_rows.specs.Rows.{exporterRow, objectRow, interfaceRow, countRow, memberRow, setRow, ObjectsSorted};
+ghost use Rattle.snapshot_rows.specs.Rows.{exporterBytesAt, objectBytesAt, interfaceBytesAt, countBytesAt, memberBytesAt, setBytesAt, ObjectsSorted, rowCount, rowBytes};
 
 // Exporter i: OXID, remote-unknown IPID, list length, list.
-pub fn put_exporter<'a>(
+fn put_exporter<'a>(
     words: &'a [u64],
     store: &'a [u8],
     i: usize,
@@ -24,8 +25,8 @@ pub fn put_exporter<'a>(
 ) -> usize
     requires { ⌜
         SoundTable (memory (now words) (now store)) × (i < exporterCount (now words))
-        × Room (now buffer) at (exporterRow (now words) (now store) i) ⌝ }
-    ensures { λ r. ⌜ Wrote (now (buffer .entry)) at (exporterRow (now (words .entry)) (now (store .entry)) i) (now (buffer .exit)) r ⌝ }
+        × Room (now buffer) at (exporterBytesAt (now words) (now store) i) ⌝ }
+    ensures { λ r. ⌜ Wrote (now (buffer .entry)) at (exporterBytesAt (now (words .entry)) (now (store .entry)) i) (now (buffer .exit)) r ⌝ }
 {
     let oxid = find::oxid(words, i);
     let unknown = find::unknown(words, i);
@@ -50,9 +51,9 @@ fn put_flag(buffer: &mut [u8], at: usize, flag: bool)
 }
 
 // Object i: OID, OXID, no-ping mark, time last heard.
-pub fn put_object<'a>(words: &'a [u64], i: usize, buffer: &'a mut [u8], at: usize) -> usize
-    requires { ⌜ Whole (now words) × (i < objectCount (now words)) × Room (now buffer) at (objectRow (now words) i) ⌝ }
-    ensures { λ r. ⌜ Wrote (now (buffer .entry)) at (objectRow (now (words .entry)) i) (now (buffer .exit)) r ⌝ }
+fn put_object<'a>(words: &'a [u64], i: usize, buffer: &'a mut [u8], at: usize) -> usize
+    requires { ⌜ Whole (now words) × (i < objectCount (now words)) × Room (now buffer) at (objectBytesAt (now words) i) ⌝ }
+    ensures { λ r. ⌜ Wrote (now (buffer .entry)) at (objectBytesAt (now (words .entry)) i) (now (buffer .exit)) r ⌝ }
 {
     let oid = find::oid(words, i);
     let exporter = find::object_exporter(words, i);
@@ -67,8 +68,8 @@ pub fn put_object<'a>(words: &'a [u64], i: usize, buffer: &'a mut [u8], at: usiz
 fn put_counts<'a>(words: &'a [u64], i: usize, buffer: &'a mut [u8], at: usize) -> usize
     requires { ⌜
         Whole (now words) × (i < interfaceCount (now words))
-        × Room (now buffer) at (inRow (countRow (now words) i) (tabulate 9 (λ k. k))) ⌝ }
-    ensures { λ r. ⌜ Wrote (now (buffer .entry)) at (inRow (countRow (now (words .entry)) i) (tabulate 9 (λ k. k))) (now (buffer .exit)) r ⌝ }
+        × Room (now buffer) at (inRow (countBytesAt (now words) i) (tabulate 9 (λ k. k))) ⌝ }
+    ensures { λ r. ⌜ Wrote (now (buffer .entry)) at (inRow (countBytesAt (now (words .entry)) i) (tabulate 9 (λ k. k))) (now (buffer .exit)) r ⌝ }
 {
     let mut next = at;
     let mut k = 0;
@@ -81,9 +82,9 @@ fn put_counts<'a>(words: &'a [u64], i: usize, buffer: &'a mut [u8], at: usize) -
 }
 
 // Interface i: IPID, IID, OID, counts.
-pub fn put_interface<'a>(words: &'a [u64], i: usize, buffer: &'a mut [u8], at: usize) -> usize
-    requires { ⌜ Whole (now words) × (i < interfaceCount (now words)) × Room (now buffer) at (interfaceRow (now words) i) ⌝ }
-    ensures { λ r. ⌜ Wrote (now (buffer .entry)) at (interfaceRow (now (words .entry)) i) (now (buffer .exit)) r ⌝ }
+fn put_interface<'a>(words: &'a [u64], i: usize, buffer: &'a mut [u8], at: usize) -> usize
+    requires { ⌜ Whole (now words) × (i < interfaceCount (now words)) × Room (now buffer) at (interfaceBytesAt (now words) i) ⌝ }
+    ensures { λ r. ⌜ Wrote (now (buffer .entry)) at (interfaceBytesAt (now (words .entry)) i) (now (buffer .exit)) r ⌝ }
 {
     let object = find::interface_object(words, i);
     fields::write_guid(buffer, at, find::ipid(words, i));
@@ -100,8 +101,8 @@ fn put_member<'a>(
     buffer: &'a mut [u8],
     at: usize,
 ) -> usize
-    requires { ⌜ Whole (now words) × (j < objectCount (now words)) × Room (now buffer) at (memberRow (now words) members j) ⌝ }
-    ensures { λ r. ⌜ Wrote (now (buffer .entry)) at (memberRow (now (words .entry)) members j) (now (buffer .exit)) r ⌝ }
+    requires { ⌜ Whole (now words) × (j < objectCount (now words)) × Room (now buffer) at (memberBytesAt (now words) members j) ⌝ }
+    ensures { λ r. ⌜ Wrote (now (buffer .entry)) at (memberBytesAt (now (words .entry)) members j) (now (buffer .exit)) r ⌝ }
 {
     if !members.has(j) {
         return at;
@@ -121,8 +122,8 @@ fn put_members<'a>(
 ) -> usize
     requires { ⌜
         Whole (now words) × (every (λ j. ltb j (objectCount (now words))) (now rows) ≡ true)
-        × Room (now buffer) at (inRow (memberRow (now words) members) (now rows)) ⌝ }
-    ensures { λ r. ⌜ Wrote (now (buffer .entry)) at (inRow (memberRow (now (words .entry)) members) (now (rows .entry))) (now (buffer .exit)) r ⌝ }
+        × Room (now buffer) at (inRow (memberBytesAt (now words) members) (now rows)) ⌝ }
+    ensures { λ r. ⌜ Wrote (now (buffer .entry)) at (inRow (memberBytesAt (now (words .entry)) members) (now (rows .entry))) (now (buffer .exit)) r ⌝ }
 {
     let mut next = at;
     let mut k = 0;
@@ -134,15 +135,15 @@ fn put_members<'a>(
 }
 
 // Set i: number, sequence number, time of the last ping, number of members, their OIDs in the order of the objects' rows.
-pub fn put_set<'a>(
+fn put_set<'a>(
     words: &'a [u64],
     rows: &'a [usize],
     i: usize,
     buffer: &'a mut [u8],
     at: usize,
 ) -> usize
-    requires { ⌜ ObjectsSorted (now words) (now rows) × (i < setCount (now words)) × Room (now buffer) at (setRow (now words) i) ⌝ }
-    ensures { λ r. ⌜ Wrote (now (buffer .entry)) at (setRow (now (words .entry)) i) (now (buffer .exit)) r ⌝ }
+    requires { ⌜ ObjectsSorted (now words) (now rows) × (i < setCount (now words)) × Room (now buffer) at (setBytesAt (now words) i) ⌝ }
+    ensures { λ r. ⌜ Wrote (now (buffer .entry)) at (setBytesAt (now (words .entry)) i) (now (buffer .exit)) r ⌝ }
 {
     let number = find::set_number(words, i);
     let members = find::members(words, i);
@@ -151,4 +152,27 @@ pub fn put_set<'a>(
     fields::write_u64(buffer, at + 10, find::pinged(words, i));
     fields::write_u16(buffer, at + 18, members.size() as u16);
     put_members(words, members, rows, buffer, at + 20)
+}
+
+// Row i of a section. The objects' rows are given in rising order.
+pub fn put_row<'a>(
+    words: &'a [u64],
+    store: &'a [u8],
+    section: Section,
+    objects: &'a [usize],
+    i: usize,
+    buffer: &'a mut [u8],
+    at: usize,
+) -> usize
+    requires { ⌜
+        SoundTable (memory (now words) (now store)) × ObjectsSorted (now words) (now objects) × (i < rowCount section (now words))
+        × Room (now buffer) at (rowBytes section (now words) (now store) i) ⌝ }
+    ensures { λ r. ⌜ Wrote (now (buffer .entry)) at (rowBytes section (now (words .entry)) (now (store .entry)) i) (now (buffer .exit)) r ⌝ }
+{
+    match section {
+        Section::Exporters => put_exporter(words, store, i, buffer, at),
+        Section::Objects => put_object(words, i, buffer, at),
+        Section::Interfaces => put_interface(words, i, buffer, at),
+        Section::Sets => put_set(words, objects, i, buffer, at),
+    }
 }

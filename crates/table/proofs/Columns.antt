@@ -1,6 +1,6 @@
--- The lists that the clauses of `sound` speak of are columns of the array.
+-- The lists that the clauses of `sound` speak of are columns of the array, as code reads them.
 use Prim.Native.Nat.{ℕ, _+_, _*_, _≤_, _<_}
-use mathlib.Core.Path.{_≡_, refl, sym, _∙_}
+use mathlib.Core.Path.{_≡_, refl, sym, ap, _∙_}
 use mathlib.Core.List.{List, map}
 use native.Mathlib.Omega.{arith}
 use lib.ListN.{length, getD, take, drop}
@@ -9,10 +9,11 @@ use Rattle.columns.specs.Guids.{guids}
 use Rattle.columns.specs.Rows.{cell, rowAt, rows, after}
 use Rattle.columns.specs.declared.rows.Kind.{Kind}
 use Rattle.lists.proofs.Lists.{map-map, map-ext, map-tabulate, tabulate-ext, tabulate-part}
-use Rattle.columns.proofs.Guids.{guids-tabulate}
+use Rattle.columns.proofs.GuidColumns.{guids-tabulate}
 use Rattle.columns.proofs.rows.Laws.{column-below, column-of-rows, rowAt-getD}
 use Rattle.rules.specs.Entries.{Exporter, Object, Interface, PingSet}
-use Rattle.table.specs.View.{exporterKind, objectKind, interfaceKind, setKind, exporterCount, objectCount, interfaceCount, setCount, asExporter, asObject, asInterface, exportersOf, objectsOf, interfacesOf, setsOf}
+use Rattle.layout.specs.Kinds.{exporterKind, objectKind, interfaceKind, setKind}
+use Rattle.table.specs.View.{exporterCount, objectCount, interfaceCount, setCount, asExporter, asObject, asInterface, exportersOf, objectsOf, interfacesOf, setsOf}
 
 -- a kind's columns lie within the array
 abbrev pub Inside : Kind → List ℕ → Type 0
@@ -98,3 +99,14 @@ module _ (ws : List ℕ) (size : length ws ≡ 8192) where
   pub pinged-column : map (λ (s : PingSet). s .pinged) (setsOf ws) ≡ take (setCount ws) (drop 128 ws)
   unfolding setsOf
   pinged-column = field-column setKind ws (setCount ws) 2 _ (λ s. s .pinged) (λ r. refl) (omega arith) (omega arith) (omega arith)
+
+-- ---- columns that code lends
+
+-- a column of n words is a field of the live entries, of which there are n
+pub column-read : (ws : List ℕ) (first : ℕ) {n m : ℕ} {xs ids : List ℕ} → xs ≡ take n (drop first ws) → n ≡ m → ids ≡ take m (drop first ws) → xs ≡ ids
+column-read ws first p q h = p ∙ ap (λ (k : ℕ). take k (drop first ws)) q ∙ sym h
+
+-- two columns are the identifiers of the live entries
+pub guids-read : (ws : List ℕ) (a b : ℕ) {n m : ℕ} {xs ys : List ℕ} {ids : List Guid} → xs ≡ take n (drop a ws) → ys ≡ take n (drop b ws) → n ≡ m
+    → ids ≡ guids (take m (drop a ws)) (take m (drop b ws)) → guids xs ys ≡ ids
+guids-read ws a b p r q h = rw (p, r, q) (sym h)

@@ -5,25 +5,23 @@ use mathlib.Core.Bool.{Bool, true, false, not}
 use mathlib.Core.List.{List, [], _∷_, map}
 use native.Mathlib.Omega.{arith}
 use lib.Dec.{eqb}
-use lib.ListN.{length, getD, set, drop, length-map, length-drop}
-use lib.Seq.{getD-drop, getD-set-other, drop-set-add}
+use lib.ListN.{length, getD, drop, length-map, length-drop}
+use lib.Seq.{getD-drop}
 use Rattle.lists.specs.Lists.{some, every, tabulate}
 use Rattle.columns.specs.Rows.{rowAt, rows}
-use Rattle.lists.proofs.Lists.{every-ext, some-not, map-set, tabulate-getD}
+use Rattle.lists.proofs.Lists.{every-ext, some-not, tabulate-getD}
 use Rattle.lists.proofs.Elements.{In, map-in, tabulate-in}
 use Rattle.columns.proofs.rows.Laws.{rowAt-getD, length-row}
-use Rattle.rules.specs.Entries.{Interface, countOf, withCount}
+use Rattle.rules.specs.Entries.{Interface, countOf}
 use Rattle.rules.specs.Sound.{held}
 use Rattle.rules.specs.Rules.{noInterface}
-use Rattle.table.specs.View.{interfaceKind, interfaceCount, asInterface, interfacesOf}
-use Rattle.table.specs.Edits.{Became, changeInterface}
+use Rattle.layout.specs.Kinds.{interfaceKind}
+use Rattle.table.specs.View.{interfaceCount, asInterface, interfacesOf}
 use Rattle.table.proofs.LiveRows.{interface-at}
-use Rattle.table.proofs.judge.Checks.{everyRow, table-checked}
-use Rattle.table.proofs.edit.Rows.{only-stored, live-stored}
-use Rattle.table.proofs.edit.Changes.{interface-changed}
+use Rattle.table.proofs.Checks.{everyRow, table-checked}
 
 -- a word as a count
-abbrev low32 : ℕ → ℕ
+abbrev pub low32 : ℕ → ℕ
 low32 w = w % 2 ^ 32
 
 counts-at : (xs : List ℕ) (k : ℕ) → getD (map low32 xs) k 0 ≡ low32 (getD xs k 0)
@@ -77,27 +75,3 @@ zero-counts ws i h =
         sym (every-ext (λ (m : ℕ). not (not (eqb m 0))) (λ m. eqb m 0) (λ m. twice (eqb m 0)) xs)
         ∙ sym (twice _)
         ∙ ap not (sym (some-not (λ (m : ℕ). not (eqb m 0)) xs))
-
--- a row with another word for count k
-count-row : (r : List ℕ) (k n : ℕ) → n < 2 ^ 32 → asInterface (set r (5 + k) n) ≡ withCount k n (asInterface r)
-count-row r k n h u =
-    record {
-      ipid = record { low = other 0 (omega arith) u; high = other 1 (omega arith) u };
-      iid = record { low = other 2 (omega arith) u; high = other 3 (omega arith) u };
-      object = other 4 (omega arith) u;
-      counts = (ap (map low32) (drop-set-add 5 r k n) ∙ map-set low32 (drop 5 r) k n ∙ ap (set (map low32 (drop 5 r)) k) (let q : n % 2 ^ 32 ≡ n = omega arith in q)) u;
-    }
-  where
-    other : (j : ℕ) → j < 5 → getD (set r (5 + k) n) j 0 ≡ getD r j 0
-    other j b = getD-set-other r (5 + k) j n 0 (omega arith)
-
--- count k of an interface is stored
-pub count-stored : (ws : List ℕ) (i k n : ℕ) → length ws ≡ 8192 → i < interfaceCount ws → k < 9 → n < 2 ^ 32
-    → Became (changeInterface i (withCount k n)) ws (set ws (2048 + 256 * k + i) n)
-count-stored ws i k n size h b d =
-    let q : 2048 + 256 * k + i ≡ 768 + (5 + k) * 256 + i = omega arith in
-    rw q
-    (interface-changed ws (set ws (768 + (5 + k) * 256 + i) n) (withCount k n) i (set (rowAt interfaceKind ws i) (5 + k) n)
-    (only-stored interfaceKind 4 ws i (5 + k) n (omega arith) (omega arith)) h
-    (live-stored interfaceKind 4 ws i (5 + k) n (omega arith) h (omega arith) (omega arith))
-    (count-row (rowAt interfaceKind ws i) k n d))

@@ -26,7 +26,8 @@ use Rattle.rules.specs.Snapshot.{placed}
 use Rattle.rules.specs.Swapping.{Each, ExporterFits, ObjectFits, InterfaceFits, SetFits}
 use Rattle.rules.proofs.SoundLaws.{none, _and_}
 use Rattle.rules.proofs.Swapping.{small-at}
-use Rattle.table.specs.View.{exporterKind, objectKind, interfaceKind, setKind, exporterCount, objectCount, interfaceCount, setCount, listStart, listFrom, listAt, asExporter, asObject, asInterface, asSet, exportersOf, objectsOf, interfacesOf, oidsOf, setsOf}
+use Rattle.layout.specs.Kinds.{exporterKind, objectKind, interfaceKind, setKind}
+use Rattle.table.specs.View.{exporterCount, objectCount, interfaceCount, setCount, listStart, listFrom, listAt, asExporter, asObject, asInterface, asSet, exportersOf, objectsOf, interfacesOf, oidsOf, setsOf}
 use Rattle.table.specs.Fitting.{Lent, ViewFits}
 use Rattle.table.proofs.LiveRows.{exporters-length, objects-length, interfaces-length, sets-length}
 use Rattle.table.proofs.Sizes.{word-fits}

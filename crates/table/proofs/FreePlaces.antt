@@ -12,7 +12,8 @@ use Rattle.columns.proofs.rows.Laws.{row-same, rows-free}
 use Rattle.rules.specs.Entries.{Object}
 use Rattle.rules.specs.Contract as contract
 use Rattle.table.specs.FreePlaces.{SameRows, SameLive, FreePlaces, FreePlacesSound}
-use Rattle.table.specs.View.{exporterKind, objectKind, interfaceKind, setKind, exporterCount, listStart, asObject, asInterface, asSet, exportersOf, objectsOf, interfacesOf, setsOf, memory, view, soundMemory}
+use Rattle.layout.specs.Kinds.{exporterKind, objectKind, interfaceKind, setKind}
+use Rattle.table.specs.View.{exporterCount, listStart, asObject, asInterface, asSet, exportersOf, objectsOf, interfacesOf, setsOf, memory, view, soundMemory}
 use Rattle.table.proofs.StoredLists.{lists-same}
 
 -- the same bytes from the start

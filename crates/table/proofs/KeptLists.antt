@@ -16,17 +16,18 @@ use Rattle.lists.specs.Lists.{tabulate, holding}
 use Rattle.lists.proofs.Tests.{and-intro, and-left, and-right, holding-nil, holding-cons, holding-head}
 use Rattle.lists.proofs.Lists.{every-at, tabulate-snoc}
 use Rattle.columns.specs.Rows.{rowAt}
-use Rattle.rules.specs.Entries.{Exporter, listBytes}
+use Rattle.rules.specs.Entries.{Exporter, listsLength}
 use Rattle.rules.specs.Rules.{noExporter}
 use Rattle.rules.specs.Sound.{longestList, storeBytes, listsKept, listsInside}
 use Rattle.rules.specs.Contract.{Whole}
-use Rattle.rules.proofs.ListBytes.{bytes-snoc}
+use Rattle.rules.proofs.ListsLength.{bytes-snoc}
 use Rattle.rules.proofs.SoundLaws.{sound-fields, table-fields}
 use Rattle.table.specs.Placed.{SoundPlaced}
-use Rattle.table.specs.View.{exporterKind, exporterCount, listStart, listFrom, listAt, asExporter, exportersOf, memory, view}
+use Rattle.layout.specs.Kinds.{exporterKind}
+use Rattle.table.specs.View.{exporterCount, listStart, listFrom, listAt, asExporter, exportersOf, memory, view}
 use Rattle.table.proofs.LiveRows.{exporters-length, exporter-at}
 use Rattle.table.proofs.StoredLists.{start-next, start-first, list-four, starts-rise}
-use Rattle.table.proofs.judge.Checks.{everyRow, table-checked}
+use Rattle.table.proofs.Checks.{everyRow, table-checked}
 
 -- a list at the front is accepted there, and no longer than it may be, where it is accepted as a whole list of that length
 front-whole : (s : List ℕ) → (eqb (frontAnswer s) 0 && leb (listLength s) longestList) ≡ (eqb (listAnswer (take (listLength s) s)) 0 && leb (length (take (listLength s) s)) longestList)
@@ -80,16 +81,16 @@ module _ (ws store : List ℕ) (kept : listsKept (view (memory ws store)) ≡ tr
   list-starts (suc i) h = list-ends i (omega arith)
 
   -- the lists before a start have so many bytes
-  bytes-before : (i : ℕ) → i ≤ exporterCount ws → listBytes (tabulate i (λ j. asExporter (rowAt exporterKind ws j) (listAt store j))) ≡ listStart store i
-  unfolding tabulate listBytes
+  bytes-before : (i : ℕ) → i ≤ exporterCount ws → listsLength (tabulate i (λ j. asExporter (rowAt exporterKind ws j) (listAt store j))) ≡ listStart store i
+  unfolding tabulate listsLength
   bytes-before zero h = sym (start-first store)
   bytes-before (suc i) h =
-      ap listBytes (tabulate-snoc i (λ j. asExporter (rowAt exporterKind ws j) (listAt store j)))
+      ap listsLength (tabulate-snoc i (λ j. asExporter (rowAt exporterKind ws j) (listAt store j)))
       ∙ bytes-snoc (tabulate i (λ j. asExporter (rowAt exporterKind ws j) (listAt store j))) (asExporter (rowAt exporterKind ws i) (listAt store i))
       ∙ (rw (bytes-before i (omega arith), list-size i (omega arith), start-next store i))
 
   -- all live lists have so many bytes as stand before the free ones
-  pub bytes-live : listBytes (exportersOf ws store) ≡ listStart store (exporterCount ws)
+  pub bytes-live : listsLength (exportersOf ws store) ≡ listStart store (exporterCount ws)
   unfolding exportersOf
   bytes-live = bytes-before (exporterCount ws) (omega arith)
 
@@ -97,7 +98,7 @@ module _ (ws store : List ℕ) (kept : listsKept (view (memory ws store)) ≡ tr
   pub kept-inside : Whole store → listsInside (view (memory ws store)) ≡ true
   kept-inside l =
       let e = list-starts (exporterCount ws) (omega arith) in
-      le-leb (listBytes (exportersOf ws store)) storeBytes (rw bytes-live (omega arith))
+      le-leb (listsLength (exportersOf ws store)) storeBytes (rw bytes-live (omega arith))
 
 -- so whether the lists are kept decides both clauses
 pub lists-judged : (ws store : List ℕ) → Whole store → listsKept (view (memory ws store)) ≡ holding (listsKept (view (memory ws store)) ∷ listsInside (view (memory ws store)) ∷ [])

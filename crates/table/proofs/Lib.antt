@@ -1,8 +1,10 @@
+pub mod LiveRows
+pub mod Columns
+pub mod Checks
+pub mod Counts
 pub mod StoredLists
 pub mod KeptLists
+pub mod MemberRows
 pub mod FreePlaces
 pub mod Sizes
-pub mod Counts
-pub mod Columns
-pub mod LiveRows
 pub mod Fitting

@@ -8,7 +8,8 @@ use Rattle.columns.specs.declared.rows.Kind.{Kind}
 use Rattle.lists.proofs.Lists.{length-tabulate, getD-tabulate, getD-map}
 use Rattle.columns.proofs.rows.Laws.{length-rows, rows-getD}
 use Rattle.rules.specs.Entries.{Exporter, Object, Interface, PingSet}
-use Rattle.table.specs.View.{exporterKind, objectKind, interfaceKind, setKind, exporterCount, objectCount, interfaceCount, setCount, listAt, asExporter, asObject, asInterface, asSet, exportersOf, objectsOf, interfacesOf, setsOf}
+use Rattle.layout.specs.Kinds.{exporterKind, objectKind, interfaceKind, setKind}
+use Rattle.table.specs.View.{exporterCount, objectCount, interfaceCount, setCount, listAt, asExporter, asObject, asInterface, asSet, exportersOf, objectsOf, interfacesOf, setsOf}
 
 -- as many entries as rows
 made-length : {A : Type 0} (entry : List ℕ → A) (k : Kind) (ws : List ℕ) (n : ℕ) → length (map entry (rows k ws n)) ≡ n

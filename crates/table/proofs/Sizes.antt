@@ -18,12 +18,10 @@ use Rattle.rules.specs.Rules.{noSet, setOf}
 use Rattle.rules.specs.Contract.{Memory}
 use Rattle.rules.proofs.SoundLaws.{Sound, sound-fields, table-fields}
 use Rattle.rules.proofs.ByRow.{set-live, set-row, oids-distinct}
-use Rattle.table.specs.View.{objectCount, setCount, setsOf, view, oidsOf, memberValues}
-use Rattle.table.specs.Edits.{membersAt}
+use Rattle.table.specs.View.{objectCount, setCount, setsOf, view, oidsOf, memberValues, membersAt}
 use Rattle.table.specs.Sizes.{wordsFit, SetsSized}
 use Rattle.table.proofs.LiveRows.{sets-length}
-use Rattle.table.proofs.edit.Members.{oids-length, below-at}
-use Rattle.table.proofs.edit.Below.{row-members, live-below}
+use Rattle.table.proofs.MemberRows.{oids-length, below-at, row-members, live-below}
 
 -- at most 128 objects are live
 places : (ws : List ℕ) → objectCount ws < 129

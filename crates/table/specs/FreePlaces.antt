@@ -6,7 +6,8 @@ use mathlib.Core.List.{List}
 use lib.ListN.{length, getD}
 use Rattle.columns.specs.Rows.{cell}
 use Rattle.columns.specs.declared.rows.Kind.{Kind}
-use Rattle.table.specs.View.{exporterKind, objectKind, interfaceKind, setKind, exporterCount, objectCount, interfaceCount, setCount, listStart, memory, view, soundMemory}
+use Rattle.layout.specs.Kinds.{exporterKind, objectKind, interfaceKind, setKind}
+use Rattle.table.specs.View.{exporterCount, objectCount, interfaceCount, setCount, listStart, memory, view, soundMemory}
 
 -- the words of the first n rows of a kind are the same
 abbrev pub SameRows : Kind → ℕ → List ℕ → List ℕ → Type 0

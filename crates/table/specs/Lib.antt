@@ -1,5 +1,4 @@
 pub mod View
-pub mod Edits
 pub mod Counts
 pub mod Sizes
 pub mod FreePlaces

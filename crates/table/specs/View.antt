@@ -4,36 +4,21 @@ use Prim.Native.Nat.{ℕ, zero, suc, _+_, _%_, min}
 use mathlib.Core.Bool.{Bool, not}
 use mathlib.Core.List.{List, map}
 use lib.ListN.{getD, take, drop}
-use lib.Dec.{eqb}
+use lib.Dec.{eqb, ltb}
 use Rattle.bindings.specs.Bindings.{listLength}
 use Rattle.lists.specs.Lists.{tabulate, every, among}
-use Rattle.columns.specs.Rows.{rowAt, rows}
+use Rattle.columns.specs.Rows.{cell, rowAt, rows}
 use Rattle.columns.specs.Members.{memberRows}
 use Rattle.columns.specs.declared.members.Members.{Members}
 use Rattle.columns.specs.declared.rows.Kind.{Kind}
-use Rattle.rules.specs.Entries.{Exporter, Object, Interface, PingSet, Entries, exporterPlaces, objectPlaces, interfacePlaces, setPlaces, countLimit, sequenceLimit}
+use Rattle.rules.specs.Entries.{Exporter, Object, Interface, PingSet, Entries, countLimit, sequenceLimit}
+use Rattle.layout.specs.Kinds.{exporterKind, objectKind, interfaceKind, setKind}
 use Rattle.rules.specs.Calls.{Call, Reply}
 use Rattle.rules.specs.Contract as contract
 use Rattle.rules.specs.Contract.{Memory}
 
 -- ---- the array: word 0 is the clock, word 1 the next set number, words 2 to 5 the numbers of live exporters, objects, interfaces
--- and sets, read as no more than their places; then the rows of each kind, the live ones first
-
--- OXID, remote-unknown IPID (low, high)
-abbrev pub exporterKind : Kind
-exporterKind = record { base = 16; places = exporterPlaces; width = 3 }
-
--- number, sequence number, ping time, members (low, high)
-abbrev pub setKind : Kind
-setKind = record { base = 64; places = setPlaces; width = 5 }
-
--- OID, OXID, no-ping mark, time last heard
-abbrev pub objectKind : Kind
-objectKind = record { base = 256; places = objectPlaces; width = 4 }
-
--- IPID (low, high), IID (low, high), OID, public count, the private counts of clients 0 to 7
-abbrev pub interfaceKind : Kind
-interfaceKind = record { base = 768; places = interfacePlaces; width = 14 }
+-- and sets, read as no more than their places; then the rows of each kind (`Kinds.antt` of `layout`), the live ones first
 
 abbrev pub clockOf : List ℕ → ℕ
 clockOf ws = getD ws 0 0
@@ -120,6 +105,15 @@ oidsOf ws = map (λ (o : Object). o .oid) (objectsOf ws)
 
 unfoldable pub setsOf : List ℕ → List PingSet
 setsOf ws = map (asSet (oidsOf ws)) (rows setKind ws (setCount ws))
+
+-- the members of the set at row r
+abbrev pub membersAt : List ℕ → ℕ → Members
+membersAt ws r = record { low = getD ws (cell setKind 3 r) 0; high = getD ws (cell setKind 4 r) 0 }
+
+-- every member bit stands at a live object's row
+unfoldable pub membersBelow : List ℕ → Bool
+membersBelow ws =
+    every (λ r. every (λ j. ltb j (objectCount ws)) (memberRows (record { low = getD r 3 0; high = getD r 4 0 }))) (rows setKind ws (setCount ws))
 
 -- the members of every set are live
 abbrev pub membersLiveIn : List ℕ → Bool

@@ -1,25 +1,23 @@
 // Rows of live entries by their identifiers, and what stands in them.
-use crate::layout;
-use crate::limits;
 use columns::members::Members;
 use kinds::Guid;
 use kinds::Oid;
 use kinds::Oxid;
 use kinds::SetId;
+use kinds::limits;
 ghost use mathlib.Core.Path.{_≡_};
 ghost use mathlib.Core.Bool.{true, _||_};
 ghost use mathlib.Core.List.{List, map};
 ghost use lib.ListN.{length, getD};
 ghost use lib.Dec.{eqb};
 ghost use Rattle.lists.specs.Guids.{nil, sameGuid};
-ghost use Rattle.table.specs.Edits.{membersAt};
+ghost use Rattle.table.specs.View.{membersAt, exporterCount, objectCount, interfaceCount, setCount, clockOf, nextOf, listStart, exportersOf, objectsOf, interfacesOf, setsOf, oidsOf, memory, view, Holds};
 ghost use Rattle.rules.specs.Contract.{Whole};
 ghost use Prim.Native.Nat.{ℕ, _<_, _≤_, min};
 ghost use Rattle.lists.specs.Lists.{some, every};
 ghost use Rattle.rules.specs.Entries.{Interface, PingSet, oxids, countOf, exporterRow, objectRow, interfaceRow, setRow, ipids, exporterPlaces, objectPlaces, interfacePlaces, setPlaces};
 ghost use Rattle.rules.specs.Sound.{listsKept, held, heardWithin, pingedWithin};
 ghost use Rattle.rules.specs.Rules.{noExporter, noObject, noInterface, noSet, isLiveObject};
-ghost use Rattle.table.specs.View.{exporterCount, objectCount, interfaceCount, setCount, clockOf, nextOf, listStart, exportersOf, objectsOf, interfacesOf, setsOf, oidsOf, memory, view, Holds};
 ghost use Rattle.table.specs.Counts.{countsAt};
 
 // The time of the table.

@@ -4,6 +4,7 @@
 // references of another client, which is lost, are dropped. Then the same with a client that falls silent. Each step is printed
 // with its answer number.
 use kinds::SetId;
+use kinds::limits;
 
 mod client;
 mod say;
@@ -16,29 +17,29 @@ fn main() {
 }
 
 // The first box; the client's set.
-fn until_noon(snapshot: &mut [u8]) -> SetId {
-    let mut words = [0u64; 8192];
-    let mut store = [0u8; 8192];
+fn until_noon(snapshot: &mut [u8; server::SNAPSHOT]) -> SetId {
+    let mut words = [0u64; limits::WORDS];
+    let mut store = [0u8; limits::BYTES];
     let mut reference = [0u8; server::REFERENCE];
     server::open(&mut words, &mut store);
     server::offer(&mut words, &store, &mut reference);
-    let set = client::stay(&mut words, &store, &reference);
+    let set = client::take_up(&mut words, &store, &reference);
+    client::wait(&mut words, &store, set, 0, 4, true);
     server::save(&words, &store, snapshot);
     set
 }
 
 // The box that takes over.
-fn after_noon(snapshot: &[u8], set: SetId) {
-    let mut words = [0u64; 8192];
-    let mut store = [0u8; 8192];
+fn after_noon(snapshot: &[u8; server::SNAPSHOT], set: SetId) {
+    let mut words = [0u64; limits::WORDS];
+    let mut store = [0u8; limits::BYTES];
     let mut reference = [0u8; server::REFERENCE];
     server::take_over(&mut words, &mut store, snapshot);
     client::leave(&mut words, &store, set);
-    server::count(&words, &store);
-    say::chapter(b"the next client falls silent");
+    client::lose_other(&mut words, &store, set);
+    print::text(b"     the next client falls silent\n");
     server::offer(&mut words, &store, &mut reference);
     client::fall_silent(&mut words, &store, &reference);
-    server::count(&words, &store);
     server::close(&mut words, &mut store);
     client::come_late(&words, &store, &reference);
 }

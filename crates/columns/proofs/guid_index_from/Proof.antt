@@ -7,7 +7,7 @@ use Rattle.lists.specs.Lists.{firstIndex}
 use Rattle.lists.specs.Guids.{sameGuid}
 use Rattle.columns.specs.Guids.{guidAt, guids}
 use Rattle.columns.proofs.Loops.{first-found, first-passed, first-end, told}
-use Rattle.columns.proofs.Guids.{guids-step, guids-end}
+use Rattle.columns.proofs.GuidColumns.{guids-step, guids-end}
 use Rattle.columns.proofs.guid_index_from.Statement.{statement}
 use Rattle.columns.proofs.guid_index_from.Tie as tie
 

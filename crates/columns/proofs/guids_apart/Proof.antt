@@ -12,7 +12,7 @@ use Rattle.columns.specs.Guids.{guids}
 use Rattle.columns.specs.Buckets.{guidBucket}
 use Rattle.columns.proofs.Loops.{every-passes, every-fails, every-end, told}
 use Rattle.lists.proofs.Guids.{guid-decides}
-use Rattle.columns.proofs.Guids.{guids-step, guids-end}
+use Rattle.columns.proofs.GuidColumns.{guids-step, guids-end}
 use Rattle.columns.proofs.buckets.Marks.{unmarked}
 use Rattle.columns.proofs.guids_apart.Statement.{statement}
 use Rattle.columns.proofs.guids_apart.Tie as tie

@@ -11,7 +11,7 @@ use Rattle.columns.specs.Guids.{guids}
 use Rattle.columns.specs.Buckets.{guidBucket}
 use Rattle.columns.proofs.buckets.Marks.{Passed, passed-none, passed-one, repeated, unmarked}
 use Rattle.lists.proofs.Guids.{guid-decides}
-use Rattle.columns.proofs.Guids.{guids-last, guids-end}
+use Rattle.columns.proofs.GuidColumns.{guids-last, guids-end}
 use Rattle.columns.proofs.guids_distinct.Statement.{statement}
 use Rattle.columns.proofs.guids_distinct.Tie as tie
 

@@ -10,7 +10,7 @@ use Rattle.columns.specs.Guids.{guidAt, guids}
 use Rattle.lists.proofs.Distinct.{same-comm}
 use Rattle.columns.proofs.Loops.{every-passes, every-fails, every-end, told}
 use Rattle.lists.proofs.Guids.{guid-decides}
-use Rattle.columns.proofs.Guids.{guids-step, guids-end}
+use Rattle.columns.proofs.GuidColumns.{guids-step, guids-end}
 use Rattle.columns.proofs.guids_not_nil.Statement.{statement}
 use Rattle.columns.proofs.guids_not_nil.Tie as tie
 

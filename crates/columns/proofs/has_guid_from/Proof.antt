@@ -4,7 +4,7 @@ use lib.ListN.{length}
 use Rattle.lists.specs.Guids.{sameGuid}
 use Rattle.columns.specs.Guids.{guids}
 use Rattle.columns.proofs.Loops.{some-from}
-use Rattle.columns.proofs.Guids.{length-guids}
+use Rattle.columns.proofs.GuidColumns.{length-guids}
 use Rattle.columns.proofs.has_guid_from.Statement.{statement}
 use Rattle.columns.proofs.has_guid_from.Tie as tie
 

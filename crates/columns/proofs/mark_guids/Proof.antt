@@ -7,7 +7,7 @@ use lib.ListN.{length, drop}
 use Rattle.columns.specs.Guids.{guids}
 use Rattle.columns.specs.Buckets.{guidBucket, Marked}
 use Rattle.columns.proofs.buckets.Marks.{marked-none, marked-one}
-use Rattle.columns.proofs.Guids.{guids-last, guids-end}
+use Rattle.columns.proofs.GuidColumns.{guids-last, guids-end}
 use Rattle.columns.proofs.mark_guids.Statement.{statement}
 use Rattle.columns.proofs.mark_guids.Tie as tie
 

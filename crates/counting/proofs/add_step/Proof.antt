@@ -11,16 +11,16 @@ use Rattle.kinds.specs.declared.Guid.{Guid}
 use Rattle.rules.specs.Entries.{Interface, publicOf, privateOf, withInterfaces, atCounts, interfaceRow}
 use Rattle.rules.specs.Calls.{Call}
 use Rattle.rules.specs.Sound.{sound}
-use Rattle.rules.specs.Rules.{noInterface, interfaceOf, passesCount, refusals, number, next, results, refused, done}
+use Rattle.rules.specs.Rules.{noInterface, interfaceOf, passesCount, refusals, number, next, results, refusedReply, acceptedReply}
 use Rattle.rules.proofs.ByRow.{interfaceIn, interface-row}
 use Rattle.rules.proofs.CountRows.{add-row}
 use Rattle.table.specs.View.{interfaceCount, interfacesOf, memory, view}
 use Rattle.table.specs.Counts.{countsAt}
-use Rattle.table.specs.Edits.{changeInterface}
+use Rattle.edit.specs.Edits.{changeInterface}
 use Rattle.table.specs.declared.find.InterfaceCounts.{InterfaceCounts}
 use Rattle.table.proofs.LiveRows.{interfaces-length}
 use Rattle.calls.proofs.Calls.{refused-step, accepted-step, row-gives, row-passes, gone-gives, live-passes, rows-end, two-rows, interface-tested}
-use Rattle.counting.proofs.Counts.{counts-as}
+use Rattle.counting.proofs.TwoCounts.{counts-as}
 use Rattle.counting.proofs.Releasing.{client-missing, client-here}
 use borrow.Author.Needs.{needs}
 use Rattle.counting.proofs.add_step.Statement.{statement}
@@ -78,7 +78,7 @@ sums-left c =
     (c .interface-counts .ensures) (c .before .before .if2 .left)
 
 returns : tie.Need-returns
-unfolding refused results
+unfolding refusedReply results
 returns c =
     let a = c .before .before .before .args in
     refused-step 20 (no-client (a .words .now) (a .store .now) (a .client) (a .ipid) (a .public) (a .private) (c .if1 .taken)) (λ z. omega arith)
@@ -93,7 +93,7 @@ same-length : tie.Need-same-length
 same-length c = search needs
 
 returns-2 : tie.Need-returns-2
-unfolding refused results
+unfolding refusedReply results
 returns-2 c =
     let a = c .before .before .before .before .before .before .before .before .args in
     refused-step 6
@@ -119,7 +119,7 @@ same-length-2 : tie.Need-same-length-2
 same-length-2 c = search needs
 
 returns-3 : tie.Need-returns-3
-unfolding refused results
+unfolding refusedReply results
 returns-3 c =
     refused-step 8
     (row-gives _ _ _ (sums-left (c .before .before .before)) (passes-count _ (c .if3 .taken)))
@@ -129,7 +129,7 @@ same-length-3 : tie.Need-same-length-3
 same-length-3 c = search needs
 
 returns-4 : tie.Need-returns-4
-unfolding refused results
+unfolding refusedReply results
 returns-4 c =
     refused-step 8
     (row-gives _ _ _ (row-passes _ _ _ (sums-left (c .before .before .before .before)) (within-count _ (c .before .if3 .left))) (passes-count _ (c .if4 .taken)))
@@ -148,7 +148,7 @@ same-length-4 : tie.Need-same-length-4
 same-length-4 c = search needs
 
 returns-5 : tie.Need-returns-5
-unfolding done results
+unfolding acceptedReply results
 returns-5 c =
     let a = c .before .before .before .before .before .before .before .before .before .before .before .before .before .before .before .before .before .before .args in
     let t = c .before .before .before .before .before .before .before .before .before .before .before .before .before .before .before .before .before .before .pre in

@@ -5,7 +5,7 @@ use Prim.Native.Nat.{ℕ, _<_, _≤_}
 use Rattle.rules.specs.Entries.{Entries, oids}
 use Rattle.rules.specs.Calls.{Call}
 use Rattle.rules.specs.Sound.{proper, setMembersLive}
-use Rattle.rules.specs.Rules.{refusals, number, results, refused, done}
+use Rattle.rules.specs.Rules.{refusals, number, results, refusedReply, acceptedReply}
 use Rattle.rules.proofs.SoundLaws.{sound-fields}
 use Rattle.table.specs.View.{memory, view}
 use Rattle.settling.specs.Leaving.{withoutLeaving, heldLeft}
@@ -28,7 +28,7 @@ module _ (e : Entries) (c : ℕ) where
   here h = rows-end (row-passes _ _ _ refl (client-here c h))
 
 returns : tie.Need-returns
-unfolding refused results
+unfolding refusedReply results
 returns c =
     let a = c .before .before .before .args in
     refused-step 20 (missing (view (memory (a .words .now) (a .store .now))) (a .client) (c .if1 .taken)) (λ z. omega arith)
@@ -51,7 +51,7 @@ same-length : tie.Need-same-length
 same-length c = search needs
 
 returns-2 : tie.Need-returns-2
-unfolding done results
+unfolding acceptedReply results
 returns-2 c =
     let a = c .before .before .before .before .before .before .before .before .before .before .before .before .before .before .before .args in
     let e : Entries = view (memory (a .words .now) (a .store .now)) in

@@ -6,7 +6,7 @@ use Rattle.rules.specs.Entries.{Entries, oids, atCounts}
 use Rattle.table.specs.View.{interfaceCount}
 use Rattle.rules.specs.Sound.{proper, setMembersLive}
 use Rattle.rules.proofs.SoundLaws.{sound-fields}
-use Rattle.counting.proofs.Counts.{still-counted}
+use Rattle.counting.proofs.TwoCounts.{still-counted}
 use Rattle.counting.proofs.Releasing.{Row, Taking, no-client, no-interface, counted-done, empty-done}
 use borrow.Author.Needs.{needs}
 use Rattle.counting.proofs.release_step.Statement.{statement}

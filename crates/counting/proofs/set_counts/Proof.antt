@@ -4,9 +4,9 @@ use native.Mathlib.Omega.{arith}
 use native.Mathlib.Numerals.{add-one}
 use Rattle.rules.specs.Entries.{Entries, withCount}
 use Rattle.table.specs.View.{memory, view}
-use Rattle.table.specs.Edits.{changeInterface}
+use Rattle.edit.specs.Edits.{changeInterface}
 use Rattle.table.proofs.LiveRows.{interfaces-length}
-use Rattle.counting.proofs.Counts.{both-counts, still-counted}
+use Rattle.counting.proofs.TwoCounts.{both-counts, still-counted}
 use borrow.Author.Needs.{needs}
 use Rattle.counting.proofs.set_counts.Statement.{statement}
 use Rattle.counting.proofs.set_counts.Tie as tie

@@ -1,7 +1,7 @@
 -- `entering::enter_exporter_step`: refused as the number says; else the exporter is entered with its list.
 use mathlib.Core.Path.{sym, _∙_}
 use native.Mathlib.Omega.{arith}
-use Rattle.rules.specs.Rules.{next, results, refused, done}
+use Rattle.rules.specs.Rules.{next, results, refusedReply, acceptedReply}
 use Rattle.rules.proofs.SoundLaws.{sound-fields}
 use Rattle.table.specs.View.{memory, view}
 use Rattle.table.proofs.LiveRows.{exporters-length}
@@ -22,17 +22,18 @@ same-length-2 : tie.Need-same-length-2
 same-length-2 c = search needs
 
 returns : tie.Need-returns
-unfolding refused results
+unfolding refusedReply results
 returns c = refused-step _ (c .before .exporter-number .ensures) (c .if1 .taken)
 
 put-exporter-requires : tie.Need-put-exporter-requires
 put-exporter-requires c κs =
     let a = c .before .before .before .before .before .before .before .before .before .args in
     let t = c .before .before .before .before .before .before .before .before .before .pre in
-    let fits = exporter-fits (view (memory (a .words .now) (a .store .now))) (a .oxid .0) (a .unknown) (a .list .now) (sym (c .before .before .before .exporter-number .ensures) ∙ c .before .before .if1 .left) in
+    let fits = exporter-fits (view (memory (a .words .now) (a .store .now))) (a .list .now) (a .oxid .0) (a .unknown) (sym (c .before .before .before .exporter-number .ensures) ∙ c .before .before .if1 .left) in
     let l = exporters-length (a .words .now) (a .store .now) in
+    let p = fits .2 in
     let b = bytes-live (a .words .now) (a .store .now) (sound-fields _ (t .entries) .listsKept) in
-    (t .words, t .store, omega arith, fits .0, rw (← b) (fits .2))
+    (t .words, t .store, omega arith, fits .0, rw (← b) (fits .3))
 
 same-length-3 : tie.Need-same-length-3
 same-length-3 c = search needs
@@ -41,7 +42,7 @@ same-length-4 : tie.Need-same-length-4
 same-length-4 c = search needs
 
 returns-2 : tie.Need-returns-2
-unfolding done results next
+unfolding acceptedReply results next
 returns-2 c =
     let t = c .before .before .before .before .before .before .before .before .before .before .before .before .before .before .pre in
     accepted-step _ (c .before .before .before .before .before .before .before .before .exporter-number .ensures) (c .before .before .before .before .before .before .before .if1 .left) _ (c .before .before .before .before .put-exporter .ensures)

@@ -2,7 +2,7 @@
 use mathlib.Core.Path.{_≡_, refl}
 use native.Mathlib.Omega.{arith}
 use lib.ListN.{length}
-use Rattle.rules.specs.Rules.{results, refused}
+use Rattle.rules.specs.Rules.{results, refusedReply}
 use Rattle.calls.proofs.Calls.{sound-table, unsound-call, stepped-call}
 use borrow.Author.Needs.{needs}
 use Rattle.entering.proofs.enter_interface.Statement.{statement}
@@ -15,7 +15,7 @@ same-length : tie.Need-same-length
 same-length c = search needs
 
 returns : tie.Need-returns
-unfolding refused results
+unfolding refusedReply results
 returns c = unsound-call (c .before .sound .ensures) _ refl (c .if1 .taken)
 
 enter-interface-step-requires : tie.Need-enter-interface-step-requires

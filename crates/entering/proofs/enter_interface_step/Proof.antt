@@ -1,7 +1,7 @@
 -- `entering::enter_interface_step`: refused as the number says; else the interface is entered.
 use mathlib.Core.Path.{sym, _∙_}
 use native.Mathlib.Omega.{arith}
-use Rattle.rules.specs.Rules.{next, results, refused, done}
+use Rattle.rules.specs.Rules.{next, results, refusedReply, acceptedReply}
 use Rattle.table.specs.View.{memory, view}
 use Rattle.table.proofs.LiveRows.{interfaces-length}
 use Rattle.calls.proofs.Calls.{refused-step, accepted-step}
@@ -17,7 +17,7 @@ same-length : tie.Need-same-length
 same-length c = search needs
 
 returns : tie.Need-returns
-unfolding refused results
+unfolding refusedReply results
 returns c =
     let a = c .before .before .before .before .before .args in
     refused-step _ (c .before .interface-number .ensures (a .store .now) (a .iid)) (c .if1 .taken)
@@ -33,7 +33,7 @@ same-length-2 : tie.Need-same-length-2
 same-length-2 c = search needs
 
 returns-2 : tie.Need-returns-2
-unfolding done results next
+unfolding acceptedReply results next
 returns-2 c =
     let a = c .before .before .before .before .before .before .before .before .before .args in
     let t = c .before .before .before .before .before .before .before .before .before .pre in

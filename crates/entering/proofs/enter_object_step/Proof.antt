@@ -4,9 +4,9 @@ use mathlib.Core.Path.{_≡_, sym, ap, _∙_}
 use native.Mathlib.Omega.{arith}
 use lib.ListN.{length}
 use Rattle.rules.specs.Entries.{Entries, objectPlaces, interfacePlaces}
-use Rattle.rules.specs.Rules.{next, results, refused, done}
+use Rattle.rules.specs.Rules.{next, results, refusedReply, acceptedReply}
 use Rattle.table.specs.View.{memory, view}
-use Rattle.table.specs.Edits.{addInterface}
+use Rattle.edit.specs.Edits.{addInterface}
 use Rattle.table.proofs.LiveRows.{objects-length, interfaces-length}
 use Rattle.calls.proofs.Calls.{sound-below, refused-step, accepted-step}
 use Rattle.entering.proofs.Places.{object-fits}
@@ -21,7 +21,7 @@ same-length : tie.Need-same-length
 same-length c = search needs
 
 returns : tie.Need-returns
-unfolding refused results
+unfolding refusedReply results
 returns c =
     let a = c .before .before .before .before .before .args in
     refused-step _ (c .before .object-number .ensures (a .store .now) (a .iid) (a .no-ping)) (c .if1 .taken)
@@ -59,7 +59,7 @@ same-length-2 : tie.Need-same-length-2
 same-length-2 c = search needs
 
 returns-2 : tie.Need-returns-2
-unfolding done results next
+unfolding acceptedReply results next
 returns-2 c =
     let a = c .before .before .before .before .before .before .before .before .before .before .before .before .before .args in
     let s = a .store .now in

@@ -6,9 +6,9 @@ use mathlib.Core.Path.{_≡_}
 use lib.ListN.{length}
 use Rattle.kinds.specs.Refusals.{order}
 use Rattle.rules.specs.Calls.{Call}
-use Rattle.rules.specs.Rules.{refusals, number, next, results, refused, done}
+use Rattle.rules.specs.Rules.{refusals, number, next, results, refusedReply, acceptedReply}
 use Rattle.rules.specs.Contract.{fit, soundMemory}
-use Rattle.rules.proofs.Performing.{unfit, accepted}
+use Rattle.rules.proofs.Performing.{unfit, accepted, fit-lengths}
 use Rattle.table.specs.View.{memory, view}
 use Rattle.rules.proofs.Keeps.{fresh-sound}
 use borrow.Author.Needs.{needs}
@@ -16,13 +16,13 @@ use Rattle.entering.proofs.reset.Statement.{statement}
 use Rattle.entering.proofs.reset.Tie as tie
 
 returns : tie.Need-returns
-unfolding refused results fit
+unfolding refusedReply results fit
 returns c =
     let a = c .before .before .before .args in
     unfit view (Call.reset (a .time)) (memory (a .words .now) (a .store .now)) (rw (ne-eqb _ _ (c .if1 .taken)))
 
 returns-2 : tie.Need-returns-2
-unfolding refused results fit
+unfolding refusedReply results fit
 returns-2 c =
     let a = c .before .before .before .before .args in
     unfit view (Call.reset (a .time)) (memory (a .words .now) (a .store .now)) (rw (eq-eqb _ _ (c .before .if1 .left), ne-eqb _ _ (c .if2 .taken)))
@@ -34,7 +34,7 @@ same-length : tie.Need-same-length
 same-length c = search needs
 
 returns-3 : tie.Need-returns-3
-unfolding done results fit number refusals order next soundMemory
+unfolding acceptedReply results number refusals order next soundMemory
 returns-3 c =
     let e = c .before .before .before .before in
     let a = e .before .before .before .before .args in
@@ -43,7 +43,7 @@ returns-3 c =
     let view-is = c .before .before .clear .ensures (a .store .now) in
     let l : length (c .before .before .clear .last .0) ≡ 8192 = omega arith in
     accepted view (Call.reset (a .time)) (memory (a .words .now) (a .store .now)) _
-    (rw (eq-eqb _ _ size, eq-eqb _ _ bytes)) refl
+    (fit-lengths view (Call.reset (a .time)) (memory (a .words .now) (a .store .now)) refl size bytes) refl
     (rw (eq-eqb _ _ l, eq-eqb _ _ bytes, view-is) (fresh-sound (a .time)))
     view-is
 

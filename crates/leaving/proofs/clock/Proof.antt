@@ -2,7 +2,7 @@
 use mathlib.Core.Path.{_≡_, refl}
 use native.Mathlib.Omega.{arith}
 use lib.ListN.{length}
-use Rattle.rules.specs.Rules.{results, refused}
+use Rattle.rules.specs.Rules.{results, refusedReply}
 use Rattle.calls.proofs.Calls.{sound-table, unsound-call, stepped-call}
 use borrow.Author.Needs.{needs}
 use Rattle.leaving.proofs.clock.Statement.{statement}
@@ -18,7 +18,7 @@ same-length : tie.Need-same-length
 same-length c = search needs
 
 returns : tie.Need-returns
-unfolding refused results
+unfolding refusedReply results
 returns c = rw (c .refused .ensures) (unsound-call (c .before .before .sound .ensures) _ refl (c .before .if1 .taken))
 
 clock-step-requires : tie.Need-clock-step-requires

@@ -1,7 +1,7 @@
 -- `leaving::clock_step`: a table that is not sound is refused, then a time before the clock; else the sets go, then the objects, and the counts fall.
 use native.Mathlib.Omega.{arith}
 use borrow.Author.Tests.{lt-ltb, le-ltb}
-use Rattle.rules.specs.Rules.{refused}
+use Rattle.rules.specs.Rules.{refusedReply}
 use Rattle.settling.proofs.Settling.{asked}
 use Rattle.leaving.proofs.Expiring.{clock-back, ids-proper, members-live, fewer-objects, fewer-interfaces, fewer-sets, clock-done}
 use borrow.Author.Needs.{needs}

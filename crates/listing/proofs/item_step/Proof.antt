@@ -2,7 +2,7 @@
 use mathlib.Core.Path.{_≡_}
 use native.Mathlib.Omega.{arith}
 use lib.ListN.{length}
-use Rattle.listing.proofs.Items.{item-back, item-added}
+use Rattle.listing.proofs.ItemSteps.{item-back, item-added}
 use borrow.Author.Needs.{needs}
 use Rattle.listing.proofs.item_step.Statement.{statement}
 use Rattle.listing.proofs.item_step.Tie as tie

@@ -6,7 +6,7 @@ use native.Mathlib.Omega.{arith}
 use borrow.Author.Tests.{eq-eqb, ne-eqb, not-true, not-false}
 use lib.ListN.{length}
 use Rattle.rules.specs.Calls.{Call}
-use Rattle.rules.specs.Rules.{results, refused, done}
+use Rattle.rules.specs.Rules.{results, refusedReply, acceptedReply}
 use Rattle.rules.proofs.Performing.{unfit}
 use Rattle.rules.specs.Contract.{fit}
 use Rattle.table.specs.View.{memory, view}
@@ -15,13 +15,13 @@ use Rattle.loading.proofs.load_snapshot.Statement.{statement}
 use Rattle.loading.proofs.load_snapshot.Tie as tie
 
 returns : tie.Need-returns
-unfolding refused results fit
+unfolding refusedReply results fit
 returns c =
     let a = c .before .before .before .before .args in
     unfit view (Call.loadSnapshot (a .snapshot .now)) (memory (a .words .now) (a .store .now)) (rw (ne-eqb _ _ (c .if1 .taken)))
 
 returns-2 : tie.Need-returns-2
-unfolding refused results fit
+unfolding refusedReply results fit
 returns-2 c =
     let a = c .before .before .before .before .before .args in
     unfit view (Call.loadSnapshot (a .snapshot .now)) (memory (a .words .now) (a .store .now)) (rw (eq-eqb _ _ (c .before .if1 .left), ne-eqb _ _ (c .if2 .taken)))
@@ -36,7 +36,7 @@ read-snapshot-requires : tie.Need-read-snapshot-requires
 read-snapshot-requires c κs = search needs
 
 returns-3 : tie.Need-returns-3
-unfolding refused results
+unfolding refusedReply results
 returns-3 c =
     let a = c .before .before .before .before .before .before .before .before .before .before .before .args in
     load-refused (a .snapshot .now) (memory (a .words .now) (a .store .now)) (c .before .before .before .before .before .before .before .if1 .left) (c .before .before .before .before .before .before .if2 .left)
@@ -61,7 +61,7 @@ same-length-2 : tie.Need-same-length-2
 same-length-2 c = search needs
 
 returns-4 : tie.Need-returns-4
-unfolding done results
+unfolding acceptedReply results
 returns-4 c =
     let a = c .before .before .before .before .before .before .before .before .before .before .before .before .before .before .before .before .before .before .before .before .before .args in
     let h = c .before .before .before .before .before .before .before .before .before .before .before .before .before .read-snapshot in

@@ -2,7 +2,7 @@
 use mathlib.Core.Path.{_≡_, refl, sym, _∙_}
 use native.Mathlib.Omega.{arith}
 use Rattle.rules.specs.Calls.{Call}
-use Rattle.rules.specs.Rules.{number, results, refused, done}
+use Rattle.rules.specs.Rules.{number, results, refusedReply, acceptedReply}
 use Rattle.table.specs.View.{memory, view, SoundTable}
 use Rattle.table.proofs.LiveRows.{sets-length}
 use Rattle.calls.proofs.Calls.{refused-step, accepted-step}
@@ -21,7 +21,7 @@ same-length : tie.Need-same-length
 same-length c = search needs
 
 returns : tie.Need-returns
-unfolding refused results
+unfolding refusedReply results
 returns c =
     let a = c .before .before .before .before .before .before .before .before .args in
     rw (c .refused .ensures) (refused-step _ (c .before .before .complex-number .ensures (a .store .now)) (c .before .if1 .taken))
@@ -72,7 +72,7 @@ same-length-2 : tie.Need-same-length-2
 same-length-2 c = search needs
 
 returns-2 : tie.Need-returns-2
-unfolding done results
+unfolding acceptedReply results
 returns-2 c =
     let a = c .before .before .before .before .before .before .before .before .before .before .before .before .before .before .before .before .before .before .before .before .before .args in
     let r = c .before .before .before .before .before .before .before .before .before .before .ping-set-row in

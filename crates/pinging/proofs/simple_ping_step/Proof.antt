@@ -4,7 +4,7 @@ use mathlib.Core.Path.{refl, sym, ap, _∙_}
 use native.Mathlib.Omega.{arith}
 use borrow.Author.Tests.{eq-eqb, ne-eqb}
 use lib.ListN.{length}
-use Rattle.rules.specs.Rules.{results, refused, done}
+use Rattle.rules.specs.Rules.{results, refusedReply, acceptedReply}
 use Rattle.rules.proofs.SoundLaws.{sound-fields}
 use Rattle.rules.proofs.PingRows.{simple-ping-row}
 use Rattle.rules.specs.PingRows.{pingedRow}
@@ -18,7 +18,7 @@ use Rattle.pinging.proofs.simple_ping_step.Tie as tie
 use Rattle.rules.specs.Entries.{setRow}
 
 returns : tie.Need-returns
-unfolding refused results
+unfolding refusedReply results
 returns c =
     refused-step 11 (row-gives _ _ _ (simple-rows _ _) (eq-eqb _ 0 (c .if1 .taken))) (λ z. omega arith)
 
@@ -32,7 +32,7 @@ same-length : tie.Need-same-length
 same-length c = search needs
 
 returns-2 : tie.Need-returns-2
-unfolding refused results
+unfolding refusedReply results
 returns-2 c =
     let a = c .before .before .before .before .before .before .before .before .before .args in
     refused-step 11
@@ -51,7 +51,7 @@ same-length-2 : tie.Need-same-length-2
 same-length-2 c = search needs
 
 returns-3 : tie.Need-returns-3
-unfolding done results
+unfolding acceptedReply results
 returns-3 c =
     let a = c .before .before .before .before .before .before .before .before .before .before .before .before .before .args in
     let e = view (memory (a .words .now) (a .store .now)) in

@@ -3,7 +3,7 @@ use native.Mathlib.Omega.{arith}
 use borrow.Author.Needs.{needs}
 use Rattle.rules.specs.Entries.{oids}
 use Rattle.table.specs.View.{memory, view}
-use Rattle.table.proofs.edit.Members.{oids-length}
+use Rattle.table.proofs.MemberRows.{oids-length}
 use Rattle.pinging.proofs.Memberships.{put-none, put-one}
 use Rattle.pinging.proofs.update_member.Statement.{statement}
 use Rattle.pinging.proofs.update_member.Tie as tie

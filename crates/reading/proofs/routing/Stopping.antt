@@ -20,7 +20,7 @@ use Rattle.lists.specs.Lists.{firstIndex}
 use Rattle.rules.specs.Entries.{Entries, oxids, exporterRow}
 use Rattle.rules.specs.Calls.{Call, Reply}
 use Rattle.rules.specs.Sound.{listsKept}
-use Rattle.rules.specs.Rules.{isLiveExporter, noExporter, oxidOf, refusals, number, next, results, refused, done}
+use Rattle.rules.specs.Rules.{isLiveExporter, noExporter, oxidOf, refusals, number, next, results, refusedReply, acceptedReply}
 use Rattle.rules.specs.Contract.{Memory, replyTo}
 use Rattle.rules.proofs.Performing.{unsound}
 use Rattle.rules.proofs.SoundLaws.{table-fields}
@@ -76,37 +76,37 @@ module _ (ws s : List ℕ) (i : ℕ) (live : i < exporterCount ws) (kept : lists
 
 module _ (ws s reference : List ℕ) where
   -- a refusal
-  pub refused-stop : (n : ℕ) → (n ≡ 0 → ⊥) → Performed (Call.nextStop reference) (memory ws s) (refused n (Call.nextStop reference) (view (memory ws s))) (memory ws s)
+  pub refused-stop : (n : ℕ) → (n ≡ 0 → ⊥) → Performed (Call.nextStop reference) (memory ws s) (refusedReply n (Call.nextStop reference) (view (memory ws s))) (memory ws s)
       → StopFound (memory ws s) reference (refusedStop n)
-  unfolding refused results stopPlace
+  unfolding refusedReply results stopPlace
   refused-stop n z h =
       let e : replyTo view (Call.nextStop reference) (memory ws s) .number ≡ n = sym (ap (λ (r : Reply). r .number) (h .answered)) in
       record { performed = h; place = rw (e, ne-eqb n 0 z); within = (omega arith, omega arith) }
 
-  module _ (h : Performed (Call.nextStop reference) (memory ws s) (done (Call.nextStop reference) (view (memory ws s))) (memory ws s)) where
-    done-number : replyTo view (Call.nextStop reference) (memory ws s) .number ≡ 0
-    unfolding done
-    done-number = sym (ap (λ (r : Reply). r .number) (h .answered))
+  module _ (h : Performed (Call.nextStop reference) (memory ws s) (acceptedReply (Call.nextStop reference) (view (memory ws s))) (memory ws s)) where
+    accepted-number : replyTo view (Call.nextStop reference) (memory ws s) .number ≡ 0
+    unfolding acceptedReply
+    accepted-number = sym (ap (λ (r : Reply). r .number) (h .answered))
 
     -- the OXID is live: its exporter's list
     pub store-stop : {i : ℕ} → i ≡ exporterRow (view (memory ws s)) (oxidOf reference) → isLiveExporter (view (memory ws s)) (oxidOf reference) ≡ true
         → i < exporterCount ws → listsKept (view (memory ws s)) ≡ true → StopFound (memory ws s) reference (stopInStore (memory ws s) i)
-    unfolding done results stopPlace
+    unfolding acceptedReply results stopPlace
     store-stop {i} row live l kept =
         record {
           performed = rw (list-bytes ws s i l kept, exporter-in-row ws s (oxidOf reference) row) (rw live at h);
-          place = rw (done-number, live, ← row);
+          place = rw (accepted-number, live, ← row);
           within = (omega arith, list-within ws s i l kept);
         }
 
     -- it is not: the reference's own list
     pub reference-stop : referenceAnswer reference ≡ 0 → isLiveExporter (view (memory ws s)) (oxidOf reference) ≡ false
         → StopFound (memory ws s) reference (stopInReference (tailPlace reference))
-    unfolding done results stopPlace
+    unfolding acceptedReply results stopPlace
     reference-stop good gone =
         record {
           performed = rw (tail-number reference ∙ good, tail-bytes reference) (rw gone at h);
-          place = rw (done-number, gone);
+          place = rw (accepted-number, gone);
           within = tail-within reference;
         }
 
@@ -137,16 +137,16 @@ module _ (m : Memory) (reference : List ℕ) {n : ℕ} {part : List ℕ} (e : n 
 
   by-outcome : (sound accepted : Bool) → soundMemory m ≡ sound → eqb (number (Call.nextStop reference) (view m)) 0 ≡ accepted
       → Performed (Call.nextStop reference) m (stopReply n (stopPlace m reference .in_store) part) m
-  unfolding next refused done results
+  unfolding next refusedReply acceptedReply results
   by-outcome false a s t =
       let h = unsound view (Call.nextStop reference) m refl s in
       as-performed {i = false} h (in-store m reference 1 (ap (λ (r : Reply). r .number) (h .answered)))
   by-outcome true false s t =
-      let h : Performed (Call.nextStop reference) m (refused (number (Call.nextStop reference) (view m)) (Call.nextStop reference) (view m)) m =
+      let h : Performed (Call.nextStop reference) m (refusedReply (number (Call.nextStop reference) (view m)) (Call.nextStop reference) (view m)) m =
       step-call refl (table-fields view m s) (refused-step _ refl (eqb-false _ _ t)) in
       as-performed {i = false} h (in-store m reference _ (ap (λ (r : Reply). r .number) (h .answered)) ∙ rw t)
   by-outcome true true s t =
-      let h : Performed (Call.nextStop reference) m (done (Call.nextStop reference) (view m)) m =
+      let h : Performed (Call.nextStop reference) m (acceptedReply (Call.nextStop reference) (view m)) m =
       step-call refl (table-fields view m s) (accepted-step _ refl (eqb-true _ _ t) m refl) in
       as-performed h (in-store m reference 0 (ap (λ (r : Reply). r .number) (h .answered)))
 

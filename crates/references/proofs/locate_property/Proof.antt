@@ -6,10 +6,9 @@ use borrow.Author.Tests.{eq-eqb, ne-eqb, not-true, not-false}
 use lib.ListN.{length, drop, length-drop}
 use Rattle.fields.proofs.Fields.{take-rest}
 use Rattle.bindings.specs.Bindings.{refusal}
-use Rattle.contexts.specs.Contexts.{propertyPlace}
+use Rattle.contexts.specs.Contexts.{propertyPlace, isMarshaler}
 use Rattle.contexts.proofs.Properties.{property-within}
 use Rattle.references.specs.References.{moved, referenceAnswer, contextPlace}
-use Rattle.contexts.specs.Contexts.{isMarshaler}
 use Rattle.references.proofs.Forms.{accepted, custom-room, property-refused, property-none, property-other, property-moved}
 use borrow.Author.Needs.{needs}
 use Rattle.references.proofs.locate_property.Statement.{statement}

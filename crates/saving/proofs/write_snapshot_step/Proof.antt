@@ -8,7 +8,7 @@ use borrow.Author.Tests.{lt-ltb, le-ltb}
 use lib.ListN.{length}
 use Rattle.fields.proofs.Fields.{written-front}
 use Rattle.rules.specs.Calls.{Call}
-use Rattle.rules.specs.Rules.{refusals, number, next, results, refused, done}
+use Rattle.rules.specs.Rules.{refusals, number, next, results, refusedReply, acceptedReply}
 use Rattle.rules.specs.Snapshot.{snapshotBytes}
 use Rattle.table.specs.View.{memory, view}
 use Rattle.snapshot_rows.specs.Writing.{Wrote}
@@ -27,8 +27,8 @@ module _ (ws store buffer : List ℕ) {n : ℕ} (counted : n ≡ length (snapsho
 
   -- length and buffer are those of the rules
   answered : {after : List ℕ} {end : ℕ} → Wrote buffer 0 (snapshotBytes (view (memory ws store))) after end → n ≤ length buffer
-      → writtenReply (record { answer = 0; length = end }) after ≡ done (Call.writeSnapshot buffer) (view (memory ws store))
-  unfolding done results
+      → writtenReply (record { answer = 0; length = end }) after ≡ acceptedReply (Call.writeSnapshot buffer) (view (memory ws store))
+  unfolding acceptedReply results
   answered w fits =
       let room : length (snapshotBytes (view (memory ws store))) ≤ length buffer = omega arith in
       let whole = w .held ∙ written-front buffer (snapshotBytes (view (memory ws store))) room in
@@ -47,7 +47,7 @@ refused-requires : tie.Need-refused-requires
 refused-requires c κs = search needs
 
 returns : tie.Need-returns
-unfolding refused results
+unfolding refusedReply results
 returns c =
     let a = c .before .before .before .before .before .before .args in
     rw (c .refused .ensures)

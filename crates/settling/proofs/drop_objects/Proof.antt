@@ -8,11 +8,10 @@ use lib.Dec.{eqb}
 use lib.ListN.{length}
 use Rattle.lists.specs.Lists.{distinct}
 use Rattle.rules.specs.Entries.{Entries, oids}
-use Rattle.table.specs.Edits.{membersBelow}
+use Rattle.table.specs.View.{membersBelow, memory, view}
 use borrow.Author.Needs.{needs}
 use Rattle.settling.specs.Leaving.{stays, objectsLeft}
 use Rattle.rules.specs.Rules.{noObject}
-use Rattle.table.specs.View.{memory, view}
 use Rattle.table.proofs.LiveRows.{objects-length}
 use Rattle.settling.proofs.Going.{ObjectsGoing, going-none, objects-row, objects-all, distinct-left, below-live}
 use Rattle.settling.proofs.drop_objects.Statement.{statement}

@@ -4,7 +4,7 @@ use mathlib.Core.Path.{_≡_}
 use native.Mathlib.Omega.{arith}
 use borrow.Author.Needs.{needs}
 use lib.ListN.{length}
-use Rattle.columns.proofs.rows.Loops.{PutTo, put-none, put-one, put-all, next-column, column-in}
+use Rattle.columns.proofs.rows.MovedRows.{PutTo, put-none, put-one, put-all, next-column, column-in}
 use Rattle.columns.proofs.rows.put_row.Statement.{statement}
 use Rattle.columns.proofs.rows.put_row.Tie as tie
 

@@ -4,7 +4,7 @@ use mathlib.Core.Path.{_≡_}
 use native.Mathlib.Omega.{arith}
 use borrow.Author.Needs.{needs}
 use lib.ListN.{length}
-use Rattle.columns.proofs.rows.Loops.{RemovedTo, removed-none, removed-one, removed-all, next-column, column-in}
+use Rattle.columns.proofs.rows.MovedRows.{RemovedTo, removed-none, removed-one, removed-all, next-column, column-in}
 use Rattle.columns.proofs.rows.remove_row.Statement.{statement}
 use Rattle.columns.proofs.rows.remove_row.Tie as tie
 

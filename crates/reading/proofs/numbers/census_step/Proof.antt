@@ -4,7 +4,7 @@ use mathlib.Core.List.{List, [], _∷_}
 use Prim.Native.Nat.{ℕ}
 use Rattle.kinds.specs.Refusals.{order}
 use Rattle.rules.specs.Calls.{Call}
-use Rattle.rules.specs.Rules.{liveNumbers, refusals, number, next, results, done}
+use Rattle.rules.specs.Rules.{liveNumbers, refusals, number, next, results, acceptedReply}
 use Rattle.table.specs.View.{memory, view, Stepped}
 use Rattle.table.proofs.LiveRows.{exporters-length, objects-length, interfaces-length, sets-length}
 use Rattle.calls.proofs.Calls.{accepted-step}
@@ -25,7 +25,7 @@ set-count-requires : tie.Need-set-count-requires
 set-count-requires c κs = search needs
 
 returns : tie.Need-returns
-unfolding done results number refusals order next
+unfolding acceptedReply results number refusals order next
 returns c =
     let a = c .before .before .before .before .before .before .args in
     let ws = a .words .now in

@@ -1,6 +1,6 @@
 -- `numbers::members`: a table that is not sound is refused; else the step is the call.
 use mathlib.Core.Path.{refl}
-use Rattle.rules.specs.Rules.{results, refused}
+use Rattle.rules.specs.Rules.{results, refusedReply}
 use Rattle.calls.proofs.Calls.{sound-table, unsound-call, stepped-call}
 use borrow.Author.Needs.{needs}
 use Rattle.reading.proofs.numbers.members.Statement.{statement}
@@ -10,7 +10,7 @@ sound-requires : tie.Need-sound-requires
 sound-requires c κs = search needs
 
 returns : tie.Need-returns
-unfolding refused results
+unfolding refusedReply results
 returns c = unsound-call (c .before .sound .ensures) _ refl (c .if1 .taken)
 
 members-step-requires : tie.Need-members-step-requires

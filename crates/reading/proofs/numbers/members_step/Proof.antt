@@ -8,11 +8,10 @@ use Rattle.columns.specs.Members.{memberRows}
 use Rattle.columns.specs.declared.members.Members.{Members}
 use Rattle.rules.specs.Entries.{PingSet, setRow}
 use Rattle.rules.specs.Calls.{Call}
-use Rattle.rules.specs.Rules.{noSet, setOf, refusals, number, next, results, refused, done}
+use Rattle.rules.specs.Rules.{noSet, setOf, refusals, number, next, results, refusedReply, acceptedReply}
 use Rattle.rules.proofs.ByRow.{set-row}
-use Rattle.table.specs.View.{setCount, setsOf, memory, view, Stepped}
-use Rattle.table.specs.Edits.{membersAt}
-use Rattle.table.proofs.edit.Below.{row-members}
+use Rattle.table.specs.View.{setCount, setsOf, memory, view, Stepped, membersAt}
+use Rattle.table.proofs.MemberRows.{row-members}
 use Rattle.calls.proofs.Calls.{refused-step, accepted-step, gone-gives, live-passes, rows-end, set-tested}
 use borrow.Author.Needs.{needs}
 use Rattle.reading.proofs.numbers.members_step.Statement.{statement}
@@ -43,7 +42,7 @@ set-count-requires : tie.Need-set-count-requires
 set-count-requires c κs = search needs
 
 returns : tie.Need-returns
-unfolding refused results
+unfolding refusedReply results
 returns c =
     let a = c .before .before .before .before .before .args in
     refused-step 11 (gone (a .words .now) (a .store .now) (a .set .0) (c .before .before .set-row .ensures (a .store .now)) (c .before .set-count .ensures .0) (c .if1 .taken)) (λ z. omega arith)
@@ -55,7 +54,7 @@ size-requires : tie.Need-size-requires
 size-requires c κs = search needs
 
 returns-2 : tie.Need-returns-2
-unfolding done results next
+unfolding acceptedReply results next
 returns-2 c =
     let a = c .before .before .before .before .before .before .before .args in
     let m = memory (a .words .now) (a .store .now) in

@@ -1,6 +1,6 @@
 -- `resolving::resolve`: a table that is not sound is refused; else the step is the call.
 use mathlib.Core.Path.{refl}
-use Rattle.rules.specs.Rules.{results, refused}
+use Rattle.rules.specs.Rules.{results, refusedReply}
 use Rattle.calls.proofs.Calls.{sound-table, unsound-call, stepped-call}
 use borrow.Author.Needs.{needs}
 use Rattle.reading.proofs.resolving.resolve.Statement.{statement}
@@ -13,7 +13,7 @@ refused-requires : tie.Need-refused-requires
 refused-requires c κs = search needs
 
 returns : tie.Need-returns
-unfolding refused results
+unfolding refusedReply results
 returns c = rw (c .refused .ensures) (unsound-call (c .before .before .sound .ensures) _ refl (c .before .if1 .taken))
 
 resolve-step-requires : tie.Need-resolve-step-requires

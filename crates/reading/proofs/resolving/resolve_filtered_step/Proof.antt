@@ -9,11 +9,11 @@ use Rattle.kinds.specs.Refusals.{order, _gives_}
 use Rattle.bindings.specs.Bindings.{listAnswer}
 use Rattle.bindings.specs.Filter.{filtered}
 use Rattle.rules.specs.Calls.{Call}
-use Rattle.rules.specs.Rules.{number, next, results, refused}
+use Rattle.rules.specs.Rules.{number, next, results, refusedReply}
 use Rattle.rules.proofs.SoundLaws.{sound-fields}
 use Rattle.table.specs.View.{memory, view}
 use Rattle.calls.proofs.Calls.{refused-step, accepted-step, row-gives, row-passes, rows-end}
-use Rattle.reading.proofs.resolving.Filtering.{kept-list, filter-room, filter-short, filter-length, too-many, gone, length-left, answered}
+use Rattle.reading.proofs.resolving.FilteredReplies.{kept-list, filter-room, filter-short, filter-length, too-many, gone, length-left, answered}
 use borrow.Author.Needs.{needs}
 use Rattle.reading.proofs.resolving.resolve_filtered_step.Statement.{statement}
 use Rattle.reading.proofs.resolving.resolve_filtered_step.Tie as tie
@@ -22,7 +22,7 @@ refused-requires : tie.Need-refused-requires
 refused-requires c κs = search needs
 
 returns : tie.Need-returns
-unfolding refused results
+unfolding refusedReply results
 returns c =
     let a = c .before .before .before .before .before .before .args in
     rw (c .refused .ensures)
@@ -40,7 +40,7 @@ refused-requires-2 : tie.Need-refused-requires-2
 refused-requires-2 c κs = search needs
 
 returns-2 : tie.Need-returns-2
-unfolding refused results
+unfolding refusedReply results
 returns-2 c =
     let a = c .before .before .before .before .before .before .before .before .before .args in
     rw (c .refused2 .ensures)
@@ -79,7 +79,7 @@ same-length : tie.Need-same-length
 same-length c = search needs
 
 returns-3 : tie.Need-returns-3
-unfolding refused results
+unfolding refusedReply results
 returns-3 c =
     let l = c .before .before .before .before .before .before .before in
     let a = l .before .before .before .before .before .before .before .before .before .args in

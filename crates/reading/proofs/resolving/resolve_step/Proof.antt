@@ -12,7 +12,7 @@ use Rattle.fields.specs.Fields.{written}
 use Rattle.fields.proofs.Fields.{written-front}
 use Rattle.rules.specs.Entries.{Exporter, exporterRow}
 use Rattle.rules.specs.Calls.{Call}
-use Rattle.rules.specs.Rules.{noExporter, refusals, number, next, results, refused, done}
+use Rattle.rules.specs.Rules.{noExporter, refusals, number, next, results, refusedReply, acceptedReply}
 use Rattle.rules.proofs.SoundLaws.{sound-fields}
 use Rattle.rules.proofs.ByRow.{exporter-row}
 use Rattle.table.specs.View.{exporterCount, exportersOf, memory, view}
@@ -41,8 +41,8 @@ module _ (ws s buffer : List ℕ) (x : ℕ) {r : ℕ} (found : r ≡ exporterRow
   -- the list, the IPID and the buffer are those of the rules
   answered : {list after : List ℕ} {u : Guid} → list ≡ getD (exportersOf ws s) r noExporter .bindings → u ≡ getD (exportersOf ws s) r noExporter .unknown
       → after ≡ written buffer 0 list → length list ≤ length buffer
-      → resolveReply (record { answer = 0; length = length list; unknown = u }) after ≡ done (Call.resolve x buffer) (view (memory ws s))
-  unfolding done results
+      → resolveReply (record { answer = 0; length = length list; unknown = u }) after ≡ acceptedReply (Call.resolve x buffer) (view (memory ws s))
+  unfolding acceptedReply results
   answered {list} held unknown copied fits = rw (← exporter-in-row ws s x found, ← held, ← unknown, copied, written-front buffer list fits)
 
 exporter-row-requires : tie.Need-exporter-row-requires
@@ -55,7 +55,7 @@ refused-requires : tie.Need-refused-requires
 refused-requires c κs = search needs
 
 returns : tie.Need-returns
-unfolding refused results
+unfolding refusedReply results
 returns c =
     let a = c .before .before .before .before .before .before .before .args in
     rw (c .refused .ensures)
@@ -81,7 +81,7 @@ refused-requires-2 : tie.Need-refused-requires-2
 refused-requires-2 c κs = search needs
 
 returns-2 : tie.Need-returns-2
-unfolding refused results
+unfolding refusedReply results
 returns-2 c =
     rw (c .refused2 .ensures)
     (refused-step 15 (row-gives _ _ _ (list-left (c .before .before)) (lt-ltb _ _ (c .before .if2 .taken))) (λ z. omega arith))

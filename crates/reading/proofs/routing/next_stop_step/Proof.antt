@@ -5,7 +5,7 @@ use borrow.Author.Tests.{eq-eqb, ne-eqb, lt-ltb, le-ltb}
 use Rattle.fields.specs.Fields.{field}
 use Rattle.references.specs.declared.Reference.{Reference}
 use Rattle.rules.specs.Calls.{Call}
-use Rattle.rules.specs.Rules.{oxidOf, next, done}
+use Rattle.rules.specs.Rules.{oxidOf, next, acceptedReply}
 use Rattle.rules.proofs.SoundLaws.{sound-fields}
 use Rattle.table.specs.View.{memory, view, SoundTable, Performed}
 use Rattle.calls.proofs.Calls.{refused-step, accepted-step, step-call, row-gives, row-passes, rows-end, exporter-tested}
@@ -54,7 +54,7 @@ other c z = c .if2 .left (named (c .before .before) ∙ z)
 
 accepted : (c : tie.Else2) → let a = c .before .before .before .before .before .before .before .before .before .args in
     let m = memory (a .words .now) (a .store .now) in
-    Performed (Call.nextStop (a .reference .now)) m (done (Call.nextStop (a .reference .now)) (view m)) m
+    Performed (Call.nextStop (a .reference .now)) m (acceptedReply (Call.nextStop (a .reference .now)) (view m)) m
 unfolding next
 accepted c =
     let left = form-left _ (c .before .before .before .before .before .tail-place .ensures) (c .before .before .before .if1 .left) _ in

@@ -1,6 +1,6 @@
 -- `sections::put_numbers`: field by field.
 use Rattle.table.specs.View.{clockOf, nextOf}
-use Rattle.saving.proofs.sections.Parts.{numbers-put}
+use Rattle.saving.proofs.sections.SectionRows.{numbers-put}
 use borrow.Author.Needs.{needs}
 use Rattle.saving.proofs.sections.put_numbers.Statement.{statement}
 use Rattle.saving.proofs.sections.put_numbers.Tie as tie

@@ -4,34 +4,33 @@ use native.Mathlib.Omega.{arith}
 use lib.Seq.{length-take-le}
 use Rattle.rules.proofs.SoundLaws.{sound-fields}
 use Rattle.calls.proofs.Calls.{sound-below}
-use Rattle.saving.proofs.sections.Parts.{taken}
 use borrow.Author.Needs.{needs}
 use Rattle.saving.proofs.sections.put_snapshot.Statement.{statement}
 use Rattle.saving.proofs.sections.put_snapshot.Tie as tie
 
-slice-aggregate-sort-objects : tie.Need-slice-aggregate-sort-objects
-slice-aggregate-sort-objects c = search needs
+slice-aggregate-sort-rows : tie.Need-slice-aggregate-sort-rows
+slice-aggregate-sort-rows c = search needs
 
-sort-objects-requires : tie.Need-sort-objects-requires
-sort-objects-requires c κs = search needs
-
-object-count-requires : tie.Need-object-count-requires
-object-count-requires c κs = search needs
+sort-rows-requires : tie.Need-sort-rows-requires
+sort-rows-requires c κs = search needs
 
 array-share-prefix-rows : tie.Need-array-share-prefix-rows
 array-share-prefix-rows c = search needs
 
 slice-aggregate-put-entries : tie.Need-slice-aggregate-put-entries
-slice-aggregate-put-entries c = sym (length-take-le (c .before .object-count .result) (c .before .before .before .sort-objects .last .1 .0) (omega arith))
+slice-aggregate-put-entries c =
+    let n = c .before .before .sort-rows in
+    let few = n .ensures .few in
+    sym (length-take-le (n .result) (n .last .1 .1 .0) (omega arith))
 
 put-entries-requires : tie.Need-put-entries-requires
 put-entries-requires c κs =
-    let start = c .before .before .before .before .before .before .before .before .before in
+    let start = c .before .before .before .before .before .before .before .before in
     let t = start .pre .0 in (
       t,
       record {
         whole = t .words;
-        order = taken _ (c .before .before .object-count .ensures .0) (c .before .before .before .before .sort-objects .ensures);
+        order = c .before .before .before .sort-rows .ensures .order (start .args .store .now);
         ids = sound-fields _ (t .entries) .objectsProper;
         below = sound-below (start .args .words .now) (start .args .store .now) t;
       },
@@ -48,9 +47,8 @@ pub put-snapshot-spec : {M : Type 1} → statement M
 put-snapshot-spec =
     tie.close
     (tie.spec
-    slice-aggregate-sort-objects
-    sort-objects-requires
-    object-count-requires
+    slice-aggregate-sort-rows
+    sort-rows-requires
     array-share-prefix-rows
     slice-aggregate-put-entries
     put-entries-requires

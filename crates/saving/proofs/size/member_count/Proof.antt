@@ -9,8 +9,8 @@ use Rattle.bindings.specs.Bindings.{joined}
 use Rattle.rules.specs.Entries.{PingSet}
 use Rattle.table.specs.View.{setsOf}
 use borrow.Author.Needs.{needs}
-use Rattle.saving.proofs.size.Counting.{members-next, members-end}
-use Rattle.snapshot_rows.proofs.rows.Members.{few-members}
+use Rattle.saving.proofs.size.MemberSum.{members-next, members-end}
+use Rattle.snapshot_rows.proofs.rows.MembersInOrder.{few-members}
 use Rattle.saving.proofs.size.member_count.Statement.{statement}
 use Rattle.saving.proofs.size.member_count.Tie as tie
 

@@ -1,6 +1,6 @@
 -- `size::snapshot_length`: the entries of each kind, lists and members counted.
 use native.Mathlib.Omega.{arith}
-use Rattle.saving.proofs.size.Counting.{lists-inside, by-counts}
+use Rattle.saving.proofs.size.MemberSum.{lists-inside, by-counts}
 use borrow.Author.Needs.{needs}
 use Rattle.saving.proofs.size.snapshot_length.Statement.{statement}
 use Rattle.saving.proofs.size.snapshot_length.Tie as tie

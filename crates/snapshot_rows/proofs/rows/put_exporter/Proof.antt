@@ -4,11 +4,10 @@ use native.Mathlib.Omega.{arith}
 use Rattle.rules.specs.Rules.{noExporter}
 use Rattle.rules.proofs.SnapshotSizes.{exporter-size}
 use Rattle.table.specs.View.{exportersOf}
-use Rattle.snapshot_rows.proofs.rows.Bytes.{exporter-put}
+use Rattle.snapshot_rows.proofs.rows.FieldByField.{exporter-put, list-short}
 use mathlib.Core.Path.{ap}
 use lib.ListN.{length}
 use Rattle.rules.proofs.SoundLaws.{sound-fields}
-use Rattle.snapshot_rows.proofs.rows.Bytes.{list-short}
 use borrow.Author.Needs.{needs}
 use Rattle.snapshot_rows.proofs.rows.put_exporter.Statement.{statement}
 use Rattle.snapshot_rows.proofs.rows.put_exporter.Tie as tie

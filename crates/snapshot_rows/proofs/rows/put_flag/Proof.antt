@@ -1,6 +1,6 @@
 -- `rows::put_flag`: a byte is stored.
 use mathlib.Core.Bool.{true, false}
-use Rattle.snapshot_rows.proofs.rows.Bytes.{flag-put}
+use Rattle.snapshot_rows.proofs.rows.FieldByField.{flag-put}
 use borrow.Author.Needs.{needs}
 use Rattle.snapshot_rows.proofs.rows.put_flag.Statement.{statement}
 use Rattle.snapshot_rows.proofs.rows.put_flag.Tie as tie

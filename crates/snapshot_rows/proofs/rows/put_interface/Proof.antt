@@ -4,7 +4,7 @@ use lib.ListN.{getD}
 use Rattle.rules.specs.Rules.{noInterface}
 use Rattle.table.specs.View.{interfacesOf}
 use Rattle.table.proofs.Counts.{nine-counts}
-use Rattle.snapshot_rows.proofs.rows.Bytes.{counts-room, interface-put}
+use Rattle.snapshot_rows.proofs.rows.FieldByField.{counts-room, interface-put}
 use borrow.Author.Needs.{needs}
 use Rattle.snapshot_rows.proofs.rows.put_interface.Statement.{statement}
 use Rattle.snapshot_rows.proofs.rows.put_interface.Tie as tie

@@ -1,8 +1,7 @@
 -- `rows::put_member`: nothing is written where the row is no member.
 use mathlib.Core.Path.{refl, sym, _∙_}
-use Rattle.snapshot_rows.proofs.rows.Bytes.{wrote-number}
+use Rattle.snapshot_rows.proofs.rows.FieldByField.{wrote-number, member-none, member-put}
 use borrow.Author.Tests.{not-true, not-false}
-use Rattle.snapshot_rows.proofs.rows.Bytes.{member-none, member-put}
 use borrow.Author.Needs.{needs}
 use Rattle.snapshot_rows.proofs.rows.put_member.Statement.{statement}
 use Rattle.snapshot_rows.proofs.rows.put_member.Tie as tie

@@ -4,14 +4,14 @@ use native.Mathlib.Omega.{arith}
 use lib.ListN.{length, drop}
 use Rattle.rules.specs.Snapshot.{inRow}
 use Rattle.table.specs.View.{objectCount}
-use Rattle.snapshot_rows.specs.Rows.{memberRow}
+use Rattle.snapshot_rows.specs.Rows.{memberBytesAt}
 use borrow.Author.Needs.{needs}
 use Rattle.snapshot_rows.proofs.Writing.{Left, left-all, left-none, row-end, next-live, next-room, next-put}
 use Rattle.snapshot_rows.proofs.rows.put_members.Statement.{statement}
 use Rattle.snapshot_rows.proofs.rows.put_members.Tie as tie
 
 abbrev Inv-loop : tie.InvT-loop
-Inv-loop words members rows buffer₀ at next₀ k₀ buffer next k = (k ≤ length rows) × Left buffer₀ at (inRow (memberRow words members) rows) buffer next (inRow (memberRow words members) (drop k rows))
+Inv-loop words members rows buffer₀ at next₀ k₀ buffer next k = (k ≤ length rows) × Left buffer₀ at (inRow (memberBytesAt words members) rows) buffer next (inRow (memberBytesAt words members) (drop k rows))
 
 abbrev μ-loop : tie.MeasureT-loop
 μ-loop words members rows buffer₀ at next₀ k₀ buffer next k = length rows - k
@@ -30,7 +30,7 @@ put-member-requires c κs =
     let start = c .before .before .before .before .before .before .before in
     let l = c .before .before .before .loop in
     let rows = start .args .rows .now in
-    let row = memberRow (start .args .words .now) (start .args .members) in
+    let row = memberBytesAt (start .args .words .now) (start .args .members) in
     (start .pre .0, next-live row rows (objectCount (start .args .words .now)) (start .pre .1) (l .k) (omega arith), next-room row rows (objectCount (start .args .words .now)) (start .pre .1) (l .k) (omega arith) (start .pre .2) (l .inv .1))
 
 add-k : tie.Need-add-k Inv-loop μ-loop
@@ -44,7 +44,7 @@ loop-again c =
     let start = c .before .before .before .before .before .before .before .before .before .before in
     let l = c .before .before .before .before .before .before .loop in
     let rows = start .args .rows .now in
-    let row = memberRow (start .args .words .now) (start .args .members) in
+    let row = memberBytesAt (start .args .words .now) (start .args .members) in
     (omega arith, next-put row rows (objectCount (start .args .words .now)) (start .pre .1) (l .k) (omega arith) (start .pre .2) (l .inv .1) (c .before .before .put-member .ensures))
 
 same-length : tie.Need-same-length Inv-loop μ-loop

@@ -4,7 +4,7 @@ use native.Mathlib.Omega.{arith}
 use Rattle.rules.specs.Rules.{noObject}
 use Rattle.rules.proofs.SnapshotSizes.{object-size}
 use Rattle.table.specs.View.{objectsOf}
-use Rattle.snapshot_rows.proofs.rows.Bytes.{object-put}
+use Rattle.snapshot_rows.proofs.rows.FieldByField.{object-put}
 use borrow.Author.Needs.{needs}
 use Rattle.snapshot_rows.proofs.rows.put_object.Statement.{statement}
 use Rattle.snapshot_rows.proofs.rows.put_object.Tie as tie

@@ -10,8 +10,8 @@ use Rattle.rules.proofs.SnapshotSizes.{set-size}
 use Rattle.table.specs.View.{setsOf}
 use Rattle.table.proofs.LiveRows.{objects-length}
 use Rattle.snapshot_rows.specs.Rows.{risingOids}
-use Rattle.snapshot_rows.proofs.rows.Bytes.{members-room, set-put}
-use Rattle.snapshot_rows.proofs.rows.Members.{few-members, members-row, members-number}
+use Rattle.snapshot_rows.proofs.rows.FieldByField.{members-room, set-put}
+use Rattle.snapshot_rows.proofs.rows.MembersInOrder.{few-members, members-row, members-number}
 use borrow.Author.Needs.{needs}
 use Rattle.snapshot_rows.proofs.rows.put_set.Statement.{statement}
 use Rattle.snapshot_rows.proofs.rows.put_set.Tie as tie

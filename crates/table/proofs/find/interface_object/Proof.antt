@@ -4,7 +4,7 @@ use native.Mathlib.Omega.{arith}
 use Rattle.columns.proofs.rows.Laws.{rowAt-getD}
 use Rattle.rules.specs.Entries.{Interface}
 use Rattle.rules.specs.Rules.{noInterface}
-use Rattle.table.specs.View.{interfaceKind}
+use Rattle.layout.specs.Kinds.{interfaceKind}
 use Rattle.table.proofs.LiveRows.{interface-at}
 use borrow.Author.Needs.{needs}
 use Rattle.table.proofs.find.interface_object.Statement.{statement}

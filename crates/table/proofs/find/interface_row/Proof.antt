@@ -2,8 +2,7 @@
 use mathlib.Core.Path.{ap, _∙_}
 use Rattle.lists.specs.Lists.{firstIndex}
 use Rattle.lists.specs.Guids.{sameGuid}
-use Rattle.table.proofs.judge.Clauses.{guids-read}
-use Rattle.table.proofs.Columns.{ipids-columns}
+use Rattle.table.proofs.Columns.{guids-read, ipids-columns}
 use borrow.Author.Needs.{needs}
 use Rattle.table.proofs.find.interface_row.Statement.{statement}
 use Rattle.table.proofs.find.interface_row.Tie as tie

@@ -1,6 +1,5 @@
 -- `find::ipid_highs`: a column.
-use Rattle.table.proofs.judge.Clauses.{column-read}
-use Rattle.table.proofs.Columns.{ipid-highs-column}
+use Rattle.table.proofs.Columns.{column-read, ipid-highs-column}
 use borrow.Author.Needs.{needs}
 use Rattle.table.proofs.find.ipid_highs.Statement.{statement}
 use Rattle.table.proofs.find.ipid_highs.Tie as tie

@@ -1,6 +1,5 @@
 -- `find::ipid_lows`: a column.
-use Rattle.table.proofs.judge.Clauses.{column-read}
-use Rattle.table.proofs.Columns.{ipid-lows-column}
+use Rattle.table.proofs.Columns.{column-read, ipid-lows-column}
 use borrow.Author.Needs.{needs}
 use Rattle.table.proofs.find.ipid_lows.Statement.{statement}
 use Rattle.table.proofs.find.ipid_lows.Tie as tie

@@ -7,8 +7,7 @@ use Rattle.lists.specs.Guids.{sameGuid}
 use Rattle.lists.proofs.Lists.{some-append}
 use Rattle.rules.specs.Entries.{Exporter}
 use Rattle.table.specs.View.{exportersOf}
-use Rattle.table.proofs.judge.Clauses.{guids-read}
-use Rattle.table.proofs.Columns.{unknowns-columns, ipids-columns}
+use Rattle.table.proofs.Columns.{guids-read, unknowns-columns, ipids-columns}
 use borrow.Author.Needs.{needs}
 use Rattle.table.proofs.find.ipid_taken.Statement.{statement}
 use Rattle.table.proofs.find.ipid_taken.Tie as tie

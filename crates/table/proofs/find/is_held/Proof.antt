@@ -10,7 +10,7 @@ use lib.ListN.{getD}
 use Rattle.rules.specs.Entries.{countOf}
 use Rattle.rules.specs.Rules.{noInterface}
 use Rattle.table.specs.View.{interfacesOf}
-use Rattle.table.proofs.judge.Checks.{everyRow, everyFrom, check-passes, check-fails, checks-done}
+use Rattle.table.proofs.Checks.{everyRow, everyFrom, check-passes, check-fails, checks-done}
 use Rattle.table.proofs.Counts.{zero-counts}
 use borrow.Author.Needs.{needs}
 use Rattle.table.proofs.find.is_held.Statement.{statement}

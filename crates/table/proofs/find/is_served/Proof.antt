@@ -7,8 +7,7 @@ use Rattle.lists.specs.Lists.{among}
 use Rattle.lists.proofs.Lists.{some-map}
 use Rattle.rules.specs.Entries.{Interface}
 use Rattle.table.specs.View.{interfacesOf}
-use Rattle.table.proofs.judge.Clauses.{column-read}
-use Rattle.table.proofs.Columns.{interface-objects-column}
+use Rattle.table.proofs.Columns.{column-read, interface-objects-column}
 use borrow.Author.Needs.{needs}
 use Rattle.table.proofs.find.is_served.Statement.{statement}
 use Rattle.table.proofs.find.is_served.Tie as tie

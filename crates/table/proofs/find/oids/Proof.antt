@@ -1,6 +1,5 @@
 -- `find::oids`: a column.
-use Rattle.table.proofs.judge.Clauses.{column-read}
-use Rattle.table.proofs.Columns.{oids-column}
+use Rattle.table.proofs.Columns.{column-read, oids-column}
 use borrow.Author.Needs.{needs}
 use Rattle.table.proofs.find.oids.Statement.{statement}
 use Rattle.table.proofs.find.oids.Tie as tie

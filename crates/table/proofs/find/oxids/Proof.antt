@@ -1,6 +1,5 @@
 -- `find::oxids`: a column.
-use Rattle.table.proofs.judge.Clauses.{column-read}
-use Rattle.table.proofs.Columns.{oxids-column}
+use Rattle.table.proofs.Columns.{column-read, oxids-column}
 use borrow.Author.Needs.{needs}
 use Rattle.table.proofs.find.oxids.Statement.{statement}
 use Rattle.table.proofs.find.oxids.Tie as tie

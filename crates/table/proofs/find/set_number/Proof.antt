@@ -4,7 +4,7 @@ use native.Mathlib.Omega.{arith}
 use Rattle.columns.proofs.rows.Laws.{rowAt-getD}
 use Rattle.rules.specs.Entries.{PingSet}
 use Rattle.rules.specs.Rules.{noSet}
-use Rattle.table.specs.View.{setKind}
+use Rattle.layout.specs.Kinds.{setKind}
 use Rattle.table.proofs.LiveRows.{set-at}
 use borrow.Author.Needs.{needs}
 use Rattle.table.proofs.find.set_number.Statement.{statement}

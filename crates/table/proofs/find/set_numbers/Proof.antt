@@ -1,6 +1,5 @@
 -- `find::set_numbers`: a column.
-use Rattle.table.proofs.judge.Clauses.{column-read}
-use Rattle.table.proofs.Columns.{set-numbers-column}
+use Rattle.table.proofs.Columns.{column-read, set-numbers-column}
 use borrow.Author.Needs.{needs}
 use Rattle.table.proofs.find.set_numbers.Statement.{statement}
 use Rattle.table.proofs.find.set_numbers.Tie as tie

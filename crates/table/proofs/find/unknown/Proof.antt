@@ -2,7 +2,7 @@
 use native.Mathlib.Omega.{arith}
 use Rattle.columns.proofs.rows.Laws.{rowAt-getD}
 use Rattle.rules.specs.Rules.{noExporter}
-use Rattle.table.specs.View.{exporterKind}
+use Rattle.layout.specs.Kinds.{exporterKind}
 use Rattle.table.proofs.LiveRows.{exporter-at}
 use borrow.Author.Needs.{needs}
 use Rattle.table.proofs.find.unknown.Statement.{statement}

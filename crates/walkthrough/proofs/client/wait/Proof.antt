@@ -18,11 +18,26 @@ loop-holds c = search needs
 add-k : tie.Need-add-k Inv-loop μ-loop
 add-k c = search needs
 
-pass-requires : tie.Need-pass-requires Inv-loop μ-loop
-pass-requires c κs = search needs
+cast-clock : tie.Need-cast-clock Inv-loop μ-loop
+cast-clock c = search needs
 
-ping-requires : tie.Need-ping-requires Inv-loop μ-loop
-ping-requires c κs = search needs
+mul-clock : tie.Need-mul-clock Inv-loop μ-loop
+mul-clock c = search needs
+
+add-clock : tie.Need-add-clock Inv-loop μ-loop
+add-clock c = search needs
+
+clock-requires : tie.Need-clock-requires Inv-loop μ-loop
+clock-requires c κs = search needs
+
+passed-requires : tie.Need-passed-requires Inv-loop μ-loop
+passed-requires c κs = search needs
+
+simple-ping-requires : tie.Need-simple-ping-requires Inv-loop μ-loop
+simple-ping-requires c κs = search needs
+
+pinged-requires : tie.Need-pinged-requires Inv-loop μ-loop
+pinged-requires c κs = search needs
 
 loop-less : tie.Need-loop-less Inv-loop μ-loop
 loop-less c = search needs
@@ -36,9 +51,6 @@ loop-less-2 c = search needs
 loop-again-2 : tie.Need-loop-again-2 Inv-loop μ-loop
 loop-again-2 c = search needs
 
-same-length : tie.Need-same-length Inv-loop μ-loop
-same-length c = search needs
-
 returns : tie.Need-returns Inv-loop μ-loop
 returns c = search needs
 
@@ -50,11 +62,15 @@ wait-spec =
     μ-loop
     loop-holds
     add-k
-    pass-requires
-    ping-requires
+    cast-clock
+    mul-clock
+    add-clock
+    clock-requires
+    passed-requires
+    simple-ping-requires
+    pinged-requires
     loop-less
     loop-again
     loop-less-2
     loop-again-2
-    same-length
     returns)

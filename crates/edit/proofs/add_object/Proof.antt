@@ -1,0 +1,43 @@
+-- `edit::add_object`: a row of the objects is entered.
+use Rattle.edit.proofs.ObjectMembers.{object-pushed}
+use native.Mathlib.Omega.{arith}
+use borrow.Author.Needs.{needs}
+use Rattle.edit.proofs.add_object.Statement.{statement}
+use Rattle.edit.proofs.add_object.Tie as tie
+
+object-count-requires : tie.Need-object-count-requires
+object-count-requires c κs = search needs
+
+mark-requires : tie.Need-mark-requires
+mark-requires c κs = search needs
+
+object-kind-requires : tie.Need-object-kind-requires
+object-kind-requires c κs = search needs
+
+slice-aggregate-push-row : tie.Need-slice-aggregate-push-row
+slice-aggregate-push-row c = search needs
+
+push-row-requires : tie.Need-push-row-requires
+push-row-requires c κs = rw (c .before .object-kind .ensures) (search needs)
+
+same-length : tie.Need-same-length
+same-length c = search needs
+
+returns : tie.Need-returns
+returns c =
+    let b = c .before .before .before in
+    let m = b .before .before .before in
+    let e = m .before .object-count .ensures .0 in
+    rw (m .mark .ensures) at (object-pushed _ _ _ _ e (omega arith) (m .before .before .before .before .pre .2) (rw (b .before .object-kind .ensures) at (c .before .before .push-row .ensures)))
+
+pub add-object-spec : {M : Type 1} → statement M
+add-object-spec =
+    tie.close
+    (tie.spec
+    object-count-requires
+    mark-requires
+    object-kind-requires
+    slice-aggregate-push-row
+    push-row-requires
+    same-length
+    returns)

@@ -1,0 +1,32 @@
+-- `edit::remove_interface`: a row of the interfaces is taken out.
+use Rattle.edit.proofs.Changes.{interface-pulled}
+use borrow.Author.Needs.{needs}
+use Rattle.edit.proofs.remove_interface.Statement.{statement}
+use Rattle.edit.proofs.remove_interface.Tie as tie
+
+interface-count-requires : tie.Need-interface-count-requires
+interface-count-requires c κs = search needs
+
+interface-kind-requires : tie.Need-interface-kind-requires
+interface-kind-requires c κs = search needs
+
+pull-row-requires : tie.Need-pull-row-requires
+pull-row-requires c κs = rw (c .interface-kind .ensures) (search needs)
+
+same-length : tie.Need-same-length
+same-length c = search needs
+
+returns : tie.Need-returns
+returns c =
+    let b = c .before .before .before in
+    interface-pulled _ _ _ _ (b .before .before .interface-count .ensures .0) (rw (b .interface-kind .ensures) at (c .before .before .pull-row .ensures))
+
+pub remove-interface-spec : {M : Type 1} → statement M
+remove-interface-spec =
+    tie.close
+    (tie.spec
+    interface-count-requires
+    interface-kind-requires
+    pull-row-requires
+    same-length
+    returns)

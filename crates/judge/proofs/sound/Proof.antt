@@ -1,0 +1,90 @@
+-- `judge::sound`: both lengths, then the groups of clauses in turn.
+use Prim.Native.Nat.{ℕ}
+use mathlib.Core.Path.{_≡_, sym, _∙_}
+use mathlib.Core.Bool.{Bool}
+use mathlib.Core.List.{List, _∷_}
+use borrow.Author.Tests.{eq-eqb, ne-eqb, not-false}
+use lib.Dec.{eqb}
+use lib.ListN.{length, drop}
+use Rattle.lists.specs.Lists.{holding}
+use Rattle.lists.proofs.Tests.{holding-fails, holding-passes, holding-head}
+use Rattle.rules.specs.Sound.{groups}
+use Rattle.rules.specs.Contract as contract
+use Rattle.rules.proofs.SoundLaws.{sound-groups}
+use Rattle.table.specs.View.{memory, view, soundMemory}
+use Rattle.judge.proofs.Clauses.{judged-fails, judged-passes, judged-last, clauses-after}
+use borrow.Author.Needs.{needs}
+use Rattle.judge.proofs.sound.Statement.{statement}
+use Rattle.judge.proofs.sound.Tie as tie
+
+-- both lengths, and the groups of clauses
+abbrev clauses : List ℕ → List ℕ → List Bool
+clauses ws store = eqb (length ws) 8192 ∷ eqb (length store) 8192 ∷ groups (view (memory ws store))
+
+-- those that are left
+abbrev Left : ℕ → tie.Start → Type 0
+Left k st = soundMemory (memory (st .args .words .now) (st .args .store .now)) ≡ holding (drop k (clauses (st .args .words .now) (st .args .store .now)))
+
+all-left : (st : tie.Start) → Left 0 st
+unfolding contract.soundMemory
+all-left st = clauses-after _ _ _ _ (sound-groups (view (memory (st .args .words .now) (st .args .store .now))))
+
+left-1 : (c : tie.Else1) → Left 1 (c .before .before .before)
+left-1 c = holding-passes _ _ (all-left (c .before .before .before)) (eq-eqb _ 8192 (c .if1 .left))
+
+left-2 : (c : tie.Else2) → Left 2 (c .before .before .before .before)
+left-2 c = holding-passes _ _ (left-1 (c .before)) (eq-eqb _ 8192 (c .if2 .left))
+
+left-3 : (c : tie.Else3) → Left 3 (c .before .before .before .before .before .before)
+left-3 c = judged-passes _ (left-2 (c .before .before)) (c .before .exporters-sound .ensures) (c .if3 .left)
+
+left-4 : (c : tie.Else4) → Left 4 (c .before .before .before .before .before .before .before .before)
+left-4 c = judged-passes _ (left-3 (c .before .before)) (c .before .objects-sound .ensures (c .before .before .before .before .before .before .before .before .args .store .now)) (c .if4 .left)
+
+left-5 : (c : tie.Else5) → Left 5 (c .before .before .before .before .before .before .before .before .before .before)
+left-5 c = judged-passes _ (left-4 (c .before .before)) (c .before .interfaces-sound .ensures (c .before .before .before .before .before .before .before .before .before .before .args .store .now)) (c .if5 .left)
+
+returns : tie.Need-returns
+returns c = holding-fails _ _ (all-left (c .before .before .before)) (ne-eqb _ 8192 (c .if1 .taken))
+
+returns-2 : tie.Need-returns-2
+returns-2 c = holding-fails _ _ (left-1 (c .before)) (ne-eqb _ 8192 (c .if2 .taken))
+
+exporters-sound-requires : tie.Need-exporters-sound-requires
+exporters-sound-requires c κs = search needs
+
+returns-3 : tie.Need-returns-3
+returns-3 c = judged-fails _ (left-2 (c .before .before)) (c .before .exporters-sound .ensures) (c .if3 .taken)
+
+objects-sound-requires : tie.Need-objects-sound-requires
+objects-sound-requires c κs = search needs
+
+returns-4 : tie.Need-returns-4
+returns-4 c = judged-fails _ (left-3 (c .before .before)) (c .before .objects-sound .ensures (c .before .before .before .before .before .before .before .before .args .store .now)) (c .if4 .taken)
+
+interfaces-sound-requires : tie.Need-interfaces-sound-requires
+interfaces-sound-requires c κs = search needs
+
+returns-5 : tie.Need-returns-5
+returns-5 c = judged-fails _ (left-4 (c .before .before)) (c .before .interfaces-sound .ensures (c .before .before .before .before .before .before .before .before .before .before .args .store .now)) (c .if5 .taken)
+
+sets-sound-requires : tie.Need-sets-sound-requires
+sets-sound-requires c κs = (search needs, holding-head _ _ (sym (c .before .before .before .objects-sound .ensures (c .before .before .before .before .before .before .before .before .before .before .args .words .now)) ∙ not-false _ (c .before .before .if4 .left)))
+
+returns-6 : tie.Need-returns-6
+returns-6 c = judged-last (left-5 (c .before)) (c .sets-sound .ensures (c .before .before .before .before .before .before .before .before .before .before .before .args .store .now))
+
+pub sound-spec : {M : Type 1} → statement M
+sound-spec =
+    tie.close
+    (tie.spec
+    returns
+    returns-2
+    exporters-sound-requires
+    returns-3
+    objects-sound-requires
+    returns-4
+    interfaces-sound-requires
+    returns-5
+    sets-sound-requires
+    returns-6)

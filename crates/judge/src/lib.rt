@@ -1,0 +1,224 @@
+// Whether a lent table is sound: the clauses of document 01's "sound", each over the columns that it speaks of.
+use kinds::limits;
+use table::find;
+ghost use mathlib.Core.Path.{_≡_};
+ghost use mathlib.Core.Bool.{true};
+ghost use Prim.Native.Nat.{_<_};
+ghost use Rattle.lists.specs.Lists.{holding};
+ghost use Rattle.rules.specs.Entries.{oids, ipids};
+ghost use Rattle.table.specs.View.{memory, view, soundMemory, Holds, oidsOf};
+ghost use Rattle.rules.specs.Contract.{Whole};
+ghost use Rattle.rules.specs.Sound.{proper, properGuids, interfacesHeld, setMembersLive, heardRecently, listsKept, exporterClauses, objectClauses, interfaceClauses, setClauses};
+
+// Nonzero and distinct.
+fn are_proper(col: &[u64]) -> bool
+    ensures { λ r. ⌜ r ≡ proper (now (col .entry)) ⌝ }
+{
+    if !columns::all_nonzero(col) {
+        return false;
+    }
+    columns::all_distinct(col)
+}
+
+// Each exporter's list keeps the list rules and is no longer than it may be; it begins where the one before it ends.
+fn lists_kept<'a>(words: &'a [u64], store: &'a [u8]) -> bool
+    requires { ⌜ Whole (now words) × Whole (now store) ⌝ }
+    ensures { λ r. ⌜ r ≡ listsKept (view (memory (now (words .entry)) (now (store .entry)))) ⌝ }
+{
+    let n = find::exporter_count(words);
+    let mut at = 0;
+    let mut k = 0;
+    while k < n {
+        if bindings::front_answer(&store[at..]) != 0 {
+            return false;
+        }
+        let size = bindings::stated_length(&store[at..]);
+        if limits::LONGEST_LIST < size {
+            return false;
+        }
+        at += size;
+        k += 1;
+    }
+    true
+}
+
+fn exporters_sound<'a>(words: &'a [u64], store: &'a [u8]) -> bool
+    requires { ⌜ Whole (now words) × Whole (now store) ⌝ }
+    ensures { λ r. ⌜ r ≡ holding (exporterClauses (view (memory (now (words .entry)) (now (store .entry))))) ⌝ }
+{
+    let n = find::exporter_count(words);
+    if !are_proper(layout::column(words, layout::OXIDS, n)) {
+        return false;
+    }
+    lists_kept(words, store)
+}
+
+// Pinged objects were heard under 360 seconds before the clock.
+fn heard_recently(words: &[u64]) -> bool
+    requires { ⌜ Whole (now words) ⌝ }
+    ensures { λ r. ⌜ Holds (λ e. r ≡ heardRecently e) (now (words .entry)) ⌝ }
+{
+    let n = find::object_count(words);
+    let clock = words[layout::CLOCK];
+    let mut i = 0;
+    while i < n {
+        if !find::is_heard_within(words, i, clock) {
+            return false;
+        }
+        i += 1;
+    }
+    true
+}
+
+fn objects_sound(words: &[u64]) -> bool
+    requires { ⌜ Whole (now words) ⌝ }
+    ensures { λ r. ⌜ Holds (λ e. r ≡ holding (objectClauses e)) (now (words .entry)) ⌝ }
+{
+    let exporters = find::exporter_count(words);
+    let objects = find::object_count(words);
+    let interfaces = find::interface_count(words);
+    let oxids = layout::column(words, layout::OXIDS, exporters);
+    let oids = layout::column(words, layout::OIDS, objects);
+    let owners = layout::column(words, layout::OBJECT_EXPORTERS, objects);
+    let times = layout::column(words, layout::HEARD_TIMES, objects);
+    let named = layout::column(words, layout::INTERFACE_OBJECTS, interfaces);
+    let clock = words[layout::CLOCK];
+    if !are_proper(oids) {
+        return false;
+    }
+    if !columns::all_in(owners, oxids) {
+        return false;
+    }
+    if !columns::all_in(oids, named) {
+        return false;
+    }
+    if !columns::all_at_most(times, clock) {
+        return false;
+    }
+    heard_recently(words)
+}
+
+// Each interface has a nonzero count.
+fn interfaces_held(words: &[u64]) -> bool
+    requires { ⌜ Whole (now words) ⌝ }
+    ensures { λ r. ⌜ Holds (λ e. r ≡ interfacesHeld e) (now (words .entry)) ⌝ }
+{
+    let n = find::interface_count(words);
+    let mut i = 0;
+    while i < n {
+        if !find::is_held(words, i) {
+            return false;
+        }
+        i += 1;
+    }
+    true
+}
+
+// Remote-unknown and interface IPIDs are one kind: none is nil, and no two are the same.
+fn ipids_proper(words: &[u64]) -> bool
+    requires { ⌜ Whole (now words) ⌝ }
+    ensures { λ r. ⌜ Holds (λ e. r ≡ properGuids (ipids e)) (now (words .entry)) ⌝ }
+{
+    let n = find::exporter_count(words);
+    let m = find::interface_count(words);
+    let unknown_lows = layout::column(words, layout::UNKNOWN_LOWS, n);
+    let unknown_highs = layout::column(words, layout::UNKNOWN_HIGHS, n);
+    let lows = layout::column(words, layout::IPID_LOWS, m);
+    let highs = layout::column(words, layout::IPID_HIGHS, m);
+    if !columns::guids_not_nil(unknown_lows, unknown_highs) {
+        return false;
+    }
+    if !columns::guids_not_nil(lows, highs) {
+        return false;
+    }
+    if !columns::guids_distinct(unknown_lows, unknown_highs) {
+        return false;
+    }
+    if !columns::guids_distinct(lows, highs) {
+        return false;
+    }
+    columns::guids_apart(unknown_lows, unknown_highs, lows, highs)
+}
+
+fn interfaces_sound(words: &[u64]) -> bool
+    requires { ⌜ Whole (now words) ⌝ }
+    ensures { λ r. ⌜ Holds (λ e. r ≡ holding (interfaceClauses e)) (now (words .entry)) ⌝ }
+{
+    let objects = find::object_count(words);
+    let interfaces = find::interface_count(words);
+    let oids = layout::column(words, layout::OIDS, objects);
+    let owners = layout::column(words, layout::INTERFACE_OBJECTS, interfaces);
+    if !ipids_proper(words) {
+        return false;
+    }
+    if !columns::all_in(owners, oids) {
+        return false;
+    }
+    interfaces_held(words)
+}
+
+// The members of each set are live objects, where no live object has OID 0.
+fn members_live(words: &[u64]) -> bool
+    requires { ⌜ Whole (now words) × (proper (oidsOf (now words)) ≡ true) ⌝ }
+    ensures { λ r. ⌜ Holds (λ e. r ≡ setMembersLive e) (now (words .entry)) ⌝ }
+{
+    let n = find::set_count(words);
+    let objects = find::object_count(words);
+    let mut i = 0;
+    while i < n {
+        if !find::members(words, i).below(objects) {
+            return false;
+        }
+        i += 1;
+    }
+    true
+}
+
+fn sets_sound(words: &[u64]) -> bool
+    requires { ⌜ Whole (now words) × (proper (oidsOf (now words)) ≡ true) ⌝ }
+    ensures { λ r. ⌜ Holds (λ e. r ≡ holding (setClauses e)) (now (words .entry)) ⌝ }
+{
+    let n = find::set_count(words);
+    let clock = words[layout::CLOCK];
+    let next = words[layout::NEXT_SET];
+    let numbers = layout::column(words, layout::SET_NUMBERS, n);
+    let times = layout::column(words, layout::PING_TIMES, n);
+    if !are_proper(numbers) {
+        return false;
+    }
+    if !columns::all_at_most(times, clock) {
+        return false;
+    }
+    if !columns::all_within(times, clock, layout::TIMEOUT) {
+        return false;
+    }
+    if !columns::all_below(numbers, next) {
+        return false;
+    }
+    if next == 0 {
+        return false;
+    }
+    members_live(words)
+}
+
+// Whether a lent table is sound: both lengths are 8,192, and every clause holds of the live entries.
+pub fn sound<'a>(words: &'a [u64], store: &'a [u8]) -> bool
+    ensures { λ r. ⌜ r ≡ soundMemory (memory (now (words .entry)) (now (store .entry))) ⌝ }
+{
+    if words.len() != limits::WORDS {
+        return false;
+    }
+    if store.len() != limits::BYTES {
+        return false;
+    }
+    if !exporters_sound(words, store) {
+        return false;
+    }
+    if !objects_sound(words) {
+        return false;
+    }
+    if !interfaces_sound(words) {
+        return false;
+    }
+    sets_sound(words)
+}

@@ -1,0 +1,120 @@
+-- `rows::read_set`: a set is added where there is a place and its members stand in the order of the objects.
+use mathlib.Core.Path.{_∙_}
+use native.Mathlib.Omega.{arith}
+use borrow.Author.Tests.{not-true, not-false}
+use Rattle.table.specs.View.{memory, view}
+use Rattle.snapshot_rows.specs.declared.Section.the-variants.{Sets}
+use Rattle.snapshot_reader.proofs.rows.SectionFits.{row-refused, row-read}
+use Rattle.snapshot_reader.proofs.rows.Reading.{set-full, set-judged, set-entered, set-after}
+use borrow.Author.Needs.{needs}
+use Rattle.snapshot_reader.proofs.rows.read_set.Statement.{statement}
+use Rattle.snapshot_reader.proofs.rows.read_set.Tie as tie
+
+set-count-requires : tie.Need-set-count-requires
+set-count-requires c κs = search needs
+
+no-row-requires : tie.Need-no-row-requires
+no-row-requires c κs = search needs
+
+same-length : tie.Need-same-length
+same-length c = search needs
+
+returns : tie.Need-returns
+returns c t =
+    let st = c .before .before .before .before .before .before in
+    let ws = st .args .words .now in
+    let s = st .args .s .now in
+    let n = c .before .before .set-count in
+    row-refused Sets s (view (memory ws t)) (c .no-row .result) (c .no-row .ensures)
+    (set-full ws s t (st .pre .1 t) (n .result) (n .ensures .0) (c .before .if1 .taken))
+
+read-u16-requires : tie.Need-read-u16-requires
+read-u16-requires c κs = search needs
+
+cast-n : tie.Need-cast-n
+cast-n c = search needs
+
+find-members-requires : tie.Need-find-members-requires
+find-members-requires c κs = search needs
+
+no-row-requires-2 : tie.Need-no-row-requires-2
+no-row-requires-2 c κs = search needs
+
+same-length-2 : tie.Need-same-length-2
+same-length-2 c = search needs
+
+returns-2 : tie.Need-returns-2
+returns-2 c t =
+    let st = c .before .before .before .before .before .before .before .before .before .before .before in
+    let ws = st .args .words .now in
+    let s = st .args .s .now in
+    let n = c .before .before .before .before .before .before .before .set-count in
+    let found = c .before .before .before .find-members in
+    row-refused Sets s (view (memory ws t)) (c .no-row2 .result) (c .no-row2 .ensures)
+    (set-judged ws s t (st .pre .1 t) (n .result) (n .ensures .0) (c .before .before .before .before .before .before .if1 .left) (found .result) _ (c .before .before .before .before .before .read-u16 .ensures) (found .ensures)
+    ∙ not-true _ (c .before .if2 .taken))
+
+read-u64-requires : tie.Need-read-u64-requires
+read-u64-requires c κs = search needs
+
+read-u16-requires-2 : tie.Need-read-u16-requires-2
+read-u16-requires-2 c κs = search needs
+
+read-u64-requires-2 : tie.Need-read-u64-requires-2
+read-u64-requires-2 c κs = search needs
+
+add-set-requires : tie.Need-add-set-requires
+add-set-requires c κs = search needs
+
+mul-within : tie.Need-mul-within
+mul-within c = search needs
+
+add-within : tie.Need-add-within
+add-within c = search needs
+
+within-requires : tie.Need-within-requires
+within-requires c κs = search needs
+
+same-length-3 : tie.Need-same-length-3
+same-length-3 c = search needs
+
+returns-3 : tie.Need-returns-3
+returns-3 c t =
+    let st = c .before .before .before .before .before .before .before .before .before .before .before .before .before .before .before .before .before .before .before in
+    let ws = st .args .words .now in
+    let s = st .args .s .now in
+    let n = c .before .before .before .before .before .before .before .before .before .before .before .before .before .before .before .set-count in
+    let found = c .before .before .before .before .before .before .before .before .before .before .before .find-members in
+    let all = not-false _ (c .before .before .before .before .before .before .before .before .before .if2 .left) in
+    let k = c .before .before .before .before .before .before .before .before .before .before .before .before .before .read-u16 .ensures in
+    let e = c .within .ensures in
+    row-read Sets s (view (memory ws t)) (c .within .result) _
+    (set-judged ws s t (st .pre .1 t) (n .result) (n .ensures .0) (c .before .before .before .before .before .before .before .before .before .before .before .before .before .before .if1 .left) (found .result) _ k (found .ensures) ∙ all)
+    (c .before .before .before .add-set .ensures t
+    ∙ set-entered s _ k _ _ _ _ (c .before .before .before .before .before .before .before .before .read-u64 .ensures) (c .before .before .before .before .before .before .before .read-u162 .ensures) (c .before .before .before .before .before .before .read-u642 .ensures) (found .ensures .members all) (view (memory ws t)))
+    (set-after s _ k (c .within .result) e)
+    (omega arith)
+
+pub read-set-spec : {M : Type 1} → statement M
+read-set-spec =
+    tie.close
+    (tie.spec
+    set-count-requires
+    no-row-requires
+    same-length
+    returns
+    read-u16-requires
+    cast-n
+    find-members-requires
+    no-row-requires-2
+    same-length-2
+    returns-2
+    read-u64-requires
+    read-u16-requires-2
+    read-u64-requires-2
+    add-set-requires
+    mul-within
+    add-within
+    within-requires
+    same-length-3
+    returns-3)

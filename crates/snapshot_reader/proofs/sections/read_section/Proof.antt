@@ -1,0 +1,132 @@
+-- `sections::read_section`: what is left of the rows, from here on, is all of them (`RowsLeft`).
+use Prim.Native.Nat.{_-_}
+use native.Mathlib.Omega.{arith}
+use borrow.Author.Needs.{needs}
+use borrow.Author.Tests.{not-true, not-false}
+use lib.ListN.{drop, length-drop}
+use Rattle.fields.proofs.Fields.{take-rest}
+use Rattle.rules.specs.Contract.{Whole}
+use Rattle.table.specs.View.{memory, view}
+use Rattle.snapshot_reader.specs.ReadRows.{withSection}
+use Rattle.snapshot_reader.proofs.sections.RowByRow.{RowsLeft, row-off, row-stops, rows-begun, rows-ended, rows-stopped}
+use Rattle.snapshot_reader.proofs.sections.read_section.Statement.{statement}
+use Rattle.snapshot_reader.proofs.sections.read_section.Tie as tie
+
+abbrev Inv-loop : tie.InvT-loop
+Inv-loop words₀ store₀ section s at n next₀ i₀ words store next i = Whole words × Whole store × RowsLeft section s n i next (view (memory words store)) (withSection section (drop at s) (view (memory words₀ store₀)))
+
+abbrev μ-loop : tie.MeasureT-loop
+μ-loop words₀ store₀ section s at n next₀ i₀ words store next i = n - i
+
+read-u16-requires : tie.Need-read-u16-requires Inv-loop μ-loop
+read-u16-requires c κs = search needs
+
+cast-n : tie.Need-cast-n Inv-loop μ-loop
+cast-n c = omega arith
+
+add-within : tie.Need-add-within Inv-loop μ-loop
+add-within c = omega arith
+
+within-requires : tie.Need-within-requires Inv-loop μ-loop
+within-requires c κs = search needs
+
+loop-holds : tie.Need-loop-holds Inv-loop μ-loop
+loop-holds c =
+    let st = c .before .before .before .before .before in
+    let a = st .args in (
+      st .pre .0,
+      st .pre .1,
+      rows-begun (a .section) (a .s .now) _ (a .at) (c .within .result) (view (memory (a .words .now) (a .store .now))) (c .before .read-u16 .ensures) (c .within .ensures) (st .pre .4),
+    )
+
+sub-read-row : tie.Need-sub-read-row Inv-loop μ-loop
+sub-read-row c = let p = c .before .before .before .loop .inv .2 .inside in omega arith
+
+part-read-row-start : tie.Need-part-read-row-start Inv-loop μ-loop
+part-read-row-start c = let p = c .before .before .before .loop .inv .2 .inside in omega arith
+
+part-read-row-end : tie.Need-part-read-row-end Inv-loop μ-loop
+part-read-row-end c = omega arith
+
+read-row-requires : tie.Need-read-row-requires Inv-loop μ-loop
+read-row-requires c κs = let i = c .before .before .before .before .loop .inv in (i .0, i .1, i .2 .fit)
+
+same-length : tie.Need-same-length Inv-loop μ-loop
+same-length c = omega arith
+
+same-length-2 : tie.Need-same-length-2 Inv-loop μ-loop
+same-length-2 c = omega arith
+
+returns : tie.Need-returns Inv-loop μ-loop
+returns c =
+    let st = c .before .before .before .before .before .before .before .before .before .before .before .before .before .before .before .before .before in
+    let a = st .args in
+    let l = c .before .before .before .before .before .before .before .before .before .before .before .loop in
+    let h = rw (take-rest (a .s .now) (l .next)) at (c .before .before .before .before .before .before .read-row .ensures) in
+    rows-stopped (a .section) (a .s .now) (a .at) (view (memory (a .words .now) (a .store .now))) (l .next) _ (l .inv .2 .inside)
+    (row-stops (l .inv .2) (omega arith) h (not-true _ (c .if1 .taken)))
+
+add-next : tie.Need-add-next Inv-loop μ-loop
+add-next c =
+    let st = c .before .before .before .before .before .before .before .before .before .before .before .before .before .before .before .before .before .before in
+    let l = c .before .before .before .before .before .before .before .before .before .before .before .before .loop in
+    let p = c .before .before .before .before .before .before .before .read-row .ensures .inside in
+    let q = l .inv .2 .inside in
+    let d = rw (take-rest (st .args .s .now) (l .next)) at p in
+    let e = length-drop (l .next) (st .args .s .now) in
+    let z = st .pre .3 in
+    omega arith
+
+add-i : tie.Need-add-i Inv-loop μ-loop
+add-i c = omega arith
+
+loop-less : tie.Need-loop-less Inv-loop μ-loop
+loop-less c = omega arith
+
+loop-again : tie.Need-loop-again Inv-loop μ-loop
+loop-again c =
+    let st = c .before .before .before .before .before .before .before .before .before .before .before .before .before .before .before .before .before .before in
+    let l = c .before .before .before .before .before .before .before .before .before .before .before .before .loop in
+    let h = rw (take-rest (st .args .s .now) (l .next)) at (c .before .before .before .before .before .before .before .read-row .ensures) in
+    let w = l .inv .0 in
+    let b = l .inv .1 in
+    (omega arith, omega arith, row-off (l .inv .2) (omega arith) h (not-false _ (c .before .if1 .left)))
+
+same-length-3 : tie.Need-same-length-3 Inv-loop μ-loop
+same-length-3 c = omega arith
+
+same-length-4 : tie.Need-same-length-4 Inv-loop μ-loop
+same-length-4 c = omega arith
+
+returns-2 : tie.Need-returns-2 Inv-loop μ-loop
+returns-2 c =
+    let st = c .before .before .before .before .before .before .before in
+    let a = st .args in
+    let l = c .before .loop in
+    rows-ended (a .section) (a .s .now) (a .at) (view (memory (a .words .now) (a .store .now))) _ (l .i) (l .next) _ (l .inv .2) (omega arith)
+
+pub read-section-spec : {M : Type 1} → statement M
+read-section-spec =
+    tie.close
+    (tie.spec
+    Inv-loop
+    μ-loop
+    read-u16-requires
+    cast-n
+    add-within
+    within-requires
+    loop-holds
+    sub-read-row
+    part-read-row-start
+    part-read-row-end
+    read-row-requires
+    same-length
+    same-length-2
+    returns
+    add-next
+    add-i
+    loop-less
+    loop-again
+    same-length-3
+    same-length-4
+    returns-2)

@@ -1,0 +1,74 @@
+-- `sections::read_table`: too many bytes and another count are no snapshot; else the sections decide.
+use borrow.Author.Needs.{needs}
+use mathlib.Core.Path.{sym, ap, _∙_}
+use native.Mathlib.Omega.{arith}
+use Rattle.rules.specs.Entries.{fresh, withNext}
+use Rattle.snapshot_reader.proofs.sections.Refused.{too-long, other-count, table-refused}
+use Rattle.snapshot_reader.proofs.sections.read_table.Statement.{statement}
+use Rattle.snapshot_reader.proofs.sections.read_table.Tie as tie
+
+returns : tie.Need-returns
+returns c = let s = c .before .before .before .before .args .s .now in table-refused s _ (too-long s (c .if1 .taken))
+
+read-u16-requires : tie.Need-read-u16-requires
+read-u16-requires c κs = search needs
+
+returns-2 : tie.Need-returns-2
+returns-2 c = let s = c .before .before .before .before .before .before .args .s .now in table-refused s _ (other-count s (λ z. c .if2 .taken (c .before .read-u16 .ensures ∙ z)))
+
+read-u64-requires : tie.Need-read-u64-requires
+read-u64-requires c κs = search needs
+
+clear-requires : tie.Need-clear-requires
+clear-requires c κs = search needs
+
+read-u64-requires-2 : tie.Need-read-u64-requires-2
+read-u64-requires-2 c κs = search needs
+
+set-next-requires : tie.Need-set-next-requires
+set-next-requires c κs = search needs
+
+within-requires : tie.Need-within-requires
+within-requires c κs = search needs
+
+read-sections-requires : tie.Need-read-sections-requires
+read-sections-requires c κs =
+    let st = c .before .before .before .before .before .before .before .before .before .before .before .before .before .before .before .before .before .before .before in
+    let store = st .args .store .now in
+    let n = c .before .before .before .before .before .before .read-u642 in
+    let t = c .before .before .before .before .before .before .before .before .before .before .before .read-u64 in (
+      omega arith,
+      st .pre .1,
+      c .before .before .before .before .before .before .before .before .before .before .before .before .before .before .before .if1 .left,
+      c .within .ensures,
+      sym (c .before .before .before .before .before .before .before .before .before .before .before .before .before .before .read-u16 .ensures) ∙ c .before .before .before .before .before .before .before .before .before .before .before .before .before .if2 .left,
+      c .before .before .before .before .before .set-next .ensures store
+          ∙ ap (withNext (n .result)) (c .before .before .before .before .before .before .before .before .before .before .clear .ensures store)
+          ∙ (λ u. withNext (n .ensures u) (fresh (t .ensures u))),
+    )
+
+same-length : tie.Need-same-length
+same-length c = search needs
+
+same-length-2 : tie.Need-same-length-2
+same-length-2 c = search needs
+
+returns-3 : tie.Need-returns-3
+returns-3 c = c .before .before .before .before .read-sections .ensures
+
+pub read-table-spec : {M : Type 1} → statement M
+read-table-spec =
+    tie.close
+    (tie.spec
+    returns
+    read-u16-requires
+    returns-2
+    read-u64-requires
+    clear-requires
+    read-u64-requires-2
+    set-next-requires
+    within-requires
+    read-sections-requires
+    same-length
+    same-length-2
+    returns-3)
