@@ -63,12 +63,10 @@ fn next_stop<'a>(words: &'a [u64], store: &'a [u8], reference: &'a [u8]) {
 }
 
 fn resolve<'a>(words: &'a [u64], store: &'a [u8], oxid: Oxid) {
-    let mut list = [0u8; 2048];
+    let mut list = [0u8; limits::LONGEST_LIST];
     let r = resolver::resolve(words, store, oxid, &mut list);
-    let n = r.length;
-    if n <= 2048 {
-        resolved(r.answer, &list[0..n]);
-    }
+    let n = fields::within(&list, r.length);
+    resolved(r.answer, &list[0..n]);
 }
 
 fn resolved(number: u32, list: &[u8]) {
@@ -90,7 +88,7 @@ fn resolved(number: u32, list: &[u8]) {
 
 // Asks for addresses of one protocol alone, UDP, which the server does not offer.
 fn resolve_udp<'a>(words: &'a [u64], store: &'a [u8], oxid: Oxid) {
-    let mut list = [0u8; 2048];
+    let mut list = [0u8; limits::LONGEST_LIST];
     let r = resolver::resolve_filtered(words, store, oxid, &[8], &mut list);
     say::results(
         r.answer,
