@@ -14,7 +14,7 @@ use Rattle.fields.specs.Fields.{bytesNumber, encode, field, Bytes}
 use Rattle.fields.proofs.Fields.{length-encode, field-as, field-then, field-next}
 use Rattle.bindings.specs.Bindings.{words, bindingsOf, joined, isPart, isBare, count, split, partStart, partWords, twoParts, listLength, listAnswer, refusal, place, bindingAt}
 use Rattle.bindings.specs.Layout.{Binding, bindingWords, partLayout, IsLayout}
-use Rattle.bindings.specs.ListBytes.{Words16, wordBytes, partsBytes, bareList, listBytes, Listable, IsList, ofPart, bindingStart, Holds}
+use Rattle.bindings.specs.ListBytes.{Words16, wordBytes, partsBytes, bareList, listBytes, Listable, IsList, ofPart, bindingStart, Holds, ListsExactly, BindingK}
 use Rattle.bindings.specs.declared.Part.{Part}
 use Rattle.bindings.specs.declared.Part.the-variants.{Strings, Security}
 use Rattle.bindings.proofs.Parts.{length-words, words-none, bindings-none}
@@ -307,3 +307,20 @@ pub bare-binding : (s : List ℕ) (p : Part) (k : ℕ) → listAnswer s ≡ 0 �
 unfolding bindingAt place
 bare-binding s Strings k done e = let z = bare s e in rw (eq-eqb _ _ done, z .1, words-none s 4 0 refl, bindings-none Strings)
 bare-binding s Security k done e = let z = bare s e in rw (eq-eqb _ _ done, z .0, z .1, words-none s (4 + 2 * 0) 0 refl, bindings-none Security)
+
+-- ---- the statements
+
+bare-true : isBare bareList ≡ true
+unfolding field bytesNumber
+bare-true = refl
+
+pub lists-exactly : ListsExactly
+lists-exactly = record { accepted = list-accepted; isList = accepted-list; remade = list-remade }
+
+pub binding-k : BindingK
+binding-k =
+    record {
+      shown = λ strings security h. made-binding strings security h;
+      none = λ strings security h. made-beyond strings security h;
+      bare = λ p k. bare-binding bareList p k bare-accepted bare-true;
+    }

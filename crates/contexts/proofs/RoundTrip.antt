@@ -1,18 +1,22 @@
 -- Round trips of contexts over their layout.
-use Prim.Native.Nat.{ℕ, suc, zero, _+_, _≤_}
+use Prim.Native.Nat.{ℕ, suc, zero, _+_, _-_, _<_, _≤_}
 use mathlib.Core.Path.{_≡_, refl, sym, ap, _∙_}
+use mathlib.Core.Bool.{Bool, true, false, cond, not}
 use mathlib.Core.List.{List, [], _∷_, _++_, append-assoc}
 use native.Mathlib.Omega.{arith}
-use borrow.Author.Tests.{ltb-false}
-use lib.Dec.{ltb}
-use lib.ListN.{length, take, drop, length-append, length-drop, take-append-drop}
+use borrow.Author.Tests.{ltb-false, le-ltb, eq-eqb}
+use lib.Dec.{ltb, eqb}
+use lib.ListN.{length, take, drop, getD, length-append, length-drop, take-append-drop}
 use lib.Seq.{take-at, drop-at, drop-drop, length-take-le}
 use Rattle.kinds.specs.Refusals.{order}
 use Rattle.kinds.proofs.Refusing.{eq-differ, passed, passed-on, last-row}
 use Rattle.fields.specs.Fields.{field, encode, guidBytes, Bytes}
 use Rattle.fields.proofs.Fields.{drop-bytes, field-part, guid-part, field-then, guid-then}
-use Rattle.contexts.specs.Contexts.{Held, propertyBytes, headBytes, propertiesBytes, contextBytes, contextAt, propertyAt, propertyLength, propertyContent, propertiesAt, propertyAnswer, propertiesAnswer, headAnswer, contextAnswer}
-use Rattle.contexts.specs.RoundTrips.{Fits, Proper, AllProper, none, more, ContextWriteThenRead, ContextReadThenWrite}
+use Rattle.contexts.specs.Contexts.{Held, propertyBytes, headBytes, propertiesBytes, contextBytes, contextAt, propertyAt, propertyLength, propertyContent, propertiesAt, propertyAnswer, propertiesAnswer, headAnswer, contextAnswer, isPropertyFlags, contentPlace, propertyPlace, readProperty}
+use Rattle.bindings.specs.declared.Place.{Place}
+use Rattle.bindings.specs.Bindings.{refusal, bytesAt}
+use Rattle.bindings.proofs.ListBytes.{by-bool}
+use Rattle.contexts.specs.RoundTrips.{Fits, Narrow, Proper, AllProper, none, more, ContextWriteThenRead, ContextReadThenWrite, ContextWriterAsReader, Shows, PropertyK}
 use Rattle.contexts.specs.declared.Context.{Context}
 use Rattle.contexts.proofs.Properties.{Accepted, accepted, accept, Headed, headed, head-accept}
 
@@ -26,7 +30,7 @@ record Laid (t : List ℕ) (h : Held) (rest : List ℕ) : Type 0 where
   after : drop (propertyLength t) t ≡ rest
   room : propertyLength t ≤ length t
 
-module _ (h : Held) (rest : List ℕ) (f : Proper h) where
+module _ (h : Held) (rest : List ℕ) (f : Narrow h) where
   fixed : List ℕ
   fixed = guidBytes (h .property .clsid) ++ guidBytes (h .property .policy) ++ encode 4 (h .property .flags) ++ encode 4 (length (h .content))
 
@@ -50,8 +54,8 @@ module _ (h : Held) (rest : List ℕ) (f : Proper h) where
       let d = length-append y rest in
       let n = length-fixed in
       let l : 40 ≤ length t = omega arith in
-      let flags = field-part t fixed 0 40 front l 32 4 (h .property .flags) (omega arith) refl (f .narrow) in
-      let size = field-part t fixed 0 40 front l 36 4 (length y) (omega arith) refl (f .small) in
+      let flags = field-part t fixed 0 40 front l 32 4 (h .property .flags) (omega arith) refl (f .flags) in
+      let size = field-part t fixed 0 40 front l 36 4 (length y) (omega arith) refl (f .size) in
       let clsid = guid-part t fixed 0 40 front l 0 (h .property .clsid) (omega arith) refl (f .clsid) in
       let policy = guid-part t fixed 0 40 front l 16 (h .property .policy) (omega arith) refl (f .policy) in
       record {
@@ -92,7 +96,7 @@ pub properties-read-back : (hs : List Held) → AllProper hs → (propertiesAnsw
 unfolding propertiesBytes propertiesAt
 properties-read-back [] none = (none-done, refl)
 properties-read-back (h ∷ hs) (more f fs) =
-    let l = property-laid h (propertiesBytes hs) f in
+    let l = property-laid h (propertiesBytes hs) (f .narrow) in
     let t = propertyBytes (h .property) (h .content) ++ propertiesBytes hs in
     let i = properties-read-back hs fs in
     let ok : propertyAnswer t ≡ 0 = accept t (rw (l .flags) (f .flags)) (l .room) in
@@ -198,3 +202,57 @@ context-read-then-write s b done =
     (field-then s 32 4 _ b (omega arith) (field-then s 36 4 _ b (omega arith) (field-then s 40 4 _ b (omega arith)
     (field-then s 44 4 _ b (omega arith) refl)))))))))))
     ∙ simp append-assoc)
+
+-- ---- the writers as the reader
+
+property-given : (h : Held) (rest : List ℕ) → Narrow h → propertyAnswer (propertyBytes (h .property) (h .content) ++ rest) ≡ cond (isPropertyFlags (h .property .flags)) 0 14
+unfolding propertyAnswer order
+property-given h rest f =
+    let l = property-laid h rest f in
+    let room = l .room in
+    let t = propertyBytes (h .property) (h .content) ++ rest in
+    let a : 36 ≤ length t = omega arith in
+    let b : 40 ≤ length t = omega arith in
+    by-bool (isPropertyFlags (h .property .flags))
+    (λ e. rw e (accept t (rw (l .flags) e) room))
+    (λ e. simp (le-ltb _ _ a, l .flags, e))
+
+pub context-writer-as-reader : ContextWriterAsReader
+context-writer-as-reader = record { property = property-given; context = context-given }
+
+-- ---- property k is number k of those that are read
+
+record ShownAt (s : List ℕ) (x : Place) (h : Held) : Type 0 where
+  answer : x .answer ≡ 0
+  fields : propertyAt (drop (x .from - 40) s) ≡ h .property
+  content : bytesAt s x ≡ h .content
+
+shown-at : (n : ℕ) (s : List ℕ) (k at : ℕ) (h : Held) → k < n → ShownAt s (contentPlace n (drop at s) k at) (getD (propertiesAt n (drop at s)) k h)
+unfolding contentPlace propertiesAt
+shown-at zero s k at h l = absurd (omega arith)
+shown-at (suc n) s zero at h l =
+    let from : at + 40 - 40 ≡ at = omega arith in
+    let size : at + propertyLength (drop at s) - (at + 40) ≡ field (drop at s) 36 4 = omega arith in
+    record { answer = refl; fields = rw from; content = rw (size, drop-drop 40 at s) }
+shown-at (suc n) s (suc k) at h l =
+    rw (drop-drop (propertyLength (drop at s)) at s) (shown-at n s k (at + propertyLength (drop at s)) h (omega arith))
+
+none-at : (n : ℕ) (t : List ℕ) (k at : ℕ) → n ≤ k → contentPlace n t k at ≡ refusal 24
+unfolding contentPlace
+none-at zero t k at l = refl
+none-at (suc n) t zero at l = absurd (omega arith)
+none-at (suc n) t (suc k) at l = none-at n (drop (propertyLength t) t) k (at + propertyLength t) (omega arith)
+
+pub property-k : PropertyK
+unfolding propertyPlace readProperty
+property-k s done =
+    record {
+      shown = λ k h l.
+          let x = shown-at (field s 40 4) s k 48 h l in
+          record {
+            fields = rw (eq-eqb _ _ done, eq-eqb _ _ (x .answer), x .fields);
+            answer = rw (eq-eqb _ _ done) (x .answer);
+            content = rw (eq-eqb _ _ done) (x .content);
+          };
+      none = λ k l. rw (eq-eqb _ _ done) (none-at (field s 40 4) (drop 48 s) k 48 l);
+    }

@@ -1,11 +1,12 @@
 -- What is to hold of reading and writing contexts, over their layout.
-use Prim.Native.Nat.{ℕ, _^_, _<_}
+use Prim.Native.Nat.{ℕ, _^_, _<_, _≤_}
 use mathlib.Core.Path.{_≡_}
-use mathlib.Core.Bool.{true}
-use mathlib.Core.List.{List, [], _∷_}
-use lib.ListN.{length, drop}
+use mathlib.Core.Bool.{true, cond}
+use mathlib.Core.List.{List, [], _∷_, _++_}
+use lib.ListN.{length, drop, getD}
 use Rattle.fields.specs.Fields.{Bytes, GuidFits}
-use Rattle.contexts.specs.Contexts.{Held, isPropertyFlags, propertiesBytes, contextBytes, contextAt, propertiesAt, contextAnswer}
+use Rattle.bindings.specs.Bindings.{refusal, bytesAt}
+use Rattle.contexts.specs.Contexts.{Held, isPropertyFlags, propertyBytes, propertiesBytes, contextBytes, contextAt, propertiesAt, propertyAnswer, propertiesAnswer, contextAnswer, propertyPlace, readProperty}
 use Rattle.contexts.specs.declared.Context.{Context}
 
 -- a context whose numbers fit their widths
@@ -16,13 +17,17 @@ pub record Fits (c : Context) : Type 0 where
   pub count : c .count < 2 ^ 32
   pub frozen : c .frozen < 2 ^ 32
 
--- a property that can be written
-pub record Proper (h : Held) : Type 0 where
+-- a property whose numbers fit their widths
+pub record Narrow (h : Held) : Type 0 where
   pub clsid : GuidFits (h .property .clsid)
   pub policy : GuidFits (h .property .policy)
+  pub flags : h .property .flags < 2 ^ 32
+  pub size : length (h .content) < 2 ^ 32
+
+-- a property that can be written
+pub record Proper (h : Held) : Type 0 where
+  pub narrow : Narrow h
   pub flags : isPropertyFlags (h .property .flags) ≡ true
-  pub narrow : h .property .flags < 2 ^ 32
-  pub small : length (h .content) < 2 ^ 32
 
 pub data AllProper : List Held → Type 0 where
   none : AllProper []
@@ -42,3 +47,23 @@ ContextWriteThenRead = (c : Context) (hs : List Held) → Fits c → AllProper h
 abbrev pub ContextReadThenWrite : Type 0
 ContextReadThenWrite = (s : List ℕ) → Bytes s → contextAnswer s ≡ 0
     → s ≡ contextBytes (contextAt s) (propertiesBytes (propertiesAt (contextAt s .count) (drop 48 s)))
+
+-- what the writers refuse before 15 is what the reader would refuse of what they would write
+pub record ContextWriterAsReader : Type 0 where
+  pub property : (h : Held) (rest : List ℕ) → Narrow h
+      → propertyAnswer (propertyBytes (h .property) (h .content) ++ rest) ≡ cond (isPropertyFlags (h .property .flags)) 0 14
+  pub context : (c : Context) (ps : List ℕ) → Fits c → contextAnswer (contextBytes c ps) ≡ propertiesAnswer (c .count) ps
+
+-- property k is shown as h: its fields, and its data as a part of s
+pub record Shows (s : List ℕ) (k : ℕ) (h : Held) : Type 0 where
+  pub fields : readProperty s k ≡ record { answer = 0; property = h .property }
+  pub answer : propertyPlace s k .answer ≡ 0
+  pub content : bytesAt s (propertyPlace s k) ≡ h .content
+
+-- property k of an accepted context is number k of those that are read; there is no other
+pub record KShown (s : List ℕ) : Type 0 where
+  pub shown : (k : ℕ) (h : Held) → k < contextAt s .count → Shows s k (getD (propertiesAt (contextAt s .count) (drop 48 s)) k h)
+  pub none : (k : ℕ) → contextAt s .count ≤ k → propertyPlace s k ≡ refusal 24
+
+abbrev pub PropertyK : Type 0
+PropertyK = (s : List ℕ) → contextAnswer s ≡ 0 → KShown s

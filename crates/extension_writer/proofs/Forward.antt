@@ -21,12 +21,12 @@ use Rattle.extension_writer.proofs.Writes.{Entry, entry, length-pointer
 
 -- ---- bytes that stand at a place, and what follows them
 
-record Stands (s : List ℕ) (at : ℕ) (x rest : List ℕ) (w : ℕ) : Type 0 where
-  room : at + w ≤ length s
-  here : take w (drop at s) ≡ x
-  next : drop (at + w) s ≡ rest
+pub record Stands (s : List ℕ) (at : ℕ) (x rest : List ℕ) (w : ℕ) : Type 0 where
+  pub room : at + w ≤ length s
+  pub here : take w (drop at s) ≡ x
+  pub next : drop (at + w) s ≡ rest
 
-stands : (s : List ℕ) (at : ℕ) (x rest : List ℕ) (w : ℕ) → length x ≡ w → at ≤ length s → drop at s ≡ x ++ rest → Stands s at x rest w
+pub stands : (s : List ℕ) (at : ℕ) (x rest : List ℕ) (w : ℕ) → length x ≡ w → at ≤ length s → drop at s ≡ x ++ rest → Stands s at x rest w
 stands s at x rest w n h e =
     let l = length-drop at s in
     let m = length-append x rest in
@@ -106,11 +106,11 @@ extents-read s p at (e ∷ es) rest rest′ hp h w (AllFit.more l m gs) dp d =
 
 -- ---- the array
 
-empty : (es : List Extent) → length es ≡ 0 → es ≡ []
+pub empty : (es : List Extent) → length es ≡ 0 → es ≡ []
 empty [] e = refl
 empty (x ∷ es) e = absurd (omega arith)
 
-or-left : (a b : Bool) → (a || b) ≡ true → a ≡ false → b ≡ true
+pub or-left : (a b : Bool) → (a || b) ≡ true → a ≡ false → b ≡ true
 or-left true b e f = absurd (true-false f)
 or-left false b e f = e
 

@@ -1,10 +1,10 @@
 -- What is proved of writing an array, wherever the header's pointer stands.
 use Prim.Native.Nat.{ℕ, _^_, _<_, _≤_}
 use mathlib.Core.Path.{_≡_}
-use mathlib.Core.Bool.{true}
+use mathlib.Core.Bool.{true, cond}
 use mathlib.Core.List.{List, [], _∷_, _++_}
 use lib.ListN.{length, getD, drop}
-use Rattle.fields.specs.Fields.{Bytes}
+use Rattle.fields.specs.Fields.{Bytes, longest}
 use Rattle.extensions.specs.Extensions.{Extent, Array, arrayBytes, extensionsAnswer, extensionsAt, extensionsEnd}
 use Rattle.extension_writer.specs.Writing.{given, writable, takes, wordsOf, contentsOf}
 
@@ -51,3 +51,15 @@ ReadIsTaken = (a : Array) → Described a
 -- words of 64 bits describe an array whose numbers fit
 abbrev pub WordsFit : Type 0
 WordsFit = (header pointer : ℕ) (ws d : List ℕ) → header < 2 ^ 32 → pointer < 2 ^ 32 → Words ws → Fits (given header pointer ws d)
+
+-- pointers and sizes that fit their fields
+pub data AllNarrow : List Extent → Type 0 where
+  none : AllNarrow []
+  more : {e : Extent} {es : List Extent} → e .pointer < 2 ^ 32 → length (e .content) ≤ longest → AllNarrow es → AllNarrow (e ∷ es)
+
+-- of an array behind a header's pointer, whose numbers fit: what the writer refuses by 14 is what the reader would refuse of what it would
+-- write, by the same number
+abbrev pub WriterAsReader : Type 0
+WriterAsReader =
+    (s : List ℕ) (at : ℕ) (a : Array) (rest : List ℕ) → at ≤ length s → Fits a → AllNarrow (a .extents) → length (a .extents) < 2 ^ 32
+    → (a .header ≡ 0 → ⊥) → drop at s ≡ arrayBytes a ++ rest → extensionsAnswer s at ≡ cond (writable a) 0 14

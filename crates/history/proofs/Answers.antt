@@ -20,7 +20,7 @@ use Rattle.history.proofs.Feeding.{fed}
 use Rattle.history.proofs.Items.{items-fed, item-answers}
 
 -- calls in two parts
-feed-append : (h : History) (cs ds : List Call) → feedAll h (cs ++ ds) ≡ feedAll (feedAll h cs) ds
+pub feed-append : (h : History) (cs ds : List Call) → feedAll h (cs ++ ds) ≡ feedAll (feedAll h cs) ds
 unfolding feedAll
 feed-append h [] ds = refl
 feed-append h (c ∷ cs) ds = feed-append (feed h c) cs ds

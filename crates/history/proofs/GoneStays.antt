@@ -12,7 +12,8 @@ use Rattle.kinds.proofs.Refusing.{by-test}
 use Rattle.lists.specs.Guids.{sameGuid}
 use Rattle.lists.proofs.Tests.{true-or-false, and-intro, and-left, and-right}
 use Rattle.lists.proofs.Lists.{map-append}
-use Rattle.lists.proofs.Distinct.{eqb-decides, same-eq}
+use Rattle.lists.proofs.Distinct.{Decides, eqb-decides, same-eq}
+use Rattle.lists.specs.Lists.{holding}
 use Rattle.lists.proofs.Guids.{guid-decides}
 use Rattle.lists.proofs.Elements.{In, every-in, in-every, in-some, some-in, in-keep, map-in, snoc-in, one-in, first-sole}
 use Rattle.rules.specs.Calls.{Call, Counting, adding, releasing, reset, enterExporter, removeExporter, enterObject, enterInterface, add, release, dropClient, countList, simplePing, complexPing, clock, resolve, resolveFiltered, census, members, nextStop, writeSnapshot, loadSnapshot}
@@ -20,7 +21,7 @@ use Rattle.rules.specs.Items.{Item, itemsOf, itemCall}
 use Rattle.rules.specs.Rules.{anyIpid, number}
 use Rattle.rules.proofs.SoundLaws.{none, _and_}
 use Rattle.history.specs.History.{ExporterLife, ObjectLife, InterfaceLife, SetLife, History, begins, atZero, interfacesAtZero, exporterRemoved, unheardSince, unheard, objectGone, liveObjects, liveInterface, liveSet, noObjectLife, live, withSetLives, removedLife, heardLife, atAccount, atAccounts, granting, taking, takingAll, pingedLife, changed, atLiveInterfaces, atLiveSet, objectSerials, isMember, pingLives, startSet, countLived, itemFed, itemsFed, lived, feed, feedAll, along, implies, staysGone}
-use Rattle.history.specs.Runs.{historyOf, StaysGone}
+use Rattle.history.specs.Runs.{unbegun, historyOf, noneBegins, StaysGone}
 use Rattle.history.proofs.Lives.{Kept, serialOfObject}
 use Rattle.history.proofs.Beginning.{kept-fresh}
 use Rattle.history.proofs.Identities.{live-object, found-object}
@@ -28,6 +29,7 @@ use Rattle.history.proofs.Steps.{clock-live}
 use Rattle.history.proofs.Entering.{interface-accepted}
 use Rattle.history.proofs.Leaving.{clock-accepted}
 use Rattle.history.proofs.Feeding.{step, fed}
+use Rattle.history.proofs.Answers.{feed-append}
 
 -- ---- two lists, place by place
 
@@ -509,12 +511,10 @@ unfolding feedAll
 kept-all h k [] = k
 kept-all h k (c ∷ cs) = kept-all (feed h c) (fed c h k .kept) cs
 
--- what has gone stays gone
-pub stays-gone : StaysGone
+-- one call more
+call-gone : (h : History) → Kept h → (c : Call) → (begins c && eqb (number c (live h)) 0) ≡ false → staysGone h (feed h c) ≡ true
 unfolding feed
-stays-gone cs c t =
-    let h : History = historyOf cs in
-    let k = kept-all _ (kept-fresh 0) cs in
+call-gone h k c t =
     by-test (λ (g : History). staysGone h g ≡ true) (eqb (number c (live h)) 0) (lived c h) h
     (λ a. let n = eqb-true (number c (live h)) 0 a in later-gone h (lived c h) (later c h k (accepted (begins c) _ a t) n) k (step c h k n .kept))
     (λ a. later-gone h h (later-self h) k k)
@@ -522,3 +522,91 @@ stays-gone cs c t =
     accepted : (a b : Bool) → b ≡ true → (a && b) ≡ false → a ≡ false
     accepted true b t f = absurd (true≢false (sym t ∙ f))
     accepted false b t f = refl
+
+-- ---- over more than one call
+
+implies-then : (a b c : Bool) → implies a b ≡ true → implies b c ≡ true → implies a c ≡ true
+implies-then true true c f g = g
+implies-then true false c f g = absurd (true≢false (sym f))
+implies-then false b c f g = refl
+
+-- the same life, which stays gone
+life-then : {A : Type 0} (same : A → A → Bool) → Decides same → (x y z : A) (a b c : Bool)
+    → (same x y && implies a b) ≡ true → (same y z && implies b c) ≡ true → (same x z && implies a c) ≡ true
+life-then same dec x y z a b c f g =
+    and-intro (same x z) (implies a c)
+    (same-eq same dec x z (dec .sound x y (and-left (same x y) (implies a b) f) ∙ dec .sound y z (and-left (same y z) (implies b c) g)))
+    (implies-then a b c (and-right (same x y) (implies a b) f) (and-right (same y z) (implies b c) g))
+
+along-on : {A : Type 0} (p q r : A → A → Bool) → ((x y z : A) → p x y ≡ true → q y z ≡ true → r x z ≡ true)
+    → (xs ys zs : List A) → along p xs ys ≡ true → along q ys zs ≡ true → along r xs zs ≡ true
+unfolding along
+along-on p q r t [] ys zs a b = refl
+along-on p q r t (x ∷ xs) [] zs a b = absurd (true≢false (sym a))
+along-on p q r t (x ∷ xs) (y ∷ ys) [] a b = absurd (true≢false (sym b))
+along-on p q r t (x ∷ xs) (y ∷ ys) (z ∷ zs) a b =
+    and-intro (r x z) (along r xs zs)
+    (t x y z (and-left (p x y) (along p xs ys) a) (and-left (q y z) (along q ys zs) b))
+    (along-on p q r t xs ys zs (and-right (p x y) (along p xs ys) a) (and-right (q y z) (along q ys zs) b))
+
+abbrev exporterStays : ExporterLife → ExporterLife → Bool
+exporterStays x x′ = eqb (x .serial) (x′ .serial) && implies (x .removed) (x′ .removed)
+
+abbrev objectStays : History → History → ObjectLife → ObjectLife → Bool
+objectStays h h′ o o′ = eqb (o .serial) (o′ .serial) && implies (objectGone h o) (objectGone h′ o′)
+
+abbrev interfaceStays : History → History → InterfaceLife → InterfaceLife → Bool
+interfaceStays h h′ l l′ = sameGuid (l .ipid) (l′ .ipid) && implies (not (liveInterface h l)) (not (liveInterface h′ l′))
+
+abbrev setStays : History → History → SetLife → SetLife → Bool
+setStays h h′ s s′ = eqb (s .number) (s′ .number) && implies (not (liveSet h s)) (not (liveSet h′ s′))
+
+record Stays (h h′ : History) : Type 0 where
+  exporters : along exporterStays (h .exporters) (h′ .exporters) ≡ true
+  objects : along (objectStays h h′) (h .objects) (h′ .objects) ≡ true
+  interfaces : along (interfaceStays h h′) (h .interfaces) (h′ .interfaces) ≡ true
+  sets : along (setStays h h′) (h .sets) (h′ .sets) ≡ true
+
+stays-fields : (h h′ : History) → staysGone h h′ ≡ true → Stays h h′
+unfolding staysGone holding
+stays-fields h h′ s =
+    let a = and-right (along exporterStays (h .exporters) (h′ .exporters)) _ s in
+    let b = and-right (along (objectStays h h′) (h .objects) (h′ .objects)) _ a in
+    let c = and-right (along (interfaceStays h h′) (h .interfaces) (h′ .interfaces)) _ b in
+    record { exporters = and-left _ _ s; objects = and-left _ _ a; interfaces = and-left _ _ b; sets = and-left _ _ c }
+
+stays-made : (h h′ : History) → Stays h h′ → staysGone h h′ ≡ true
+unfolding staysGone
+stays-made h h′ s = (s .exporters and s .objects and s .interfaces and s .sets and none) .together
+
+stays-then : (h h′ h″ : History) → staysGone h h′ ≡ true → staysGone h′ h″ ≡ true → staysGone h h″ ≡ true
+stays-then h h′ h″ s t =
+    let a = stays-fields h h′ s in
+    let b = stays-fields h′ h″ t in
+    stays-made h h″
+    (record {
+      exporters = along-on exporterStays exporterStays exporterStays (λ x y z. life-then eqb eqb-decides (x .serial) (y .serial) (z .serial) (x .removed) (y .removed) (z .removed))
+          (h .exporters) (h′ .exporters) (h″ .exporters) (a .exporters) (b .exporters);
+      objects = along-on (objectStays h h′) (objectStays h′ h″) (objectStays h h″)
+          (λ x y z. life-then eqb eqb-decides (x .serial) (y .serial) (z .serial) (objectGone h x) (objectGone h′ y) (objectGone h″ z))
+          (h .objects) (h′ .objects) (h″ .objects) (a .objects) (b .objects);
+      interfaces = along-on (interfaceStays h h′) (interfaceStays h′ h″) (interfaceStays h h″)
+          (λ x y z. life-then sameGuid guid-decides (x .ipid) (y .ipid) (z .ipid) (not (liveInterface h x)) (not (liveInterface h′ y)) (not (liveInterface h″ z)))
+          (h .interfaces) (h′ .interfaces) (h″ .interfaces) (a .interfaces) (b .interfaces);
+      sets = along-on (setStays h h′) (setStays h′ h″) (setStays h h″)
+          (λ x y z. life-then eqb eqb-decides (x .number) (y .number) (z .number) (not (liveSet h x)) (not (liveSet h′ y)) (not (liveSet h″ z)))
+          (h .sets) (h′ .sets) (h″ .sets) (a .sets) (b .sets);
+    })
+
+calls-gone : (h : History) → Kept h → (ds : List Call) → noneBegins h ds ≡ true → staysGone h (feedAll h ds) ≡ true
+unfolding feedAll noneBegins
+calls-gone h k [] b = later-gone h h (later-self h) k k
+calls-gone h k (d ∷ ds) b =
+    stays-then h (feed h d) (feedAll (feed h d) ds)
+    (call-gone h k d (not-true (begins d && eqb (number d (live h)) 0) (and-left (not (begins d && eqb (number d (live h)) 0)) (noneBegins (feed h d) ds) b)))
+    (calls-gone (feed h d) (fed d h k .kept) ds (and-right (not (begins d && eqb (number d (live h)) 0)) (noneBegins (feed h d) ds) b))
+
+-- what has gone stays gone
+pub stays-gone : StaysGone
+stays-gone cs ds b =
+    subst (λ (g : History). staysGone (historyOf cs) g ≡ true) (sym (feed-append unbegun cs ds)) (calls-gone (historyOf cs) (kept-all _ (kept-fresh 0) cs) ds b)

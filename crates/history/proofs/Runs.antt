@@ -1,29 +1,31 @@
 -- Demand 3 over whole runs: a chain of performed calls leaves the live entries of the history of its calls. Of a function nothing is
 -- used but that it performs its call.
 use Prim.Native.Nat.{ℕ}
-use mathlib.Core.Path.{_≡_, refl, sym, ap, _∙_}
+use mathlib.Core.Path.{_≡_, refl, sym, ap, subst, _∙_}
 use mathlib.Core.Bool.{Bool, true, cond, _&&_, _||_, or-true, true≢false}
 use mathlib.Core.List.{List, _∷_}
 use mathlib.Core.Logic.{⊎-elim}
 use native.Mathlib.Omega.{arith}
 use borrow.Author.Tests.{eq-eqb, ne-eqb}
+use Rattle.kinds.specs.declared.Guid.{Guid}
 use Rattle.kinds.specs.Refusals.{order}
 use Rattle.lists.proofs.Tests.{true-or-false, same-or-not, and-left, and-right}
 use Rattle.rules.specs.Entries.{Entries}
 use Rattle.rules.specs.Calls.{Call, reset, enterExporter, removeExporter, enterObject, enterInterface, add, release, dropClient, countList, simplePing, complexPing, clock, resolve, resolveFiltered, census, members, nextStop, writeSnapshot, loadSnapshot, Reply}
 use Rattle.rules.specs.Sound.{sound}
-use Rattle.rules.specs.Rules.{refusals, number, next, results, refusedReply, acceptedReply, reply}
+use Rattle.rules.specs.Rules.{refusals, number, next, results, refusedReply, acceptedReply, reply, releaseValues, clockValues}
 use Rattle.rules.specs.Contract as contract
 use Rattle.rules.specs.Contract.{Memory, rightLengths, lengthsOnly, fit, replyTo}
 use Rattle.rules.proofs.Stepping.{reply-number}
 use Rattle.rules.proofs.SoundLaws.{table-fields}
 use Rattle.table.specs.View.{view, soundMemory, Performed}
-use Rattle.history.specs.History.{History, begins, live, feed, feedAll, replies, numbers}
+use Rattle.history.specs.History.{History, begins, live, feed, feedAll, replies, numbers, staysGone}
 use Rattle.history.specs.Runs.{Run, none, call, answeredAll, callsIn, numbersIn, unbegun, historyOf, WholeRun, countsGranted, goneExactly, roomExactly}
 use Rattle.history.proofs.Lives.{Kept}
 use Rattle.history.proofs.Beginning.{kept-fresh}
 use Rattle.history.proofs.Feeding.{fed}
 use Rattle.history.proofs.Answers.{all-answers}
+use Rattle.history.proofs.GoneStays.{stays-gone}
 use Rattle.history.proofs.Room.{room-exactly, view-placed}
 use Rattle.history.proofs.Demands.{identifiers-distinct, one-object, some-reference, objects-exported, members-live, counts-granted, gone-exactly}
 
@@ -93,6 +95,21 @@ module _ (c : Call) (m m′ : Memory) (r : Reply) (h : History) (p : Performed c
       })
       (same-or-not (number c (live h)) 0)
 
+-- ---- what an accepted call tells of what went
+
+module _ (c : Call) (m m′ : Memory) (r : Reply) (h : History) (p : Performed c m r m′) (f : Follows m h) (z : r .number ≡ 0) where
+  -- the rules' entries after it are the history's
+  after-live : next c (live h) ≡ live (feed h c)
+  after-live =
+      sym (fed c h (f .kept) .entries ∙ ap (λ (b : Bool). cond b (next c (live h)) (live h)) (eq-eqb (number c (live h)) 0 (sym (call-number c m m′ r h p f) ∙ z)))
+
+  -- its values are those of its results on the history's entries
+  told : r .values ≡ results c (live h) .values
+  unfolding reply acceptedReply
+  told =
+      ap (λ (q : Reply). q .values) (call-reply c m m′ r h p f)
+      ∙ ap (λ (b : Bool). cond b (acceptedReply c (live h)) (refusedReply (number c (live h)) c (live h)) .values) (eq-eqb (number c (live h)) 0 (sym (call-number c m m′ r h p f) ∙ z))
+
 -- ---- a run
 
 -- after a run the memory holds the live entries of the history of its calls, and every reply is the history's
@@ -157,6 +174,17 @@ begun-follows {c} {cs} {r} {rs} {m} b z (call {m′ = m₁} p t) =
     let n = run-follows t (feed unbegun c) (first-follows c m m₁ r p b z) in
     (n .0, λ u. first-reply c m m₁ r p b z u ∷ n .1 u)
 
+release-told : (c : ℕ) (i : Guid) (p q : ℕ) (m m′ : Memory) (r : Reply) (h : History) → Performed (release c i p q) m r m′ → Follows m h → r .number ≡ 0
+    → r .values ≡ releaseValues c i p q (live h) (live (feed h (release c i p q)))
+unfolding results
+release-told c i p q m m′ r h a f z =
+    told (release c i p q) m m′ r h a f z ∙ ap (releaseValues c i p q (live h)) (after-live (release c i p q) m m′ r h a f z)
+
+clock-told : (t : ℕ) (m m′ : Memory) (r : Reply) (h : History) → Performed (clock t) m r m′ → Follows m h → r .number ≡ 0
+    → r .values ≡ clockValues (live h) (live (feed h (clock t)))
+unfolding results
+clock-told t m m′ r h a f z = told (clock t) m m′ r h a f z ∙ ap (clockValues (live h)) (after-live (clock t) m m′ r h a f z)
+
 -- demand 3
 pub whole-run : WholeRun
 whole-run c r cs rs m₀ m b z run =
@@ -178,6 +206,9 @@ whole-run c r cs rs m₀ m b z run =
       memberLive = members-live (view m) s;
       counts = ap (countsGranted h) e ∙ counts-granted h (w .0 .kept);
       gone = ap (goneExactly h) e ∙ gone-exactly h (w .0 .kept);
+      stays = λ a d q b. subst (λ (ds : List Call). staysGone (historyOf a) (historyOf ds) ≡ true) (sym q) (stays-gone a d b);
+      released = λ a i p q d m′ f y. release-told a i p q m m′ d h f (w .0) y;
+      expired = λ t d m′ f y. clock-told t m m′ d h f (w .0) y;
       room = λ d q m′ p.
           ap (λ (n : ℕ). roomExactly n d (view m))
           (ap (λ (a : Reply). a .number) (p .answered ∙ replied d m (w .0 .sound)) ∙ reply-number d (view m))

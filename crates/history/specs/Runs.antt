@@ -5,6 +5,7 @@ use mathlib.Core.Bool.{Bool, true, false, cond, not, _&&_, _||_}
 use mathlib.Core.List.{List, [], _∷_, _++_, map}
 use lib.ListN.{length, getD}
 use lib.Dec.{eqb, ltb, leb}
+use Rattle.kinds.specs.declared.Guid.{Guid}
 use Rattle.kinds.specs.Refusals.{Row, order}
 use Rattle.bindings.specs.Bindings.{joined}
 use Rattle.lists.specs.Lists.{keep, every, distinct, some, tabulate}
@@ -13,7 +14,7 @@ use Rattle.rules.specs.Entries.{Exporter, Object, Interface, PingSet, Entries, 
 use Rattle.rules.specs.Calls.{Call, reset, enterExporter, removeExporter, enterObject, enterInterface, add, release, dropClient, countList, simplePing, complexPing, clock, resolve, resolveFiltered, census, members, nextStop, writeSnapshot, loadSnapshot, Reply}
 use Rattle.rules.specs.Items.{itemAt, itemCount, itemCall}
 use Rattle.rules.specs.Sound.{sound}
-use Rattle.rules.specs.Rules.{isLiveExporter, isLiveObject, interfaceOf, refusals, number}
+use Rattle.rules.specs.Rules.{isLiveExporter, isLiveObject, interfaceOf, refusals, number, releaseValues, clockValues}
 use Rattle.rules.specs.Contract.{Memory}
 use Rattle.table.specs.View.{view, soundMemory, Performed}
 use Rattle.history.specs.History.{ObjectLife, InterfaceLife, History, begin, begins, interfacesAtZero, exporterRemoved, unheard, liveInterface, live, feed, feedAll, replies, numbers, staysGone, accountOf}
@@ -160,6 +161,11 @@ unbegun = begin (fresh 0)
 abbrev pub historyOf : List Call → History
 historyOf cs = feedAll unbegun cs
 
+-- none of these calls, done in turn from a history, begins it anew
+unfoldable pub noneBegins : History → List Call → Bool
+noneBegins h [] = true
+noneBegins h (c ∷ cs) = not (begins c && eqb (number c (live h)) 0) && noneBegins (feed h c) cs
+
 -- after the calls cs and their replies rs, with the memory m: a field for each sentence of demand 3
 pub record AfterRun (cs : List Call) (rs : List Reply) (m : Memory) : Type 0 where
   -- each is answered as demand 2 says, on the history's own live entries
@@ -177,6 +183,13 @@ pub record AfterRun (cs : List Call) (rs : List Reply) (m : Memory) : Type 0 whe
   pub memberLive : membersLive (view m) ≡ true
   pub counts : countsGranted (historyOf cs) (view m) ≡ true
   pub gone : goneExactly (historyOf cs) (view m) ≡ true
+  -- what had gone after the first calls has gone, where none of the later ones is an accepted reset or load
+  pub stays : (firsts laters : List Call) → cs ≡ firsts ++ laters → noneBegins (historyOf firsts) laters ≡ true → staysGone (historyOf firsts) (historyOf cs) ≡ true
+  -- what an accepted release and clock tell is so of the history's own live entries before and after them
+  pub released : (c : ℕ) (i : Guid) (p q : ℕ) (r : Reply) (m′ : Memory) → Performed (release c i p q) m r m′ → r .number ≡ 0
+      → r .values ≡ releaseValues c i p q (live (historyOf cs)) (live (feed (historyOf cs) (release c i p q)))
+  pub expired : (t : ℕ) (r : Reply) (m′ : Memory) → Performed (clock t) m r m′ → r .number ≡ 0
+      → r .values ≡ clockValues (live (historyOf cs)) (live (feed (historyOf cs) (clock t)))
   -- of the answer of whatever call is performed next
   pub room : (c : Call) (r : Reply) (m′ : Memory) → Performed c m r m′ → roomExactly (r .number) c (view m) ≡ true
 
@@ -189,12 +202,9 @@ WholeRun =
     → Run (c ∷ cs) (r ∷ rs) m₀ m
     → AfterRun (c ∷ cs) (r ∷ rs) m
 
--- what has gone in a history stays gone after any call but an accepted reset or load; so what was unheard at an accepted clock is gone at every later one
+-- what has gone in a history stays gone until an accepted reset or load; so what was unheard at an accepted clock is gone at every later one
 abbrev pub StaysGone : Type 0
-StaysGone =
-    (cs : List Call) (c : Call)
-    → (begins c && eqb (number c (live (historyOf cs))) 0) ≡ false
-    → staysGone (historyOf cs) (feed (historyOf cs) c) ≡ true
+StaysGone = (cs ds : List Call) → noneBegins (historyOf cs) ds ≡ true → staysGone (historyOf cs) (historyOf (cs ++ ds)) ≡ true
 
 -- a history that begins at sound entries has exactly these for its live entries
 abbrev pub BeginsAt : Type 0

@@ -60,7 +60,7 @@ fn in_reference(own: Place) -> StopPlace
     }
 }
 
-// Where the next stop stands: 0, or 1; the reference's 13, 14 or 22; 14 for a custom reference.
+// Where the next stop stands: 0, or 1; the reference's 13, 14, 21 or 22; 14 for a custom reference.
 pub fn next_stop_place<'a>(words: &'a [u64], store: &'a [u8], reference: &'a [u8]) -> StopPlace
     ensures { λ r. ⌜ StopFound (memory (now (words .entry)) (now (store .entry))) (now (reference .entry)) r ⌝ }
 {

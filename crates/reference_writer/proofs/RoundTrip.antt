@@ -28,7 +28,7 @@ use Rattle.references.proofs.Forms.{by-form, flags-at, Headed, Opened, opened}
 use Rattle.references.proofs.Nested.{Level, level, content-from}
 use Rattle.reference_writer.proofs.Writable.{length-header, length-body, given-parts}
 use Rattle.contexts.proofs.RoundTrip.{context-write-then-read, context-read-then-write}
-use Rattle.reference_writer.specs.RoundTrips.{BlockFits, Fits, ReadAs, WriteThenRead, ReadThenWrite, Sized, WriterAsReader}
+use Rattle.reference_writer.specs.RoundTrips.{BlockFits, Fits, ReadAs, WriteThenRead, ReadThenWrite, Sized, WriterAsReader, RoundTrip}
 use Rattle.elements.proofs.RoundTrip.{laid, length-element, element-given, element-back}
 
 -- ---- the block
@@ -624,3 +624,6 @@ read-then-write s b r bytes e l =
           let clsid : guidAt s 24 ≡ r .clsid = sym (clsid-at s flags) ∙ ap (λ (y : Reference). y .clsid) (read .1) in
           context-back s bytes done flags (ap (λ (g : Guid). isMarshaler g) clsid ∙ m);
     }
+
+pub round-trip : RoundTrip
+round-trip = record { readThenWrite = read-then-write; writeThenRead = write-then-read }

@@ -56,6 +56,11 @@ abbrev pub ReadThenWrite : Type 0
 ReadThenWrite = (s b : List ℕ) (r : Reference) → Bytes s → readReference s ≡ record { answer = 0; reference = r } → length s ≤ length b
     → WrittenBack s b r
 
+-- the round trip of all four forms, nested references and contexts included, in one statement
+pub record RoundTrip : Type 0 where
+  pub readThenWrite : ReadThenWrite
+  pub writeThenRead : WriteThenRead
+
 -- what has to hold of a list and an element's data besides, so that the reader sees where each ends
 unfoldable pub Sized : Reference → List ℕ → List ℕ → Type 0
 Sized r t x = r .flags ≡ 8 → (listAnswer t ≡ 0) × (length x ≤ longest)

@@ -20,7 +20,7 @@ use Rattle.rules.specs.Calls.{Call, Reply}
 use Rattle.rules.specs.Sound.{sound, longestList, listsKept}
 use Rattle.rules.specs.Rules.{noExporter, exporterOf, refusals, number, results, refusedReply, acceptedReply, reply}
 use Rattle.rules.specs.Contract.{Memory, rightLengths, fit, replyTo}
-use Rattle.rules.specs.Filtering.{FilteredAgrees}
+use Rattle.rules.specs.Filtering.{FilteredAgrees, FilteredTables}
 use Rattle.rules.proofs.SoundLaws.{sound-fields}
 
 abbrev isKept : Exporter → Bool
@@ -66,10 +66,8 @@ same-where true p q r f = f refl
 same-where false p q r f = refl
 
 -- the same of a lent table, also where it is not sound
-pub filtered-replies : (view : Memory → Entries) (m : Memory) (x : ℕ) (protocols buffer : List ℕ) → length protocols ≤ 65535 → Bytes (exporterOf (view m) x .bindings)
-    → allRequested protocols (exporterOf (view m) x .bindings) ≡ true
-    → replyTo view (Call.resolveFiltered x protocols buffer) m ≡ replyTo view (Call.resolve x buffer) m
+pub filtered-tables : (view : Memory → Entries) → FilteredTables view
 unfolding replyTo fit refusedReply results
-filtered-replies view m x protocols buffer few b all =
+filtered-tables view m x protocols buffer few b all =
     same-where (rightLengths m && sound (view m)) _ _ _
     (λ t. filtered-agrees (view m) x protocols buffer few b all (and-right (rightLengths m) (sound (view m)) t))

@@ -12,6 +12,7 @@ pub mod OneByOne
 pub mod EitherOrder
 pub mod ListLoop
 pub mod Filtered
+pub mod Removing
 pub mod ByRow
 pub mod NothingGoes
 pub mod CountRows

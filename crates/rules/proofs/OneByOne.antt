@@ -186,13 +186,13 @@ items-append s t h =
 
 pub lists-cut : ListsCut
 unfolding next results
-lists-cut w c s t b e h d =
+lists-cut w c s t b b₁ b₂ e h d r₁ r₂ =
     let a = accepted w c (s ++ t) b e h in
     let l = length-append s t in
     let i = items-append s t d in
     record {
-      first = accepts w c s b e (record { client = a .client; whole = d; limit = (let m = a .limit in omega arith); room = (let m = a .room in omega arith) });
-      second = accepts w c t b _ (record { client = a .client; whole = (let m = a .whole in omega arith); limit = (let m = a .limit in omega arith); room = (let m = a .room in omega arith) });
+      first = accepts w c s b₁ e (record { client = a .client; whole = d; limit = (let m = a .limit in omega arith); room = r₁ });
+      second = accepts w c t b₂ _ (record { client = a .client; whole = (let m = a .whole in omega arith); limit = (let m = a .limit in omega arith); room = r₂ });
       entries = ap (λ (ts : List Item). itemsDone w c ts e) i ∙ done-append w c (itemsOf s) (itemsOf t) e;
       bytes = ap (λ (ts : List Item). itemNumbers w c ts e) i ∙ numbers-append w c (itemsOf s) (itemsOf t) e;
     }

@@ -1,7 +1,7 @@
--- How a call comes of a step: the rules refuse a step or accept it, and a call is a judgement, a refusal by 1, and else a step.
+-- How a call comes of a step: the rules refuse a step or accept it, and a call on a sound table is its step.
 use Prim.Native.Nat.{ℕ}
 use mathlib.Core.Path.{_≡_, refl, sym, subst, ap, _∙_}
-use mathlib.Core.Bool.{Bool, true, false}
+use mathlib.Core.Bool.{true, false}
 use mathlib.Core.Logic.{⊎-elim}
 use borrow.Author.Tests.{ne-eqb}
 use lib.ListN.{length}
@@ -10,9 +10,9 @@ use Rattle.rules.specs.Entries.{Entries}
 use Rattle.rules.specs.Calls.{Call, Reply}
 use Rattle.rules.specs.Sound.{sound}
 use Rattle.rules.specs.Rules.{number, next, refusedReply, acceptedReply, reply}
-use Rattle.rules.specs.Contract.{Memory, lengthsOnly, soundMemory, fit, replyTo, SoundTable, Stepped, Performed}
-use Rattle.rules.proofs.SoundLaws.{table-fields, table-made}
-use Rattle.rules.proofs.Performing.{refused-number, accepted-number, fit-sound, unsound}
+use Rattle.rules.specs.Contract.{Memory, lengthsOnly, fit, replyTo, SoundTable, Stepped, Performed}
+use Rattle.rules.proofs.SoundLaws.{table-made}
+use Rattle.rules.proofs.Performing.{refused-number, accepted-number, fit-sound}
 use Rattle.rules.proofs.Keeps.{keeps}
 
 -- the number of a reply is the number of the rules
@@ -67,15 +67,3 @@ module _ (view : Memory → Entries) (c : Call) (m : Memory) where
           soundAfter = λ z. table-made view m′ (step-sound w b);
           became = s .became;
         }
-
-  -- judging, refusing by 1, and else stepping is the whole call
-  pub judged-step : lengthsOnly c ≡ false → (judged : Bool) → judged ≡ soundMemory view m → (r : Reply) (m′ : Memory)
-      → (judged ≡ false → (r ≡ refusedReply 1 c (view m)) × (m′ ≡ m))
-      → (judged ≡ true → Stepped view c m r m′ × (length (m′ .words) ≡ 8192) × (length (m′ .store) ≡ 8192))
-      → Performed view c m r m′
-  judged-step l false j r m′ away on =
-      let n = away refl in
-      subst (λ (x : Memory). Performed view c m r x) (sym (n .1)) (subst (λ (x : Reply). Performed view c m x m) (sym (n .0)) (unsound view c m l (sym j)))
-  judged-step l true j r m′ away on =
-      let y = on refl in
-      performed-step (table-fields view m (sym j)) (y .0) l (y .1) (y .2)

@@ -9,5 +9,6 @@ pub mod Contract
 pub mod OneByOne
 pub mod EitherOrder
 pub mod Filtering
+pub mod Removing
 pub mod Swapping
 pub mod Cases
