@@ -9,9 +9,6 @@ use Rattle.bindings.proofs.ListAnswers.{Within, within-binding}
 use Rattle.bindings.proofs.binding.Statement.{statement}
 use Rattle.bindings.proofs.binding.Tie as tie
 
-locate-requires : tie.Need-locate-requires
-locate-requires c κs = search needs
-
 within : (c : tie.After-locate) → Within (length (c .before .before .args .s .now)) (c .locate .result)
 within c = rw (c .locate .ensures) (within-binding _ _ _)
 
@@ -32,4 +29,4 @@ returns c =
 
 pub binding-spec : {M : Type 1} → statement M
 binding-spec =
-    tie.close (tie.spec locate-requires sub-result part-result-start part-result-end returns)
+    tie.close (tie.spec (λ c κs. search needs) sub-result part-result-start part-result-end returns)

@@ -5,30 +5,12 @@ use Rattle.bindings.proofs.Parts.{head-positive, binding-short, binding
 use Rattle.bindings.proofs.binding_words.Statement.{statement}
 use Rattle.bindings.proofs.binding_words.Tie as tie
 
-head-words-requires : tie.Need-head-words-requires
-head-words-requires c κs = search needs
-
 returns : tie.Need-returns
 returns c =
     let a = c .before .before .before .args in
     let h = c .before .head-words .ensures in
     let e = binding-short (a .p) (a .s .now) (a .at) (a .n) (omega arith) in
     omega arith
-
-mul-text-words : tie.Need-mul-text-words
-mul-text-words c = search needs
-
-add-text-words : tie.Need-add-text-words
-add-text-words c = search needs
-
-sub-text-words : tie.Need-sub-text-words
-sub-text-words c = search needs
-
-text-words-requires : tie.Need-text-words-requires
-text-words-requires c κs = search needs
-
-add-result : tie.Need-add-result
-add-result c = search needs
 
 returns-2 : tie.Need-returns-2
 returns-2 c =
@@ -41,11 +23,11 @@ pub binding-words-spec : {M : Type 1} → statement M
 binding-words-spec =
     tie.close
     (tie.spec
-    head-words-requires
+    (λ c κs. search needs)
     returns
-    mul-text-words
-    add-text-words
-    sub-text-words
-    text-words-requires
-    add-result
+    (λ c. search needs)
+    (λ c. search needs)
+    (λ c. search needs)
+    (λ c κs. search needs)
+    (λ c. search needs)
     returns-2)

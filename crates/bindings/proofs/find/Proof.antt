@@ -19,27 +19,12 @@ abbrev μ-loop : tie.MeasureT-loop
 loop-holds : tie.Need-loop-holds Inv-loop μ-loop
 loop-holds c = (c .before .pre, refl)
 
-word-requires : tie.Need-word-requires Inv-loop μ-loop
-word-requires c κs = omega arith
-
-refused-requires : tie.Need-refused-requires Inv-loop μ-loop
-refused-requires c κs = search needs
-
 returns : tie.Need-returns Inv-loop μ-loop
 returns c =
     let a = c .before .before .before .before .before .before .args in
     let l = c .before .before .before .before .loop in
     let z = sym (c .before .before .word .ensures) ∙ c .before .if1 .taken in
     c .refused .ensures ∙ sym (find-end (a .p) (a .s .now) (l .i) (l .left) (omega arith) z (l .skip)) ∙ l .inv .1
-
-binding-words-requires : tie.Need-binding-words-requires Inv-loop μ-loop
-binding-words-requires c κs = search needs
-
-mul-t12 : tie.Need-mul-t12 Inv-loop μ-loop
-mul-t12 c = omega arith
-
-add-t13 : tie.Need-add-t13 Inv-loop μ-loop
-add-t13 c = omega arith
 
 returns-2 : tie.Need-returns-2 Inv-loop μ-loop
 returns-2 c =
@@ -50,21 +35,6 @@ returns-2 c =
     let e = find-here (a .p) (a .s .now) (l .i) (l .left) (omega arith) (λ z. c .before .before .if1 .left (r ∙ z)) (c .before .binding-words .result) (b .0) (omega arith) in
     sym e ∙ (rw (c .if2 .taken) at (l .inv .1))
 
-sub-skip : tie.Need-sub-skip Inv-loop μ-loop
-sub-skip c = omega arith
-
-mul-i : tie.Need-mul-i Inv-loop μ-loop
-mul-i c = omega arith
-
-add-i : tie.Need-add-i Inv-loop μ-loop
-add-i c = omega arith
-
-sub-left : tie.Need-sub-left Inv-loop μ-loop
-sub-left c = omega arith
-
-loop-less : tie.Need-loop-less Inv-loop μ-loop
-loop-less c = omega arith
-
 loop-again : tie.Need-loop-again Inv-loop μ-loop
 loop-again c =
     let a = c .before .before .before .before .before .before .before .args in
@@ -74,9 +44,6 @@ loop-again c =
     let k : l .skip ≡ suc (l .skip - 1) = omega arith in
     let e = find-later (a .p) (a .s .now) (l .i) (l .left) (omega arith) (λ z. c .before .before .if1 .left (r ∙ z)) (c .before .binding-words .result) (b .0) (omega arith) (l .skip - 1) in
     (omega arith, sym e ∙ (rw (← k) (l .inv .1)))
-
-refused-requires-2 : tie.Need-refused-requires-2 Inv-loop μ-loop
-refused-requires-2 c κs = search needs
 
 returns-3 : tie.Need-returns-3 Inv-loop μ-loop
 returns-3 c =
@@ -91,18 +58,18 @@ find-spec =
     Inv-loop
     μ-loop
     loop-holds
-    word-requires
-    refused-requires
+    (λ c κs. omega arith)
+    (λ c κs. search needs)
     returns
-    binding-words-requires
-    mul-t12
-    add-t13
+    (λ c κs. search needs)
+    (λ c. omega arith)
+    (λ c. omega arith)
     returns-2
-    sub-skip
-    mul-i
-    add-i
-    sub-left
-    loop-less
+    (λ c. omega arith)
+    (λ c. omega arith)
+    (λ c. omega arith)
+    (λ c. omega arith)
+    (λ c. omega arith)
     loop-again
-    refused-requires-2
+    (λ c κs. search needs)
     returns-3)

@@ -16,9 +16,6 @@ returns : tie.Need-returns
 unfolding frontAnswer order
 returns c = rw (lt-ltb _ _ (c .if1 .taken))
 
-stated-length-requires : tie.Need-stated-length-requires
-stated-length-requires c κs = search needs
-
 returns-2 : tie.Need-returns-2
 unfolding frontAnswer order
 returns-2 c =
@@ -26,9 +23,6 @@ returns-2 c =
     let h : 4 ≤ length s = omega arith in
     let l : length s < listLength s = omega arith in
     rw (le-ltb _ _ h, lt-ltb _ _ l)
-
-two-parts-requires : tie.Need-two-parts-requires
-two-parts-requires c κs = search needs
 
 returns-3 : tie.Need-returns-3
 returns-3 c =
@@ -47,4 +41,4 @@ returns-4 c =
 pub front-answer-spec : {M : Type 1} → statement M
 front-answer-spec =
     tie.close
-    (tie.spec returns stated-length-requires returns-2 two-parts-requires returns-3 returns-4)
+    (tie.spec returns (λ c κs. search needs) returns-2 (λ c κs. search needs) returns-3 returns-4)

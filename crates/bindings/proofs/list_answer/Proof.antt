@@ -11,18 +11,12 @@ use Rattle.bindings.proofs.ListAnswers.{front, accept}
 use Rattle.bindings.proofs.list_answer.Statement.{statement}
 use Rattle.bindings.proofs.list_answer.Tie as tie
 
-front-answer-requires : tie.Need-front-answer-requires
-front-answer-requires c κs = search needs
-
 returns : tie.Need-returns
 unfolding listAnswer order
 returns c =
     let s = c .before .before .before .args .s .now in
     let e = c .before .front-answer .ensures in
     rw (ne-eqb (frontAnswer s) 0 (λ z. c .if1 .taken (e ∙ z))) e
-
-stated-length-requires : tie.Need-stated-length-requires
-stated-length-requires c κs = search needs
 
 -- past the front's refusals
 done : (c : tie.Else1) → frontAnswer (c .before .before .before .args .s .now) ≡ 0
@@ -44,4 +38,4 @@ returns-3 c =
 
 pub list-answer-spec : {M : Type 1} → statement M
 list-answer-spec =
-    tie.close (tie.spec front-answer-requires returns stated-length-requires returns-2 returns-3)
+    tie.close (tie.spec (λ c κs. search needs) returns (λ c κs. search needs) returns-2 returns-3)

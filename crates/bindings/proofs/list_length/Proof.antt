@@ -6,16 +6,10 @@ use Rattle.bindings.specs.Bindings.{frontAnswer}
 use Rattle.bindings.proofs.list_length.Statement.{statement}
 use Rattle.bindings.proofs.list_length.Tie as tie
 
-front-answer-requires : tie.Need-front-answer-requires
-front-answer-requires c κs = search needs
-
 returns : tie.Need-returns
 returns c =
     let s = c .before .before .before .args .s .now in
     rw (ne-eqb (frontAnswer s) 0 (λ z. c .if1 .taken (c .before .front-answer .ensures ∙ z)))
-
-stated-length-requires : tie.Need-stated-length-requires
-stated-length-requires c κs = search needs
 
 returns-2 : tie.Need-returns-2
 returns-2 c =
@@ -24,4 +18,4 @@ returns-2 c =
 
 pub list-length-spec : {M : Type 1} → statement M
 list-length-spec =
-    tie.close (tie.spec front-answer-requires returns stated-length-requires returns-2)
+    tie.close (tie.spec (λ c κs. search needs) returns (λ c κs. search needs) returns-2)

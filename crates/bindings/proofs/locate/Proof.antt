@@ -8,12 +8,6 @@ use Rattle.bindings.proofs.ListAnswers.{Accepted, accepted}
 use Rattle.bindings.proofs.locate.Statement.{statement}
 use Rattle.bindings.proofs.locate.Tie as tie
 
-list-answer-requires : tie.Need-list-answer-requires
-list-answer-requires c κs = search needs
-
-refused-requires : tie.Need-refused-requires
-refused-requires c κs = search needs
-
 returns : tie.Need-returns
 unfolding bindingAt
 returns c =
@@ -27,33 +21,9 @@ done c = sym (c .before .list-answer .ensures) ∙ c .if1 .left
 ok : (c : tie.Else1) → Accepted (c .before .before .before .args .s .now)
 ok c = accepted _ (done c)
 
-read-u16-requires : tie.Need-read-u16-requires
-read-u16-requires c κs = search needs
-
-cast-n : tie.Need-cast-n
-cast-n c = search needs
-
-read-u16-requires-2 : tie.Need-read-u16-requires-2
-read-u16-requires-2 c κs = search needs
-
-cast-v : tie.Need-cast-v
-cast-v c = search needs
-
-enum-told : tie.Need-enum-told
-enum-told c = search needs
-
 find-requires : tie.Need-find-requires
 unfolding listLength
 find-requires c κs = let h = ok (c .before .before .before .before) in omega arith
-
-enum-told-2 : tie.Need-enum-told-2
-enum-told-2 c = search needs
-
-mul-find : tie.Need-mul-find
-mul-find c = search needs
-
-add-find : tie.Need-add-find
-add-find c = search needs
 
 sub-find : tie.Need-sub-find
 unfolding listLength
@@ -80,18 +50,18 @@ pub locate-spec : {M : Type 1} → statement M
 locate-spec =
     tie.close
     (tie.spec
-    list-answer-requires
-    refused-requires
+    (λ c κs. search needs)
+    (λ c κs. search needs)
     returns
-    read-u16-requires
-    cast-n
-    read-u16-requires-2
-    cast-v
-    enum-told
+    (λ c κs. search needs)
+    (λ c. search needs)
+    (λ c κs. search needs)
+    (λ c. search needs)
+    (λ c. search needs)
     find-requires
-    enum-told-2
-    mul-find
-    add-find
+    (λ c. search needs)
+    (λ c. search needs)
+    (λ c. search needs)
     sub-find
     find-requires-2
     returns-2

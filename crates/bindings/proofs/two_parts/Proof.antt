@@ -11,18 +11,6 @@ use Rattle.bindings.proofs.ListAnswers.{not-bare}
 use Rattle.bindings.proofs.two_parts.Statement.{statement}
 use Rattle.bindings.proofs.two_parts.Tie as tie
 
-read-u16-requires : tie.Need-read-u16-requires
-read-u16-requires c κs = search needs
-
-cast-n : tie.Need-cast-n
-cast-n c = search needs
-
-read-u16-requires-2 : tie.Need-read-u16-requires-2
-read-u16-requires-2 c κs = search needs
-
-cast-k : tie.Need-cast-k
-cast-k c = search needs
-
 returns : tie.Need-returns
 unfolding twoParts
 returns c =
@@ -55,12 +43,6 @@ returns-3 c =
     let e : isPart Strings (words s 4 (split s)) ≡ false = rw (← k) (sym (c .before .is-part .ensures) ∙ not-true _ (c .if3 .taken)) in
     rw (words-there (c .before .before), le-leb (split s) (count s) h, e)
 
-mul-is-part : tie.Need-mul-is-part
-mul-is-part c = search needs
-
-add-is-part : tie.Need-add-is-part
-add-is-part c = search needs
-
 is-part-requires-2 : tie.Need-is-part-requires-2
 unfolding listLength
 is-part-requires-2 c κs = search needs
@@ -79,15 +61,15 @@ pub two-parts-spec : {M : Type 1} → statement M
 two-parts-spec =
     tie.close
     (tie.spec
-    read-u16-requires
-    cast-n
-    read-u16-requires-2
-    cast-k
+    (λ c κs. search needs)
+    (λ c. search needs)
+    (λ c κs. search needs)
+    (λ c. search needs)
     returns
     returns-2
     is-part-requires
     returns-3
-    mul-is-part
-    add-is-part
+    (λ c. search needs)
+    (λ c. search needs)
     is-part-requires-2
     returns-4)

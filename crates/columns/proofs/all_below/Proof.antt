@@ -31,16 +31,10 @@ below-limit limit x z =
 returns : tie.Need-returns
 returns c = rw (c .if1 .taken) (below-zero (c .before .before .args .col .now))
 
-sub-all-at-most : tie.Need-sub-all-at-most
-sub-all-at-most c = search needs
-
-all-at-most-requires : tie.Need-all-at-most-requires
-all-at-most-requires c κs = search needs
-
 returns-2 : tie.Need-returns-2
 returns-2 c =
     let a = c .before .before .before .args in
     c .all-at-most .ensures ∙ every-ext (λ x. leb x (a .limit - 1)) (λ x. ltb x (a .limit)) (λ x. below-limit (a .limit) x (c .before .if1 .left)) (a .col .now)
 
 pub all-below-spec : {M : Type 1} → statement M
-all-below-spec = tie.close (tie.spec returns sub-all-at-most all-at-most-requires returns-2)
+all-below-spec = tie.close (tie.spec returns (λ c. search needs) (λ c κs. search needs) returns-2)

@@ -24,47 +24,11 @@ abbrev μ-loop : tie.MeasureT-loop
 loop-holds : tie.Need-loop-holds Inv-loop μ-loop
 loop-holds c = (search needs, passed-none _ _ _ (length-replicate 4096 false) (column-end (c .before .args .col .now) (length (c .before .args .col .now)) (search needs)))
 
-sub-i : tie.Need-sub-i Inv-loop μ-loop
-sub-i c = search needs
-
-mul-x : tie.Need-mul-x Inv-loop μ-loop
-mul-x c = search needs
-
-shared-slice-read-x : tie.Need-shared-slice-read-x Inv-loop μ-loop
-shared-slice-read-x c = search needs
-
-of-word-requires : tie.Need-of-word-requires Inv-loop μ-loop
-of-word-requires c κs = search needs
-
-array-read-if1 : tie.Need-array-read-if1 Inv-loop μ-loop
-array-read-if1 c = search needs
-
-mul-has : tie.Need-mul-has Inv-loop μ-loop
-mul-has c = search needs
-
-sub-has : tie.Need-sub-has Inv-loop μ-loop
-sub-has c = search needs
-
-part-has-start : tie.Need-part-has-start Inv-loop μ-loop
-part-has-start c = search needs
-
-part-has-end : tie.Need-part-has-end Inv-loop μ-loop
-part-has-end c = search needs
-
-has-requires : tie.Need-has-requires Inv-loop μ-loop
-has-requires c κs = search needs
-
 returns : tie.Need-returns Inv-loop μ-loop
 returns c =
     let l = c .before .before .before .before .before .before .before .loop in
     let v = c .before .before .before .before .before .before .before .before .before .args .col .now in
     repeated eqb (l .i - 1) v (last-step v 0 (l .i) (search needs) (search needs)) (told (some (eqb (getD v (l .i - 1) 0))) (tail-part (l .i) v) (c .before .has .ensures) (c .if2 .taken))
-
-array-write-marks : tie.Need-array-write-marks Inv-loop μ-loop
-array-write-marks c = search needs
-
-loop-less : tie.Need-loop-less Inv-loop μ-loop
-loop-less c = search needs
 
 loop-again : tie.Need-loop-again Inv-loop μ-loop
 loop-again c =
@@ -91,18 +55,18 @@ all-distinct-spec =
     Inv-loop
     μ-loop
     loop-holds
-    sub-i
-    mul-x
-    shared-slice-read-x
-    of-word-requires
-    array-read-if1
-    mul-has
-    sub-has
-    part-has-start
-    part-has-end
-    has-requires
+    (λ c. search needs)
+    (λ c. search needs)
+    (λ c. search needs)
+    (λ c κs. search needs)
+    (λ c. search needs)
+    (λ c. search needs)
+    (λ c. search needs)
+    (λ c. search needs)
+    (λ c. search needs)
+    (λ c κs. search needs)
     returns
-    array-write-marks
-    loop-less
+    (λ c. search needs)
+    (λ c. search needs)
     loop-again
     returns-2)

@@ -15,40 +15,13 @@ Inv-loop a b hints i₀ i = every (among b) a ≡ every (among b) (drop i a)
 abbrev μ-loop : tie.MeasureT-loop
 μ-loop a b hints i₀ i = length a - i
 
-set-hints-requires : tie.Need-set-hints-requires Inv-loop μ-loop
-set-hints-requires c κs = search needs
-
 loop-holds : tie.Need-loop-holds Inv-loop μ-loop
 loop-holds c = refl
-
-mul-x : tie.Need-mul-x Inv-loop μ-loop
-mul-x c = search needs
-
-shared-slice-read-x : tie.Need-shared-slice-read-x Inv-loop μ-loop
-shared-slice-read-x c = search needs
-
-of-word-requires : tie.Need-of-word-requires Inv-loop μ-loop
-of-word-requires c κs = search needs
-
-mul-has-hinted : tie.Need-mul-has-hinted Inv-loop μ-loop
-mul-has-hinted c = search needs
-
-array-read-has-hinted : tie.Need-array-read-has-hinted Inv-loop μ-loop
-array-read-has-hinted c = search needs
-
-has-hinted-requires : tie.Need-has-hinted-requires Inv-loop μ-loop
-has-hinted-requires c κs = search needs
 
 returns : tie.Need-returns Inv-loop μ-loop
 returns c =
     let l = c .before .before .before .before .before .loop in
     every-fails (column-step _ 0 (l .i) (search needs)) _ (l .inv) (sym (c .before .has-hinted .ensures) ∙ not-true _ (c .if1 .taken))
-
-add-i : tie.Need-add-i Inv-loop μ-loop
-add-i c = search needs
-
-loop-less : tie.Need-loop-less Inv-loop μ-loop
-loop-less c = search needs
 
 loop-again : tie.Need-loop-again Inv-loop μ-loop
 loop-again c =
@@ -64,16 +37,16 @@ all-in-spec =
     (tie.spec
     Inv-loop
     μ-loop
-    set-hints-requires
+    (λ c κs. search needs)
     loop-holds
-    mul-x
-    shared-slice-read-x
-    of-word-requires
-    mul-has-hinted
-    array-read-has-hinted
-    has-hinted-requires
+    (λ c. search needs)
+    (λ c. search needs)
+    (λ c κs. search needs)
+    (λ c. search needs)
+    (λ c. search needs)
+    (λ c κs. search needs)
     returns
-    add-i
-    loop-less
+    (λ c. search needs)
+    (λ c. search needs)
     loop-again
     returns-2)

@@ -24,9 +24,6 @@ returns c = let v = c .before .args in rw (lt-leb (v .to) (v .from) (c .if1 .tak
 returns-2 : tie.Need-returns-2 Inv-loop μ-loop
 returns-2 c = let v = c .before .before .args in short-copied (v .store .now) (v .from) (v .to) (v .n) (omega arith)
 
-sub-if3 : tie.Need-sub-if3 Inv-loop μ-loop
-sub-if3 c = search needs
-
 returns-3 : tie.Need-returns-3 Inv-loop μ-loop
 returns-3 c = let v = c .before .before .before .args in short-copied (v .store .now) (v .from) (v .to) (v .n) (omega arith)
 
@@ -35,32 +32,11 @@ loop-holds c =
     let v = c .before .before .before .args in
     (search needs, refl, paste-zero (v .store .now) (v .to) (drop (v .from) (v .store .now)))
 
-add-store : tie.Need-add-store Inv-loop μ-loop
-add-store c = search needs
-
-slice-read-store : tie.Need-slice-read-store Inv-loop μ-loop
-slice-read-store c = search needs
-
-add-store-2 : tie.Need-add-store-2 Inv-loop μ-loop
-add-store-2 c = search needs
-
-slice-write-store : tie.Need-slice-write-store Inv-loop μ-loop
-slice-write-store c = search needs
-
-add-j : tie.Need-add-j Inv-loop μ-loop
-add-j c = search needs
-
-loop-less : tie.Need-loop-less Inv-loop μ-loop
-loop-less c = search needs
-
 loop-again : tie.Need-loop-again Inv-loop μ-loop
 loop-again c =
     let l = c .before .before .loop in
     let v = c .before .before .before .before .before .before .args in
     (search needs, simp length-set (omega arith), move-step (v .store .now) _ (v .from) (v .to) (l .j) (omega arith) (omega arith) (l .inv .2))
-
-same-length : tie.Need-same-length Inv-loop μ-loop
-same-length c = search needs
 
 returns-4 : tie.Need-returns-4 Inv-loop μ-loop
 returns-4 c =
@@ -76,15 +52,15 @@ copy-down-spec =
     μ-loop
     returns
     returns-2
-    sub-if3
+    (λ c. search needs)
     returns-3
     loop-holds
-    add-store
-    slice-read-store
-    add-store-2
-    slice-write-store
-    add-j
-    loop-less
+    (λ c. search needs)
+    (λ c. search needs)
+    (λ c. search needs)
+    (λ c. search needs)
+    (λ c. search needs)
+    (λ c. search needs)
     loop-again
-    same-length
+    (λ c. search needs)
     returns-4)

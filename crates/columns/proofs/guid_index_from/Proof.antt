@@ -20,20 +20,11 @@ abbrev μ-loop : tie.MeasureT-loop
 loop-holds : tie.Need-loop-holds Inv-loop μ-loop
 loop-holds c = refl
 
-is-guid-at-requires : tie.Need-is-guid-at-requires Inv-loop μ-loop
-is-guid-at-requires c κs = search needs
-
 returns : tie.Need-returns Inv-loop μ-loop
 returns c =
     let l = c .before .before .before .loop in
     let v = c .before .before .before .before .before .before .args in
     first-found (guids-step _ _ (l .i) (search needs)) (l .i) _ (l .inv) (told (sameGuid (v .g)) {a = guidAt (v .lows .now) (v .highs .now) (l .i)} refl (c .before .is-guid-at .ensures) (c .if1 .taken))
-
-add-i : tie.Need-add-i Inv-loop μ-loop
-add-i c = search needs
-
-loop-less : tie.Need-loop-less Inv-loop μ-loop
-loop-less c = search needs
 
 loop-again : tie.Need-loop-again Inv-loop μ-loop
 loop-again c =
@@ -51,9 +42,9 @@ guid-index-from-spec =
     Inv-loop
     μ-loop
     loop-holds
-    is-guid-at-requires
+    (λ c κs. search needs)
     returns
-    add-i
-    loop-less
+    (λ c. search needs)
+    (λ c. search needs)
     loop-again
     returns-2)

@@ -29,30 +29,12 @@ mark-guids-requires c κs = length-replicate 4096 false
 loop-holds : tie.Need-loop-holds Inv-loop μ-loop
 loop-holds c = refl
 
-guid-at-requires : tie.Need-guid-at-requires Inv-loop μ-loop
-guid-at-requires c κs = search needs
-
-of-guid-requires : tie.Need-of-guid-requires Inv-loop μ-loop
-of-guid-requires c κs = search needs
-
-array-read-if1 : tie.Need-array-read-if1 Inv-loop μ-loop
-array-read-if1 c = search needs
-
-has-guid-requires : tie.Need-has-guid-requires Inv-loop μ-loop
-has-guid-requires c κs = search needs
-
 returns : tie.Need-returns Inv-loop μ-loop
 returns c =
     let at = c .before .before .before .before .before .before in
     let l = at .loop in
     let v = at .before .before .before .before .before .before .before .args in
     every-fails (guids-step _ _ (l .i) (search needs)) _ (l .inv) (ap not (told (λ (g : Guid). some (sameGuid g) (guids (v .lows2 .now) (v .highs2 .now))) (c .before .before .before .before .guid-at .ensures) (c .before .has-guid .ensures) (c .if2 .taken)))
-
-add-i : tie.Need-add-i Inv-loop μ-loop
-add-i c = search needs
-
-loop-less : tie.Need-loop-less Inv-loop μ-loop
-loop-less c = search needs
 
 loop-again : tie.Need-loop-again Inv-loop μ-loop
 loop-again c =
@@ -77,12 +59,12 @@ guids-apart-spec =
     μ-loop
     mark-guids-requires
     loop-holds
-    guid-at-requires
-    of-guid-requires
-    array-read-if1
-    has-guid-requires
+    (λ c κs. search needs)
+    (λ c κs. search needs)
+    (λ c. search needs)
+    (λ c κs. search needs)
     returns
-    add-i
-    loop-less
+    (λ c. search needs)
+    (λ c. search needs)
     loop-again
     returns-2)

@@ -26,33 +26,12 @@ loop-holds c =
     let v = c .before .before .args in
     (search needs, passed-none _ _ _ (length-replicate 4096 false) (guids-end (v .lows .now) (v .highs .now) (length (v .lows .now)) (search needs)))
 
-sub-i : tie.Need-sub-i Inv-loop μ-loop
-sub-i c = search needs
-
-guid-at-requires : tie.Need-guid-at-requires Inv-loop μ-loop
-guid-at-requires c κs = search needs
-
-of-guid-requires : tie.Need-of-guid-requires Inv-loop μ-loop
-of-guid-requires c κs = search needs
-
-array-read-if1 : tie.Need-array-read-if1 Inv-loop μ-loop
-array-read-if1 c = search needs
-
-has-guid-from-requires : tie.Need-has-guid-from-requires Inv-loop μ-loop
-has-guid-from-requires c κs = search needs
-
 returns : tie.Need-returns Inv-loop μ-loop
 returns c =
     let l = c .before .before .before .before .before .before .loop in
     let v = c .before .before .before .before .before .before .before .before .before .args in
     repeated sameGuid (l .i - 1) (guids (v .lows .now) (v .highs .now)) (guids-last _ _ (l .i) (c .before .before .before .before .guid-at .ensures) (search needs) (search needs))
     (sym (c .before .has-guid-from .ensures) ∙ c .if2 .taken)
-
-array-write-marks : tie.Need-array-write-marks Inv-loop μ-loop
-array-write-marks c = search needs
-
-loop-less : tie.Need-loop-less Inv-loop μ-loop
-loop-less c = search needs
 
 loop-again : tie.Need-loop-again Inv-loop μ-loop
 loop-again c =
@@ -79,13 +58,13 @@ guids-distinct-spec =
     Inv-loop
     μ-loop
     loop-holds
-    sub-i
-    guid-at-requires
-    of-guid-requires
-    array-read-if1
-    has-guid-from-requires
+    (λ c. search needs)
+    (λ c κs. search needs)
+    (λ c κs. search needs)
+    (λ c. search needs)
+    (λ c κs. search needs)
     returns
-    array-write-marks
-    loop-less
+    (λ c. search needs)
+    (λ c. search needs)
     loop-again
     returns-2)

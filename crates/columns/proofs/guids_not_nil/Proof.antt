@@ -23,9 +23,6 @@ abbrev μ-loop : tie.MeasureT-loop
 loop-holds : tie.Need-loop-holds Inv-loop μ-loop
 loop-holds c = refl
 
-is-guid-at-requires : tie.Need-is-guid-at-requires Inv-loop μ-loop
-is-guid-at-requires c κs = search needs
-
 -- what the test says of the GUID at i
 outcome : (c : tie.After-is-guid-at Inv-loop μ-loop) {t : Bool} → c .is-guid-at .result ≡ t
     → sameGuid (guidAt (c .before .before .before .before .before .args .lows .now) (c .before .before .before .before .before .args .highs .now) (c .before .before .loop .i)) nil ≡ t
@@ -39,12 +36,6 @@ returns : tie.Need-returns Inv-loop μ-loop
 returns c =
     let l = c .before .before .before .loop in
     every-fails (guids-step _ _ (l .i) (search needs)) _ (l .inv) (ap not (outcome (c .before) (c .if1 .taken)))
-
-add-i : tie.Need-add-i Inv-loop μ-loop
-add-i c = search needs
-
-loop-less : tie.Need-loop-less Inv-loop μ-loop
-loop-less c = search needs
 
 loop-again : tie.Need-loop-again Inv-loop μ-loop
 loop-again c =
@@ -61,9 +52,9 @@ guids-not-nil-spec =
     Inv-loop
     μ-loop
     loop-holds
-    is-guid-at-requires
+    (λ c κs. search needs)
     returns
-    add-i
-    loop-less
+    (λ c. search needs)
+    (λ c. search needs)
     loop-again
     returns-2)

@@ -8,11 +8,8 @@ use Rattle.lists.proofs.First.{some-first}
 use Rattle.columns.proofs.has.Statement.{statement}
 use Rattle.columns.proofs.has.Tie as tie
 
-index-of-requires : tie.Need-index-of-requires
-index-of-requires c κs = search needs
-
 returns : tie.Need-returns
 returns c = let v = c .before .before .args in ap (λ (n : ℕ). ltb n (length (v .col .now))) (c .index-of .ensures) ∙ some-first (eqb (v .x)) (v .col .now)
 
 pub has-spec : {M : Type 1} → statement M
-has-spec = tie.close (tie.spec index-of-requires returns)
+has-spec = tie.close (tie.spec (λ c κs. search needs) returns)

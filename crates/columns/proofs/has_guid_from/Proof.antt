@@ -8,9 +8,6 @@ use Rattle.columns.proofs.GuidColumns.{length-guids}
 use Rattle.columns.proofs.has_guid_from.Statement.{statement}
 use Rattle.columns.proofs.has_guid_from.Tie as tie
 
-guid-index-from-requires : tie.Need-guid-index-from-requires
-guid-index-from-requires c κs = search needs
-
 returns : tie.Need-returns
 returns c =
     let v = c .before .before .before .args in
@@ -18,4 +15,4 @@ returns c =
     (length-guids (v .lows .now) (v .highs .now)) (c .guid-index-from .ensures)
 
 pub has-guid-from-spec : {M : Type 1} → statement M
-has-guid-from-spec = tie.close (tie.spec guid-index-from-requires returns)
+has-guid-from-spec = tie.close (tie.spec (λ c κs. search needs) returns)

@@ -4,17 +4,11 @@ use borrow.Author.Needs.{needs}
 use Rattle.columns.proofs.is_guid_at.Statement.{statement}
 use Rattle.columns.proofs.is_guid_at.Tie as tie
 
-word-at-requires : tie.Need-word-at-requires
-word-at-requires c κs = search needs
-
 returns : tie.Need-returns
 returns c =
     let v = c .before .before .before .before .before .args in
     let w = c .before .before .word-at in
     rw (← w .ensures, ne-eqb (v .g .low) (w .result) (c .if1 .taken))
-
-word-at-requires-2 : tie.Need-word-at-requires-2
-word-at-requires-2 c κs = search needs
 
 returns-2 : tie.Need-returns-2
 returns-2 c =
@@ -23,4 +17,4 @@ returns-2 c =
     rw (← w .ensures, ← c .before .word-at2 .ensures, eq-eqb (v .g .low) (w .result) (c .before .before .if1 .left))
 
 pub is-guid-at-spec : {M : Type 1} → statement M
-is-guid-at-spec = tie.close (tie.spec word-at-requires returns word-at-requires-2 returns-2)
+is-guid-at-spec = tie.close (tie.spec (λ c κs. search needs) returns (λ c κs. search needs) returns-2)

@@ -22,21 +22,6 @@ loop-holds c =
     let v = c .before .before .args in
     (search needs, marked-none _ _ (c .before .before .pre) (guids-end (v .lows .now) (v .highs .now) (length (v .lows .now)) (search needs)))
 
-sub-i : tie.Need-sub-i Inv-loop μ-loop
-sub-i c = search needs
-
-guid-at-requires : tie.Need-guid-at-requires Inv-loop μ-loop
-guid-at-requires c κs = search needs
-
-of-guid-requires : tie.Need-of-guid-requires Inv-loop μ-loop
-of-guid-requires c κs = search needs
-
-element-write-marks : tie.Need-element-write-marks Inv-loop μ-loop
-element-write-marks c = search needs
-
-loop-less : tie.Need-loop-less Inv-loop μ-loop
-loop-less c = search needs
-
 loop-again : tie.Need-loop-again Inv-loop μ-loop
 loop-again c =
     let l = c .before .before .before .loop in
@@ -55,10 +40,10 @@ mark-guids-spec =
     Inv-loop
     μ-loop
     loop-holds
-    sub-i
-    guid-at-requires
-    of-guid-requires
-    element-write-marks
-    loop-less
+    (λ c. search needs)
+    (λ c κs. search needs)
+    (λ c κs. search needs)
+    (λ c. search needs)
+    (λ c. search needs)
     loop-again
     returns)

@@ -21,49 +21,16 @@ returns : tie.Need-returns Inv-loop μ-loop
 unfolding removedAt
 returns c = let v = c .before .args in rw (le-ltb (v .k) (length (v .col .now)) (c .if1 .taken))
 
-add-from : tie.Need-add-from Inv-loop μ-loop
-add-from c = search needs
-
-sub-n : tie.Need-sub-n Inv-loop μ-loop
-sub-n c = search needs
-
 loop-holds : tie.Need-loop-holds Inv-loop μ-loop
 loop-holds c =
     let v = c .before .args in
     (search needs, refl, paste-zero (v .col .now) (v .k) (drop (v .k + 1) (v .col .now)))
-
-add-col : tie.Need-add-col Inv-loop μ-loop
-add-col c = search needs
-
-mul-col : tie.Need-mul-col Inv-loop μ-loop
-mul-col c = search needs
-
-slice-read-col : tie.Need-slice-read-col Inv-loop μ-loop
-slice-read-col c = search needs
-
-add-col-2 : tie.Need-add-col-2 Inv-loop μ-loop
-add-col-2 c = search needs
-
-mul-col-2 : tie.Need-mul-col-2 Inv-loop μ-loop
-mul-col-2 c = search needs
-
-slice-write-col : tie.Need-slice-write-col Inv-loop μ-loop
-slice-write-col c = search needs
-
-add-j : tie.Need-add-j Inv-loop μ-loop
-add-j c = search needs
-
-loop-less : tie.Need-loop-less Inv-loop μ-loop
-loop-less c = search needs
 
 loop-again : tie.Need-loop-again Inv-loop μ-loop
 loop-again c =
     let l = c .before .before .loop in
     let v = c .before .before .before .before .args in
     (search needs, simp length-set (omega arith), move-step (v .col .now) _ (v .k + 1) (v .k) (l .j) (omega arith) (omega arith) (l .inv .2))
-
-same-length : tie.Need-same-length Inv-loop μ-loop
-same-length c = search needs
 
 returns-2 : tie.Need-returns-2 Inv-loop μ-loop
 returns-2 c =
@@ -78,17 +45,17 @@ remove-at-spec =
     Inv-loop
     μ-loop
     returns
-    add-from
-    sub-n
+    (λ c. search needs)
+    (λ c. search needs)
     loop-holds
-    add-col
-    mul-col
-    slice-read-col
-    add-col-2
-    mul-col-2
-    slice-write-col
-    add-j
-    loop-less
+    (λ c. search needs)
+    (λ c. search needs)
+    (λ c. search needs)
+    (λ c. search needs)
+    (λ c. search needs)
+    (λ c. search needs)
+    (λ c. search needs)
+    (λ c. search needs)
     loop-again
-    same-length
+    (λ c. search needs)
     returns-2)

@@ -9,9 +9,6 @@ use borrow.Author.Needs.{needs}
 use Rattle.contexts.proofs.context_answer.Statement.{statement}
 use Rattle.contexts.proofs.context_answer.Tie as tie
 
-head-answer-requires : tie.Need-head-answer-requires
-head-answer-requires c κs = search needs
-
 returns : tie.Need-returns
 unfolding contextAnswer order
 returns c = let head = c .before .head-answer .ensures in simp (ne-differ _ _ (λ z. c .if1 .taken (head ∙ z))) head
@@ -21,15 +18,6 @@ sub-properties-answer c = let h = headed _ (sym (c .before .head-answer .ensures
 
 part-properties-answer-start : tie.Need-part-properties-answer-start
 part-properties-answer-start c = let h = headed _ (sym (c .before .head-answer .ensures) ∙ c .if1 .left) .fixed in omega arith
-
-part-properties-answer-end : tie.Need-part-properties-answer-end
-part-properties-answer-end c = search needs
-
-read-u32-requires : tie.Need-read-u32-requires
-read-u32-requires c κs = search needs
-
-properties-answer-requires : tie.Need-properties-answer-requires
-properties-answer-requires c κs = search needs
 
 returns-2 : tie.Need-returns-2
 unfolding contextAnswer order
@@ -44,11 +32,11 @@ pub context-answer-spec : {M : Type 1} → statement M
 context-answer-spec =
     tie.close
     (tie.spec
-    head-answer-requires
+    (λ c κs. search needs)
     returns
     sub-properties-answer
     part-properties-answer-start
-    part-properties-answer-end
-    read-u32-requires
-    properties-answer-requires
+    (λ c. search needs)
+    (λ c κs. search needs)
+    (λ c κs. search needs)
     returns-2)

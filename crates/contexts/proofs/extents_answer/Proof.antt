@@ -11,9 +11,6 @@ returns : tie.Need-returns
 unfolding extentsAnswer order
 returns c = simp (lt-ltb _ _ (c .if1 .taken))
 
-read-u32-requires : tie.Need-read-u32-requires
-read-u32-requires c κs = search needs
-
 returns-2 : tie.Need-returns-2
 unfolding extentsAnswer order
 returns-2 c = simp (le-ltb _ _ (c .before .before .if1 .left), ne-differ _ _ (λ z. c .if2 .taken (c .before .read-u32 .ensures ∙ z)))
@@ -21,9 +18,6 @@ returns-2 c = simp (le-ltb _ _ (c .before .before .if1 .left), ne-differ _ _ (λ
 returns-3 : tie.Need-returns-3
 unfolding extentsAnswer order
 returns-3 c = simp (le-ltb _ _ (c .before .before .before .if1 .left), eq-differ _ _ (sym (c .before .before .read-u32 .ensures) ∙ c .before .if2 .left), lt-ltb _ _ (c .if3 .taken))
-
-read-u32-requires-2 : tie.Need-read-u32-requires-2
-read-u32-requires-2 c κs = search needs
 
 returns-4 : tie.Need-returns-4
 unfolding extentsAnswer order
@@ -42,10 +36,10 @@ extents-answer-spec =
     tie.close
     (tie.spec
     returns
-    read-u32-requires
+    (λ c κs. search needs)
     returns-2
     returns-3
-    read-u32-requires-2
+    (λ c κs. search needs)
     returns-4
     returns-5
     returns-6)

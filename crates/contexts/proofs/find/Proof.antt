@@ -20,27 +20,9 @@ abbrev μ-loop : tie.MeasureT-loop
 loop-holds : tie.Need-loop-holds Inv-loop μ-loop
 loop-holds c = (c .before .pre .0, c .before .pre .1, refl)
 
-sub-read-u32 : tie.Need-sub-read-u32 Inv-loop μ-loop
-sub-read-u32 c = omega arith
-
-part-read-u32-start : tie.Need-part-read-u32-start Inv-loop μ-loop
-part-read-u32-start c = omega arith
-
-part-read-u32-end : tie.Need-part-read-u32-end Inv-loop μ-loop
-part-read-u32-end c = omega arith
-
-read-u32-requires : tie.Need-read-u32-requires Inv-loop μ-loop
-read-u32-requires c κs = search needs
-
 -- the property that is read, and the others
 next : (c : tie.After-read-u32 Inv-loop μ-loop) → Next (c .before .before .before .loop .left) (c .before .before .before .before .before .args .s .now) (c .before .before .before .loop .at) (c .read-u32 .result)
 next c = let l = c .before .before .before .loop in next-property _ _ _ _ (omega arith) (l .inv .0) (l .inv .1) (c .read-u32 .ensures)
-
-cast-size : tie.Need-cast-size Inv-loop μ-loop
-cast-size c = omega arith
-
-add-size : tie.Need-add-size Inv-loop μ-loop
-add-size c = omega arith
 
 add-t15 : tie.Need-add-t15 Inv-loop μ-loop
 add-t15 c = let x = next (c .before) in omega arith
@@ -55,15 +37,6 @@ returns c =
 
 add-at : tie.Need-add-at Inv-loop μ-loop
 add-at c = let x = next (c .before) in omega arith
-
-sub-skip : tie.Need-sub-skip Inv-loop μ-loop
-sub-skip c = omega arith
-
-sub-left : tie.Need-sub-left Inv-loop μ-loop
-sub-left c = omega arith
-
-loop-less : tie.Need-loop-less Inv-loop μ-loop
-loop-less c = omega arith
 
 loop-again : tie.Need-loop-again Inv-loop μ-loop
 loop-again c =
@@ -84,18 +57,18 @@ find-spec =
     Inv-loop
     μ-loop
     loop-holds
-    sub-read-u32
-    part-read-u32-start
-    part-read-u32-end
-    read-u32-requires
-    cast-size
-    add-size
+    (λ c. omega arith)
+    (λ c. omega arith)
+    (λ c. omega arith)
+    (λ c κs. search needs)
+    (λ c. omega arith)
+    (λ c. omega arith)
     add-t15
     add-t16
     returns
     add-at
-    sub-skip
-    sub-left
-    loop-less
+    (λ c. omega arith)
+    (λ c. omega arith)
+    (λ c. omega arith)
     loop-again
     returns-2)

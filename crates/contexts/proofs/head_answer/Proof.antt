@@ -11,9 +11,6 @@ returns : tie.Need-returns
 unfolding headAnswer order
 returns c = simp (lt-ltb _ _ (c .if1 .taken))
 
-read-u16-requires : tie.Need-read-u16-requires
-read-u16-requires c κs = search needs
-
 returns-2 : tie.Need-returns-2
 unfolding headAnswer order
 returns-2 c = simp (le-ltb _ _ (c .before .before .if1 .left), ne-differ _ _ (λ z. c .if2 .taken (c .before .read-u16 .ensures ∙ z)))
@@ -21,9 +18,6 @@ returns-2 c = simp (le-ltb _ _ (c .before .before .if1 .left), ne-differ _ _ (λ
 returns-3 : tie.Need-returns-3
 unfolding headAnswer order
 returns-3 c = simp (le-ltb _ _ (c .before .before .before .if1 .left), eq-differ _ _ (sym (c .before .before .read-u16 .ensures) ∙ c .before .if2 .left), lt-ltb _ _ (c .if3 .taken))
-
-read-u16-requires-2 : tie.Need-read-u16-requires-2
-read-u16-requires-2 c κs = search needs
 
 returns-4 : tie.Need-returns-4
 unfolding headAnswer order
@@ -33,15 +27,9 @@ returns-5 : tie.Need-returns-5
 unfolding headAnswer order
 returns-5 c = simp (le-ltb _ _ (c .before .before .before .before .before .before .if1 .left), eq-differ _ _ (sym (c .before .before .before .before .before .read-u16 .ensures) ∙ c .before .before .before .before .if2 .left), le-ltb _ _ (c .before .before .before .if3 .left), eq-differ _ _ (sym (c .before .before .read-u162 .ensures) ∙ c .before .if4 .left), lt-ltb _ _ (c .if5 .taken))
 
-read-u32-requires : tie.Need-read-u32-requires
-read-u32-requires c κs = search needs
-
 returns-6 : tie.Need-returns-6
 unfolding headAnswer order
 returns-6 c = simp (le-ltb _ _ (c .before .before .before .before .before .before .before .before .if1 .left), eq-differ _ _ (sym (c .before .before .before .before .before .before .before .read-u16 .ensures) ∙ c .before .before .before .before .before .before .if2 .left), le-ltb _ _ (c .before .before .before .before .before .if3 .left), eq-differ _ _ (sym (c .before .before .before .before .read-u162 .ensures) ∙ c .before .before .before .if4 .left), le-ltb _ _ (c .before .before .if5 .left), ne-differ _ _ (λ z. c .if6 .taken (c .before .read-u32 .ensures ∙ z)))
-
-extents-answer-requires : tie.Need-extents-answer-requires
-extents-answer-requires c κs = search needs
 
 returns-7 : tie.Need-returns-7
 unfolding headAnswer order
@@ -52,13 +40,13 @@ head-answer-spec =
     tie.close
     (tie.spec
     returns
-    read-u16-requires
+    (λ c κs. search needs)
     returns-2
     returns-3
-    read-u16-requires-2
+    (λ c κs. search needs)
     returns-4
     returns-5
-    read-u32-requires
+    (λ c κs. search needs)
     returns-6
-    extents-answer-requires
+    (λ c κs. search needs)
     returns-7)

@@ -8,17 +8,11 @@ use borrow.Author.Needs.{needs}
 use Rattle.contexts.proofs.locate.Statement.{statement}
 use Rattle.contexts.proofs.locate.Tie as tie
 
-context-answer-requires : tie.Need-context-answer-requires
-context-answer-requires c κs = search needs
-
 returns : tie.Need-returns
 unfolding propertyPlace
 returns c =
     let n = c .before .context-answer .ensures in
     rw (ne-eqb _ _ (λ z. c .if1 .taken (n ∙ z))) (ap refusal n)
-
-read-u32-requires : tie.Need-read-u32-requires
-read-u32-requires c κs = search needs
 
 find-requires : tie.Need-find-requires
 find-requires c κs =
@@ -33,4 +27,4 @@ returns-2 c =
 
 pub locate-spec : {M : Type 1} → statement M
 locate-spec =
-    tie.close (tie.spec context-answer-requires returns read-u32-requires find-requires returns-2)
+    tie.close (tie.spec (λ c κs. search needs) returns (λ c κs. search needs) find-requires returns-2)

@@ -19,51 +19,12 @@ abbrev μ-loop : tie.MeasureT-loop
 loop-holds : tie.Need-loop-holds Inv-loop μ-loop
 loop-holds c = (omega arith, refl)
 
-sub-property-answer : tie.Need-sub-property-answer Inv-loop μ-loop
-sub-property-answer c = omega arith
-
-part-property-answer-start : tie.Need-part-property-answer-start Inv-loop μ-loop
-part-property-answer-start c = omega arith
-
-part-property-answer-end : tie.Need-part-property-answer-end Inv-loop μ-loop
-part-property-answer-end c = omega arith
-
-property-answer-requires : tie.Need-property-answer-requires Inv-loop μ-loop
-property-answer-requires c κs = search needs
-
 returns : tie.Need-returns Inv-loop μ-loop
 returns c =
     let a = c .before .before .before .before .before .before .args in
     let l = c .before .before .before .before .loop in
     let e = rw (take-rest (a .t .now) (l .at)) at (c .before .property-answer .ensures) in
     e ∙ sym (properties-stop (drop (l .at) (a .t .now)) (l .left) (omega arith) (λ z. c .if1 .taken (e ∙ z))) ∙ l .inv .1
-
-sub-read-u32 : tie.Need-sub-read-u32 Inv-loop μ-loop
-sub-read-u32 c = omega arith
-
-part-read-u32-start : tie.Need-part-read-u32-start Inv-loop μ-loop
-part-read-u32-start c = omega arith
-
-part-read-u32-end : tie.Need-part-read-u32-end Inv-loop μ-loop
-part-read-u32-end c = omega arith
-
-read-u32-requires : tie.Need-read-u32-requires Inv-loop μ-loop
-read-u32-requires c κs = search needs
-
-cast-at : tie.Need-cast-at Inv-loop μ-loop
-cast-at c = omega arith
-
-add-at : tie.Need-add-at Inv-loop μ-loop
-add-at c = omega arith
-
-add-at-2 : tie.Need-add-at-2 Inv-loop μ-loop
-add-at-2 c = omega arith
-
-sub-left : tie.Need-sub-left Inv-loop μ-loop
-sub-left c = omega arith
-
-loop-less : tie.Need-loop-less Inv-loop μ-loop
-loop-less c = omega arith
 
 loop-again : tie.Need-loop-again Inv-loop μ-loop
 loop-again c =
@@ -98,20 +59,20 @@ properties-answer-spec =
     Inv-loop
     μ-loop
     loop-holds
-    sub-property-answer
-    part-property-answer-start
-    part-property-answer-end
-    property-answer-requires
+    (λ c. omega arith)
+    (λ c. omega arith)
+    (λ c. omega arith)
+    (λ c κs. search needs)
     returns
-    sub-read-u32
-    part-read-u32-start
-    part-read-u32-end
-    read-u32-requires
-    cast-at
-    add-at
-    add-at-2
-    sub-left
-    loop-less
+    (λ c. omega arith)
+    (λ c. omega arith)
+    (λ c. omega arith)
+    (λ c κs. search needs)
+    (λ c. omega arith)
+    (λ c. omega arith)
+    (λ c. omega arith)
+    (λ c. omega arith)
+    (λ c. omega arith)
     loop-again
     returns-2
     returns-3)

@@ -14,12 +14,6 @@ returns : tie.Need-returns
 unfolding propertyAnswer order
 returns c = simp (lt-ltb _ _ (c .if1 .taken))
 
-read-u32-requires : tie.Need-read-u32-requires
-read-u32-requires c κs = search needs
-
-is-property-flags-requires : tie.Need-is-property-flags-requires
-is-property-flags-requires c κs = search needs
-
 returns-2 : tie.Need-returns-2
 unfolding propertyAnswer order
 returns-2 c = simp (le-ltb _ _ (c .before .before .before .if1 .left), ap isPropertyFlags (sym (c .before .before .read-u32 .ensures)) ∙ sym (c .before .is-property-flags .ensures) ∙ not-true _ (c .if2 .taken))
@@ -27,15 +21,6 @@ returns-2 c = simp (le-ltb _ _ (c .before .before .before .if1 .left), ap isProp
 returns-3 : tie.Need-returns-3
 unfolding propertyAnswer order
 returns-3 c = simp (le-ltb _ _ (c .before .before .before .before .if1 .left), ap isPropertyFlags (sym (c .before .before .before .read-u32 .ensures)) ∙ sym (c .before .before .is-property-flags .ensures) ∙ not-false _ (c .before .if2 .left), lt-ltb _ _ (c .if3 .taken))
-
-read-u32-requires-2 : tie.Need-read-u32-requires-2
-read-u32-requires-2 c κs = search needs
-
-cast-if4 : tie.Need-cast-if4
-cast-if4 c = search needs
-
-add-if4 : tie.Need-add-if4
-add-if4 c = search needs
 
 returns-4 : tie.Need-returns-4
 unfolding propertyAnswer order
@@ -58,12 +43,12 @@ property-answer-spec =
     tie.close
     (tie.spec
     returns
-    read-u32-requires
-    is-property-flags-requires
+    (λ c κs. search needs)
+    (λ c κs. search needs)
     returns-2
     returns-3
-    read-u32-requires-2
-    cast-if4
-    add-if4
+    (λ c κs. search needs)
+    (λ c. search needs)
+    (λ c. search needs)
     returns-4
     returns-5)

@@ -83,15 +83,6 @@ returns c =
     let a = c .before .before .before .args in
     refused-step 20 (no-client (a .words .now) (a .store .now) (a .client) (a .ipid) (a .public) (a .private) (c .if1 .taken)) (λ z. omega arith)
 
-interface-row-requires : tie.Need-interface-row-requires
-interface-row-requires c κs = search needs
-
-interface-count-requires : tie.Need-interface-count-requires
-interface-count-requires c κs = search needs
-
-same-length : tie.Need-same-length
-same-length c = search needs
-
 returns-2 : tie.Need-returns-2
 unfolding refusedReply results
 returns-2 c =
@@ -100,24 +91,6 @@ returns-2 c =
     (gone (a .words .now) (a .store .now) (a .client) (a .ipid) (a .public) (a .private) (c .before .before .before .before .before .if1 .left) (c .before .before .before .interface-row .ensures (a .store .now)) (c .before .interface-count .ensures .0) (c .if2 .taken))
     (λ z. omega arith)
 
-interface-counts-requires : tie.Need-interface-counts-requires
-interface-counts-requires c κs = search needs
-
-cast-more-public : tie.Need-cast-more-public
-cast-more-public c = search needs
-
-add-more-public : tie.Need-add-more-public
-add-more-public c = search needs
-
-cast-more-private : tie.Need-cast-more-private
-cast-more-private c = search needs
-
-add-more-private : tie.Need-add-more-private
-add-more-private c = search needs
-
-same-length-2 : tie.Need-same-length-2
-same-length-2 c = search needs
-
 returns-3 : tie.Need-returns-3
 unfolding refusedReply results
 returns-3 c =
@@ -125,27 +98,12 @@ returns-3 c =
     (row-gives _ _ _ (sums-left (c .before .before .before)) (passes-count _ (c .if3 .taken)))
     (λ z. omega arith)
 
-same-length-3 : tie.Need-same-length-3
-same-length-3 c = search needs
-
 returns-4 : tie.Need-returns-4
 unfolding refusedReply results
 returns-4 c =
     refused-step 8
     (row-gives _ _ _ (row-passes _ _ _ (sums-left (c .before .before .before .before)) (within-count _ (c .before .if3 .left))) (passes-count _ (c .if4 .taken)))
     (λ z. omega arith)
-
-cast-set-counts : tie.Need-cast-set-counts
-cast-set-counts c = search needs
-
-cast-set-counts-2 : tie.Need-cast-set-counts-2
-cast-set-counts-2 c = search needs
-
-set-counts-requires : tie.Need-set-counts-requires
-set-counts-requires c κs = search needs
-
-same-length-4 : tie.Need-same-length-4
-same-length-4 c = search needs
 
 returns-5 : tie.Need-returns-5
 unfolding acceptedReply results
@@ -164,21 +122,21 @@ add-step-spec =
     tie.close
     (tie.spec
     returns
-    interface-row-requires
-    interface-count-requires
-    same-length
+    (λ c κs. search needs)
+    (λ c κs. search needs)
+    (λ c. search needs)
     returns-2
-    interface-counts-requires
-    cast-more-public
-    add-more-public
-    cast-more-private
-    add-more-private
-    same-length-2
+    (λ c κs. search needs)
+    (λ c. search needs)
+    (λ c. search needs)
+    (λ c. search needs)
+    (λ c. search needs)
+    (λ c. search needs)
     returns-3
-    same-length-3
+    (λ c. search needs)
     returns-4
-    cast-set-counts
-    cast-set-counts-2
-    set-counts-requires
-    same-length-4
+    (λ c. search needs)
+    (λ c. search needs)
+    (λ c κs. search needs)
+    (λ c. search needs)
     returns-5)

@@ -33,12 +33,6 @@ returns c =
     let a = c .before .before .before .args in
     refused-step 20 (missing (view (memory (a .words .now) (a .store .now))) (a .client) (c .if1 .taken)) (λ z. omega arith)
 
-clear-counts-requires : tie.Need-clear-counts-requires
-clear-counts-requires c κs = search needs
-
-drop-unheld-requires : tie.Need-drop-unheld-requires
-drop-unheld-requires c κs = search needs
-
 remove-leaving-requires : tie.Need-remove-leaving-requires
 remove-leaving-requires c κs =
     let f = sound-fields _ (c .before .before .before .before .before .before .before .before .before .before .before .before .pre .entries) in
@@ -46,9 +40,6 @@ remove-leaving-requires c κs =
     let e = c .before .before .before .drop-unheld .ensures s ∙ ap heldLeft (c .before .before .before .before .before .before .before .clear-counts .ensures s) in
     let a = asked _ s (ap (λ (x : Entries). proper (oids x)) e ∙ f .objectsProper) (ap setMembersLive e ∙ f .setMembersLive) in
     (search needs, a .0, a .1)
-
-same-length : tie.Need-same-length
-same-length c = search needs
 
 returns-2 : tie.Need-returns-2
 unfolding acceptedReply results
@@ -65,8 +56,8 @@ drop-client-step-spec =
     tie.close
     (tie.spec
     returns
-    clear-counts-requires
-    drop-unheld-requires
+    (λ c κs. search needs)
+    (λ c κs. search needs)
     remove-leaving-requires
-    same-length
+    (λ c. search needs)
     returns-2)

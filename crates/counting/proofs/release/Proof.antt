@@ -8,24 +8,12 @@ use borrow.Author.Needs.{needs}
 use Rattle.counting.proofs.release.Statement.{statement}
 use Rattle.counting.proofs.release.Tie as tie
 
-sound-requires : tie.Need-sound-requires
-sound-requires c κs = search needs
-
-refused-requires : tie.Need-refused-requires
-refused-requires c κs = search needs
-
-same-length : tie.Need-same-length
-same-length c = search needs
-
 returns : tie.Need-returns
 unfolding refusedReply results
 returns c = rw (c .refused .ensures) (unsound-call (c .before .before .sound .ensures) _ refl (c .before .if1 .taken))
 
 release-step-requires : tie.Need-release-step-requires
 release-step-requires c κs = sound-table (c .before .before .sound .ensures) (c .before .if1 .left)
-
-same-length-2 : tie.Need-same-length-2
-same-length-2 c = search needs
 
 returns-2 : tie.Need-returns-2
 returns-2 c =
@@ -39,10 +27,10 @@ pub release-spec : {M : Type 1} → statement M
 release-spec =
     tie.close
     (tie.spec
-    sound-requires
-    refused-requires
-    same-length
+    (λ c κs. search needs)
+    (λ c κs. search needs)
+    (λ c. search needs)
     returns
     release-step-requires
-    same-length-2
+    (λ c. search needs)
     returns-2)

@@ -43,25 +43,10 @@ still-here c =
     let l = c .before .before .before .before .before .before .before .before .if2 .left in
     omega arith
 
-refused-requires : tie.Need-refused-requires
-refused-requires c κs = search needs
-
 returns : tie.Need-returns
 returns c =
     let a = c .before .before .before .before .args in
     rw (c .refused .ensures) (no-client (a .words .now) (a .store .now) (a .client) (a .ipid) (a .public) (a .private) (c .before .if1 .taken))
-
-interface-row-requires : tie.Need-interface-row-requires
-interface-row-requires c κs = search needs
-
-interface-count-requires : tie.Need-interface-count-requires
-interface-count-requires c κs = search needs
-
-refused-requires-2 : tie.Need-refused-requires-2
-refused-requires-2 c κs = search needs
-
-same-length : tie.Need-same-length
-same-length c = search needs
 
 returns-2 : tie.Need-returns-2
 returns-2 c =
@@ -69,29 +54,8 @@ returns-2 c =
     rw (c .refused2 .ensures)
     (no-interface (a .words .now) (a .store .now) (a .client) (a .ipid) (a .public) (a .private) (c .before .before .before .before .before .before .if1 .left) (found (c .before .before)) (c .before .if2 .taken))
 
-interface-counts-requires : tie.Need-interface-counts-requires
-interface-counts-requires c κs = search needs
-
-smaller-requires : tie.Need-smaller-requires
-smaller-requires c κs = search needs
-
-smaller-requires-2 : tie.Need-smaller-requires-2
-smaller-requires-2 c κs = search needs
-
-sub-left-public : tie.Need-sub-left-public
-sub-left-public c = search needs
-
-sub-left-private : tie.Need-sub-left-private
-sub-left-private c = search needs
-
-set-counts-requires : tie.Need-set-counts-requires
-set-counts-requires c κs = search needs
-
 is-held-requires : tie.Need-is-held-requires
 is-held-requires c κs = (search needs, still-here (c .before .before .before))
-
-same-length-2 : tie.Need-same-length-2
-same-length-2 c = search needs
 
 returns-3 : tie.Need-returns-3
 returns-3 c = counted-done (taking (c .before .before .before .before .before)) _ (c .before .before .before .before .before .set-counts .ensures (c .before .before .before .before .before .before .before .before .before .before .before .before .before .before .before .before .before .before .before .before .before .args .store .now)) (sym (c .before .is-held .ensures) ∙ c .if3 .taken)
@@ -101,9 +65,6 @@ drop-interface-requires c κs =
     let f = sound-fields _ (c .before .before .before .before .before .before .before .before .before .before .before .before .before .before .before .before .before .before .before .before .before .before .pre .entries) in
     let e = c .before .before .before .before .before .before .set-counts .ensures (c .before .before .before .before .before .before .before .before .before .before .before .before .before .before .before .before .before .before .before .before .before .before .args .store .now) in
     (search needs, still-here (c .before .before .before .before .before .before), ap (λ (x : Entries). proper (oids x)) e ∙ f .objectsProper, ap setMembersLive e ∙ f .setMembersLive)
-
-same-length-3 : tie.Need-same-length-3
-same-length-3 c = search needs
 
 returns-4 : tie.Need-returns-4
 returns-4 c =
@@ -115,22 +76,22 @@ pub release-step-spec : {M : Type 1} → statement M
 release-step-spec =
     tie.close
     (tie.spec
-    refused-requires
+    (λ c κs. search needs)
     returns
-    interface-row-requires
-    interface-count-requires
-    refused-requires-2
-    same-length
+    (λ c κs. search needs)
+    (λ c κs. search needs)
+    (λ c κs. search needs)
+    (λ c. search needs)
     returns-2
-    interface-counts-requires
-    smaller-requires
-    smaller-requires-2
-    sub-left-public
-    sub-left-private
-    set-counts-requires
+    (λ c κs. search needs)
+    (λ c κs. search needs)
+    (λ c κs. search needs)
+    (λ c. search needs)
+    (λ c. search needs)
+    (λ c κs. search needs)
     is-held-requires
-    same-length-2
+    (λ c. search needs)
     returns-3
     drop-interface-requires
-    same-length-3
+    (λ c. search needs)
     returns-4)

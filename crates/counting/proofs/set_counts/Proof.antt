@@ -11,21 +11,12 @@ use borrow.Author.Needs.{needs}
 use Rattle.counting.proofs.set_counts.Statement.{statement}
 use Rattle.counting.proofs.set_counts.Tie as tie
 
-put-count-requires : tie.Need-put-count-requires
-put-count-requires c κs = search needs
-
-add-put-count : tie.Need-add-put-count
-add-put-count c = search needs
-
 put-count-requires-2 : tie.Need-put-count-requires-2
 put-count-requires-2 c κs =
     let start = c .before .before .before .before .before .before in
     let n = still-counted (start .args .words .now) _ (start .args .i) (withCount 0 (start .args .public)) (c .before .before .before .put-count .ensures) in
     let b = start .pre .1 in
     (search needs, omega arith, omega arith)
-
-same-length : tie.Need-same-length
-same-length c = search needs
 
 returns : tie.Need-returns
 returns c s =
@@ -39,4 +30,4 @@ returns c s =
 
 pub set-counts-spec : {M : Type 1} → statement M
 set-counts-spec =
-    tie.close (tie.spec put-count-requires add-put-count put-count-requires-2 same-length returns)
+    tie.close (tie.spec (λ c κs. search needs) (λ c. search needs) put-count-requires-2 (λ c. search needs) returns)

@@ -5,23 +5,8 @@ use borrow.Author.Needs.{needs}
 use Rattle.edit.proofs.add_object.Statement.{statement}
 use Rattle.edit.proofs.add_object.Tie as tie
 
-object-count-requires : tie.Need-object-count-requires
-object-count-requires c κs = search needs
-
-mark-requires : tie.Need-mark-requires
-mark-requires c κs = search needs
-
-object-kind-requires : tie.Need-object-kind-requires
-object-kind-requires c κs = search needs
-
-slice-aggregate-push-row : tie.Need-slice-aggregate-push-row
-slice-aggregate-push-row c = search needs
-
 push-row-requires : tie.Need-push-row-requires
 push-row-requires c κs = rw (c .before .object-kind .ensures) (search needs)
-
-same-length : tie.Need-same-length
-same-length c = search needs
 
 returns : tie.Need-returns
 returns c =
@@ -34,10 +19,10 @@ pub add-object-spec : {M : Type 1} → statement M
 add-object-spec =
     tie.close
     (tie.spec
-    object-count-requires
-    mark-requires
-    object-kind-requires
-    slice-aggregate-push-row
+    (λ c κs. search needs)
+    (λ c κs. search needs)
+    (λ c κs. search needs)
+    (λ c. search needs)
     push-row-requires
-    same-length
+    (λ c. search needs)
     returns)

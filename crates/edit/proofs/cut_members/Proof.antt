@@ -14,9 +14,6 @@ Inv-loop words₀ i n r₀ words r = (r ≤ n) × CutTo i words₀ words r
 abbrev μ-loop : tie.MeasureT-loop
 μ-loop words₀ i n r₀ words r = n - r
 
-set-count-requires : tie.Need-set-count-requires Inv-loop μ-loop
-set-count-requires c κs = search needs
-
 loop-holds : tie.Need-loop-holds Inv-loop μ-loop
 loop-holds c = (omega arith, cut-none _ _)
 
@@ -28,32 +25,11 @@ members-requires c κs =
     let e = c .before .before .before .set-count .ensures .0 in
     (omega arith, omega arith)
 
-cut-requires : tie.Need-cut-requires Inv-loop μ-loop
-cut-requires c κs = search needs
-
-add-words : tie.Need-add-words Inv-loop μ-loop
-add-words c = omega arith
-
-mul-words : tie.Need-mul-words Inv-loop μ-loop
-mul-words c = omega arith
-
 slice-write-words : tie.Need-slice-write-words Inv-loop μ-loop
 slice-write-words c = let s = c .before .before .before .before .loop .inv .1 .size in omega arith
 
-add-words-2 : tie.Need-add-words-2 Inv-loop μ-loop
-add-words-2 c = omega arith
-
-mul-words-2 : tie.Need-mul-words-2 Inv-loop μ-loop
-mul-words-2 c = omega arith
-
 slice-write-words-2 : tie.Need-slice-write-words-2 Inv-loop μ-loop
 slice-write-words-2 c = let s = c .before .before .before .before .loop .inv .1 .size in rw length-set (omega arith)
-
-add-r : tie.Need-add-r Inv-loop μ-loop
-add-r c = omega arith
-
-loop-less : tie.Need-loop-less Inv-loop μ-loop
-loop-less c = omega arith
 
 loop-again : tie.Need-loop-again Inv-loop μ-loop
 loop-again c =
@@ -76,18 +52,18 @@ cut-members-spec =
     (tie.spec
     Inv-loop
     μ-loop
-    set-count-requires
+    (λ c κs. search needs)
     loop-holds
     members-requires
-    cut-requires
-    add-words
-    mul-words
+    (λ c κs. search needs)
+    (λ c. omega arith)
+    (λ c. omega arith)
     slice-write-words
-    add-words-2
-    mul-words-2
+    (λ c. omega arith)
+    (λ c. omega arith)
     slice-write-words-2
-    add-r
-    loop-less
+    (λ c. omega arith)
+    (λ c. omega arith)
     loop-again
     same-length
     returns)

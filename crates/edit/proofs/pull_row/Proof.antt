@@ -4,21 +4,6 @@ use Rattle.edit.proofs.KindRows.{row-pulled}
 use Rattle.edit.proofs.pull_row.Statement.{statement}
 use Rattle.edit.proofs.pull_row.Tie as tie
 
-remove-row-requires : tie.Need-remove-row-requires
-remove-row-requires c κs = search needs
-
-sub-words : tie.Need-sub-words
-sub-words c = search needs
-
-mul-words : tie.Need-mul-words
-mul-words c = search needs
-
-slice-write-words : tie.Need-slice-write-words
-slice-write-words c = search needs
-
-same-length : tie.Need-same-length
-same-length c = search needs
-
 returns : tie.Need-returns
 returns c =
     let s = c .before .before .before .before .before in
@@ -27,4 +12,4 @@ returns c =
 pub pull-row-spec : {M : Type 1} → statement M
 pull-row-spec =
     tie.close
-    (tie.spec remove-row-requires sub-words mul-words slice-write-words same-length returns)
+    (tie.spec (λ c κs. search needs) (λ c. search needs) (λ c. search needs) (λ c. search needs) (λ c. search needs) returns)

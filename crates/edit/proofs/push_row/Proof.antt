@@ -4,21 +4,6 @@ use Rattle.edit.proofs.KindRows.{row-pushed}
 use Rattle.edit.proofs.push_row.Statement.{statement}
 use Rattle.edit.proofs.push_row.Tie as tie
 
-put-row-requires : tie.Need-put-row-requires
-put-row-requires c κs = search needs
-
-add-words : tie.Need-add-words
-add-words c = search needs
-
-mul-words : tie.Need-mul-words
-mul-words c = search needs
-
-slice-write-words : tie.Need-slice-write-words
-slice-write-words c = search needs
-
-same-length : tie.Need-same-length
-same-length c = search needs
-
 returns : tie.Need-returns
 returns c =
     let s = c .before .before .before .before .before .before in
@@ -26,4 +11,4 @@ returns c =
 
 pub push-row-spec : {M : Type 1} → statement M
 push-row-spec =
-    tie.close (tie.spec put-row-requires add-words mul-words slice-write-words same-length returns)
+    tie.close (tie.spec (λ c κs. search needs) (λ c. search needs) (λ c. search needs) (λ c. search needs) (λ c. search needs) returns)

@@ -15,9 +15,6 @@ fits c =
     let start = c .before .before .before .before .before in
     rw (c .exporter-count .ensures .0) (let h = start .pre .4 in let w = start .pre .1 in omega arith)
 
-exporter-count-requires : tie.Need-exporter-count-requires
-exporter-count-requires c κs = search needs
-
 list-start-requires : tie.Need-list-start-requires
 list-start-requires c κs = let h = fits (c .before) in (search needs, omega arith)
 
@@ -27,26 +24,8 @@ sub-copy c = let h = fits (c .before .before) in let e = c .list-start .ensures 
 part-copy-start : tie.Need-part-copy-start
 part-copy-start c = let h = fits (c .before .before) in let e = c .list-start .ensures in omega arith
 
-part-copy-end : tie.Need-part-copy-end
-part-copy-end c = search needs
-
-copy-requires : tie.Need-copy-requires
-copy-requires c κs = search needs
-
-exporter-kind-requires : tie.Need-exporter-kind-requires
-exporter-kind-requires c κs = search needs
-
-slice-aggregate-push-row : tie.Need-slice-aggregate-push-row
-slice-aggregate-push-row c = search needs
-
 push-row-requires : tie.Need-push-row-requires
 push-row-requires c κs = rw (c .before .exporter-kind .ensures) (search needs)
-
-same-length : tie.Need-same-length
-same-length c = search needs
-
-same-length-2 : tie.Need-same-length-2
-same-length-2 c = search needs
 
 returns : tie.Need-returns
 returns c =
@@ -66,15 +45,15 @@ pub put-exporter-spec : {M : Type 1} → statement M
 put-exporter-spec =
     tie.close
     (tie.spec
-    exporter-count-requires
+    (λ c κs. search needs)
     list-start-requires
     sub-copy
     part-copy-start
-    part-copy-end
-    copy-requires
-    exporter-kind-requires
-    slice-aggregate-push-row
+    (λ c. search needs)
+    (λ c κs. search needs)
+    (λ c κs. search needs)
+    (λ c. search needs)
     push-row-requires
-    same-length
-    same-length-2
+    (λ c. search needs)
+    (λ c. search needs)
     returns)

@@ -21,9 +21,6 @@ room c =
 live : (c : tie.After-exporter-count) → c .before .before .before .before .args .i < c .exporter-count .result
 live c = let e = c .exporter-count .ensures .0 in let h = c .before .before .before .before .pre .2 in omega arith
 
-exporter-count-requires : tie.Need-exporter-count-requires
-exporter-count-requires c κs = search needs
-
 list-start-requires : tie.Need-list-start-requires
 list-start-requires c κs =
     let k = c .before in
@@ -32,9 +29,6 @@ list-start-requires c κs =
     let l = live k in
     let r = starts-rise (a .store .now) (a .i) (k .exporter-count .result) (omega arith) in
     (search needs, omega arith)
-
-add-list-start : tie.Need-add-list-start
-add-list-start c = search needs
 
 list-start-requires-2 : tie.Need-list-start-requires-2
 list-start-requires-2 c κs =
@@ -58,20 +52,8 @@ sub-left c =
     let f = c .before .before .list-start2 .ensures in
     omega arith
 
-copy-down-requires : tie.Need-copy-down-requires
-copy-down-requires c κs = search needs
-
-exporter-kind-requires : tie.Need-exporter-kind-requires
-exporter-kind-requires c κs = search needs
-
 pull-row-requires : tie.Need-pull-row-requires
 pull-row-requires c κs = rw (c .exporter-kind .ensures) (search needs)
-
-same-length : tie.Need-same-length
-same-length c = search needs
-
-same-length-2 : tie.Need-same-length-2
-same-length-2 c = search needs
 
 returns : tie.Need-returns
 returns c =
@@ -94,15 +76,15 @@ pub remove-exporter-spec : {M : Type 1} → statement M
 remove-exporter-spec =
     tie.close
     (tie.spec
-    exporter-count-requires
+    (λ c κs. search needs)
     list-start-requires
-    add-list-start
+    (λ c. search needs)
     list-start-requires-2
     list-start-requires-3
     sub-left
-    copy-down-requires
-    exporter-kind-requires
+    (λ c κs. search needs)
+    (λ c κs. search needs)
     pull-row-requires
-    same-length
-    same-length-2
+    (λ c. search needs)
+    (λ c. search needs)
     returns)

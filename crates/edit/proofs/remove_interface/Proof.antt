@@ -4,17 +4,8 @@ use borrow.Author.Needs.{needs}
 use Rattle.edit.proofs.remove_interface.Statement.{statement}
 use Rattle.edit.proofs.remove_interface.Tie as tie
 
-interface-count-requires : tie.Need-interface-count-requires
-interface-count-requires c κs = search needs
-
-interface-kind-requires : tie.Need-interface-kind-requires
-interface-kind-requires c κs = search needs
-
 pull-row-requires : tie.Need-pull-row-requires
 pull-row-requires c κs = rw (c .interface-kind .ensures) (search needs)
-
-same-length : tie.Need-same-length
-same-length c = search needs
 
 returns : tie.Need-returns
 returns c =
@@ -25,8 +16,8 @@ pub remove-interface-spec : {M : Type 1} → statement M
 remove-interface-spec =
     tie.close
     (tie.spec
-    interface-count-requires
-    interface-kind-requires
+    (λ c κs. search needs)
+    (λ c κs. search needs)
     pull-row-requires
-    same-length
+    (λ c. search needs)
     returns)

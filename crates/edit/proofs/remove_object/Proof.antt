@@ -8,20 +8,8 @@ use borrow.Author.Needs.{needs}
 use Rattle.edit.proofs.remove_object.Statement.{statement}
 use Rattle.edit.proofs.remove_object.Tie as tie
 
-object-count-requires : tie.Need-object-count-requires
-object-count-requires c κs = search needs
-
-object-kind-requires : tie.Need-object-kind-requires
-object-kind-requires c κs = search needs
-
 pull-row-requires : tie.Need-pull-row-requires
 pull-row-requires c κs = rw (c .object-kind .ensures) (search needs)
-
-cut-members-requires : tie.Need-cut-members-requires
-cut-members-requires c κs = search needs
-
-same-length : tie.Need-same-length
-same-length c = search needs
 
 returns : tie.Need-returns
 returns c =
@@ -40,9 +28,9 @@ pub remove-object-spec : {M : Type 1} → statement M
 remove-object-spec =
     tie.close
     (tie.spec
-    object-count-requires
-    object-kind-requires
+    (λ c κs. search needs)
+    (λ c κs. search needs)
     pull-row-requires
-    cut-members-requires
-    same-length
+    (λ c κs. search needs)
+    (λ c. search needs)
     returns)

@@ -4,17 +4,8 @@ use borrow.Author.Needs.{needs}
 use Rattle.edit.proofs.remove_set.Statement.{statement}
 use Rattle.edit.proofs.remove_set.Tie as tie
 
-set-count-requires : tie.Need-set-count-requires
-set-count-requires c κs = search needs
-
-set-kind-requires : tie.Need-set-kind-requires
-set-kind-requires c κs = search needs
-
 pull-row-requires : tie.Need-pull-row-requires
 pull-row-requires c κs = rw (c .set-kind .ensures) (search needs)
-
-same-length : tie.Need-same-length
-same-length c = search needs
 
 returns : tie.Need-returns
 returns c =
@@ -23,4 +14,4 @@ returns c =
 
 pub remove-set-spec : {M : Type 1} → statement M
 remove-set-spec =
-    tie.close (tie.spec set-count-requires set-kind-requires pull-row-requires same-length returns)
+    tie.close (tie.spec (λ c κs. search needs) (λ c κs. search needs) pull-row-requires (λ c. search needs) returns)

@@ -7,16 +7,10 @@ use borrow.Author.Needs.{needs}
 use Rattle.edit.proofs.set_clock.Statement.{statement}
 use Rattle.edit.proofs.set_clock.Tie as tie
 
-slice-write-words : tie.Need-slice-write-words
-slice-write-words c = search needs
-
-same-length : tie.Need-same-length
-same-length c = search needs
-
 returns : tie.Need-returns
 returns c =
     let ws = c .args .words .now in
     became-clock ws _ _ (only-word noRows 0 ws (c .args .time)) (getD-set-same ws 0 (c .args .time) 0 (omega arith))
 
 pub set-clock-spec : {M : Type 1} → statement M
-set-clock-spec = tie.close (tie.spec slice-write-words same-length returns)
+set-clock-spec = tie.close (tie.spec (λ c. search needs) (λ c. search needs) returns)

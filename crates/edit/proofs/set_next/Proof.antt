@@ -7,16 +7,10 @@ use borrow.Author.Needs.{needs}
 use Rattle.edit.proofs.set_next.Statement.{statement}
 use Rattle.edit.proofs.set_next.Tie as tie
 
-slice-write-words : tie.Need-slice-write-words
-slice-write-words c = search needs
-
-same-length : tie.Need-same-length
-same-length c = search needs
-
 returns : tie.Need-returns
 returns c =
     let ws = c .args .words .now in
     became-next ws _ _ (only-word noRows 1 ws (c .args .number)) (getD-set-same ws 1 (c .args .number) 0 (omega arith))
 
 pub set-next-spec : {M : Type 1} → statement M
-set-next-spec = tie.close (tie.spec slice-write-words same-length returns)
+set-next-spec = tie.close (tie.spec (λ c. search needs) (λ c. search needs) returns)

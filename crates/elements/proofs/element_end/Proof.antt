@@ -12,33 +12,12 @@ use borrow.Author.Needs.{needs}
 use Rattle.elements.proofs.element_end.Statement.{statement}
 use Rattle.elements.proofs.element_end.Tie as tie
 
-read-u32-requires : tie.Need-read-u32-requires
-read-u32-requires c κs = search needs
-
-cast-from : tie.Need-cast-from
-cast-from c = search needs
-
-add-from : tie.Need-add-from
-add-from c = search needs
-
-read-u32-requires-2 : tie.Need-read-u32-requires-2
-read-u32-requires-2 c κs = search needs
-
-cast-to : tie.Need-cast-to
-cast-to c = search needs
-
-add-to : tie.Need-add-to
-add-to c = search needs
-
 sub-is-zero : tie.Need-sub-is-zero
 sub-is-zero c =
     let w = content-within _ (c .before .before .before .pre) in
     let from = c .before .read-u32 .ensures in
     let to = c .read-u322 .ensures in
     omega arith
-
-is-zero-requires : tie.Need-is-zero-requires
-is-zero-requires c κs = search needs
 
 clear : (c : tie.After-is-zero) → c .is-zero .result ≡ allZero (padding (c .before .before .before .before .args .t .now))
 clear c = c .is-zero .ensures ∙ padding-zero _ _ _ (c .before .before .before .before .pre) (c .before .before .read-u32 .ensures) (c .before .read-u322 .ensures)
@@ -67,14 +46,14 @@ pub element-end-spec : {M : Type 1} → statement M
 element-end-spec =
     tie.close
     (tie.spec
-    read-u32-requires
-    cast-from
-    add-from
-    read-u32-requires-2
-    cast-to
-    add-to
+    (λ c κs. search needs)
+    (λ c. search needs)
+    (λ c. search needs)
+    (λ c κs. search needs)
+    (λ c. search needs)
+    (λ c. search needs)
     sub-is-zero
-    is-zero-requires
+    (λ c κs. search needs)
     returns
     returns-2
     returns-3)

@@ -18,12 +18,6 @@ returns : tie.Need-returns
 unfolding elementFront order
 returns c = simp (lt-ltb _ _ (c .if1 .taken))
 
-read-guid-requires : tie.Need-read-guid-requires
-read-guid-requires c κs = search needs
-
-is-nil-requires : tie.Need-is-nil-requires
-is-nil-requires c κs = search needs
-
 returns-2 : tie.Need-returns-2
 unfolding elementFront order
 returns-2 c = simp (le-ltb _ _ (c .before .before .before .if1 .left), ap isNil (sym (c .before .before .read-guid .ensures)) ∙ sym (c .before .is-nil .ensures) ∙ c .if2 .taken)
@@ -32,9 +26,6 @@ returns-3 : tie.Need-returns-3
 unfolding elementFront order
 returns-3 c = simp (le-ltb _ _ (c .before .before .before .before .if1 .left), ap isNil (sym (c .before .before .before .read-guid .ensures)) ∙ sym (c .before .before .is-nil .ensures) ∙ c .before .if2 .left, lt-ltb _ _ (c .if3 .taken))
 
-read-u32-requires : tie.Need-read-u32-requires
-read-u32-requires c κs = search needs
-
 returns-4 : tie.Need-returns-4
 unfolding elementFront order
 returns-4 c = simp (le-ltb _ _ (c .before .before .before .before .before .before .if1 .left), ap isNil (sym (c .before .before .before .before .before .read-guid .ensures)) ∙ sym (c .before .before .before .before .is-nil .ensures) ∙ c .before .before .before .if2 .left, le-ltb _ _ (c .before .before .if3 .left), eq-eqb _ _ (sym (c .before .read-u32 .ensures) ∙ c .if4 .taken))
@@ -42,15 +33,6 @@ returns-4 c = simp (le-ltb _ _ (c .before .before .before .before .before .befor
 returns-5 : tie.Need-returns-5
 unfolding elementFront order
 returns-5 c = simp (le-ltb _ _ (c .before .before .before .before .before .before .before .if1 .left), ap isNil (sym (c .before .before .before .before .before .before .read-guid .ensures)) ∙ sym (c .before .before .before .before .before .is-nil .ensures) ∙ c .before .before .before .before .if2 .left, le-ltb _ _ (c .before .before .before .if3 .left), ne-eqb _ _ (λ z. c .before .if4 .left (c .before .before .read-u32 .ensures ∙ z)), lt-ltb _ _ (c .if5 .taken))
-
-read-u32-requires-2 : tie.Need-read-u32-requires-2
-read-u32-requires-2 c κs = search needs
-
-rounded-requires : tie.Need-rounded-requires
-rounded-requires c κs = search needs
-
-cast-if6 : tie.Need-cast-if6
-cast-if6 c = search needs
 
 -- what is left from the rounded size on
 left : (c : tie.Else5) → elementFront (c .before .before .before .before .before .before .before .before .before .args .t .now) ≡ order (differ (field (c .before .before .before .before .before .before .before .before .before .args .t .now) 20 4) (rounded (contentSize (c .before .before .before .before .before .before .before .before .before .args .t .now))) gives 14 ∷ ltb (length (c .before .before .before .before .before .before .before .before .before .args .t .now)) (elementLength (c .before .before .before .before .before .before .before .before .before .args .t .now)) gives 13 ∷ [])
@@ -64,12 +46,6 @@ whole c = c .rounded .ensures ∙ ap rounded (c .before .before .before .before 
 returns-6 : tie.Need-returns-6
 unfolding order
 returns-6 c = rw (left (c .before .before .before), ne-differ _ _ (λ z. c .if6 .taken (c .before .before .read-u322 .ensures ∙ z ∙ sym (whole (c .before)))))
-
-cast-if7 : tie.Need-cast-if7
-cast-if7 c = search needs
-
-add-if7 : tie.Need-add-if7
-add-if7 c = search needs
 
 same : (c : tie.Else6) → field (c .before .before .before .before .before .before .before .before .before .before .before .before .args .t .now) 20 4 ≡ rounded (contentSize (c .before .before .before .before .before .before .before .before .before .before .before .before .args .t .now))
 same c = sym (c .before .before .read-u322 .ensures) ∙ c .if6 .left ∙ whole (c .before)
@@ -95,18 +71,18 @@ element-front-spec =
     tie.close
     (tie.spec
     returns
-    read-guid-requires
-    is-nil-requires
+    (λ c κs. search needs)
+    (λ c κs. search needs)
     returns-2
     returns-3
-    read-u32-requires
+    (λ c κs. search needs)
     returns-4
     returns-5
-    read-u32-requires-2
-    cast-if6
-    rounded-requires
+    (λ c κs. search needs)
+    (λ c. search needs)
+    (λ c κs. search needs)
     returns-6
-    cast-if7
-    add-if7
+    (λ c. search needs)
+    (λ c. search needs)
     returns-7
     returns-8)

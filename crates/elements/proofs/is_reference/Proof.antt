@@ -2,11 +2,8 @@ use borrow.Author.Needs.{needs}
 use Rattle.elements.proofs.is_reference.Statement.{statement}
 use Rattle.elements.proofs.is_reference.Tie as tie
 
-read-u32-requires : tie.Need-read-u32-requires
-read-u32-requires c κs = search needs
-
 returns : tie.Need-returns
 returns c = rw (c .read-u32 .ensures)
 
 pub is-reference-spec : {M : Type 1} → statement M
-is-reference-spec = tie.close (tie.spec read-u32-requires returns)
+is-reference-spec = tie.close (tie.spec (λ c κs. search needs) returns)

@@ -8,27 +8,12 @@ use borrow.Author.Needs.{needs}
 use Rattle.entering.proofs.enter_exporter.Statement.{statement}
 use Rattle.entering.proofs.enter_exporter.Tie as tie
 
-sound-requires : tie.Need-sound-requires
-sound-requires c κs = search needs
-
-same-length : tie.Need-same-length
-same-length c = search needs
-
-same-length-2 : tie.Need-same-length-2
-same-length-2 c = search needs
-
 returns : tie.Need-returns
 unfolding refusedReply results
 returns c = unsound-call (c .before .sound .ensures) _ refl (c .if1 .taken)
 
 enter-exporter-step-requires : tie.Need-enter-exporter-step-requires
 enter-exporter-step-requires c κs = sound-table (c .before .before .before .sound .ensures) (c .before .before .if1 .left)
-
-same-length-3 : tie.Need-same-length-3
-same-length-3 c = search needs
-
-same-length-4 : tie.Need-same-length-4
-same-length-4 c = search needs
 
 returns-2 : tie.Need-returns-2
 returns-2 c =
@@ -43,11 +28,11 @@ pub enter-exporter-spec : {M : Type 1} → statement M
 enter-exporter-spec =
     tie.close
     (tie.spec
-    sound-requires
-    same-length
-    same-length-2
+    (λ c κs. search needs)
+    (λ c. search needs)
+    (λ c. search needs)
     returns
     enter-exporter-step-requires
-    same-length-3
-    same-length-4
+    (λ c. search needs)
+    (λ c. search needs)
     returns-2)

@@ -15,12 +15,6 @@ use Rattle.entering.proofs.enter_exporter_step.Tie as tie
 exporter-number-requires : tie.Need-exporter-number-requires
 exporter-number-requires c κs = c .before .before .before .before .before .pre
 
-same-length : tie.Need-same-length
-same-length c = search needs
-
-same-length-2 : tie.Need-same-length-2
-same-length-2 c = search needs
-
 returns : tie.Need-returns
 unfolding refusedReply results
 returns c = refused-step _ (c .before .exporter-number .ensures) (c .if1 .taken)
@@ -35,12 +29,6 @@ put-exporter-requires c κs =
     let b = bytes-live (a .words .now) (a .store .now) (sound-fields _ (t .entries) .listsKept) in
     (t .words, t .store, omega arith, fits .0, rw (← b) (fits .3))
 
-same-length-3 : tie.Need-same-length-3
-same-length-3 c = search needs
-
-same-length-4 : tie.Need-same-length-4
-same-length-4 c = search needs
-
 returns-2 : tie.Need-returns-2
 unfolding acceptedReply results next
 returns-2 c =
@@ -52,10 +40,10 @@ enter-exporter-step-spec =
     tie.close
     (tie.spec
     exporter-number-requires
-    same-length
-    same-length-2
+    (λ c. search needs)
+    (λ c. search needs)
     returns
     put-exporter-requires
-    same-length-3
-    same-length-4
+    (λ c. search needs)
+    (λ c. search needs)
     returns-2)

@@ -8,21 +8,12 @@ use borrow.Author.Needs.{needs}
 use Rattle.entering.proofs.enter_interface.Statement.{statement}
 use Rattle.entering.proofs.enter_interface.Tie as tie
 
-sound-requires : tie.Need-sound-requires
-sound-requires c κs = search needs
-
-same-length : tie.Need-same-length
-same-length c = search needs
-
 returns : tie.Need-returns
 unfolding refusedReply results
 returns c = unsound-call (c .before .sound .ensures) _ refl (c .if1 .taken)
 
 enter-interface-step-requires : tie.Need-enter-interface-step-requires
 enter-interface-step-requires c κs = sound-table (c .before .before .sound .ensures) (c .before .if1 .left)
-
-same-length-2 : tie.Need-same-length-2
-same-length-2 c = search needs
 
 returns-2 : tie.Need-returns-2
 returns-2 c =
@@ -36,9 +27,9 @@ pub enter-interface-spec : {M : Type 1} → statement M
 enter-interface-spec =
     tie.close
     (tie.spec
-    sound-requires
-    same-length
+    (λ c κs. search needs)
+    (λ c. search needs)
     returns
     enter-interface-step-requires
-    same-length-2
+    (λ c. search needs)
     returns-2)

@@ -13,9 +13,6 @@ use Rattle.entering.proofs.enter_interface_step.Tie as tie
 interface-number-requires : tie.Need-interface-number-requires
 interface-number-requires c κs = c .before .before .before .pre .words
 
-same-length : tie.Need-same-length
-same-length c = search needs
-
 returns : tie.Need-returns
 unfolding refusedReply results
 returns c =
@@ -28,9 +25,6 @@ put-interface-requires c κs =
     let room = interface-fits (view (memory (a .words .now) (a .store .now))) (a .oid .0) (a .ipid) (a .iid) (a .public) (sym (c .before .before .interface-number .ensures (a .store .now) (a .iid)) ∙ c .before .if1 .left) in
     let l = interfaces-length (a .words .now) in
     (c .before .before .before .before .before .before .pre .words, omega arith)
-
-same-length-2 : tie.Need-same-length-2
-same-length-2 c = search needs
 
 returns-2 : tie.Need-returns-2
 unfolding acceptedReply results next
@@ -45,8 +39,8 @@ enter-interface-step-spec =
     tie.close
     (tie.spec
     interface-number-requires
-    same-length
+    (λ c. search needs)
     returns
     put-interface-requires
-    same-length-2
+    (λ c. search needs)
     returns-2)

@@ -17,9 +17,6 @@ use Rattle.entering.proofs.enter_object_step.Tie as tie
 object-number-requires : tie.Need-object-number-requires
 object-number-requires c κs = c .before .before .before .pre .words
 
-same-length : tie.Need-same-length
-same-length c = search needs
-
 returns : tie.Need-returns
 unfolding refusedReply results
 returns c =
@@ -55,9 +52,6 @@ put-interface-requires c κs =
     let size : length ws ≡ 8192 = omega arith in
     (size, omega arith)
 
-same-length-2 : tie.Need-same-length-2
-same-length-2 c = search needs
-
 returns-2 : tie.Need-returns-2
 unfolding acceptedReply results next
 returns-2 c =
@@ -73,9 +67,9 @@ enter-object-step-spec =
     tie.close
     (tie.spec
     object-number-requires
-    same-length
+    (λ c. search needs)
     returns
     put-object-requires
     put-interface-requires
-    same-length-2
+    (λ c. search needs)
     returns-2)

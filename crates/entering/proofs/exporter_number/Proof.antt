@@ -17,15 +17,6 @@ use borrow.Author.Needs.{needs}
 use Rattle.entering.proofs.exporter_number.Statement.{statement}
 use Rattle.entering.proofs.exporter_number.Tie as tie
 
-exporter-row-requires : tie.Need-exporter-row-requires
-exporter-row-requires c κs = search needs
-
-exporter-count-requires : tie.Need-exporter-count-requires
-exporter-count-requires c κs = search needs
-
-ipid-taken-requires : tie.Need-ipid-taken-requires
-ipid-taken-requires c κs = search needs
-
 list-number-requires : tie.Need-list-number-requires
 list-number-requires c κs =
     let st = c .before .before .before .before .before .before .before .before .before .before in
@@ -82,10 +73,10 @@ exporter-number-spec =
     tie.close
     (tie.spec
     returns
-    exporter-row-requires
-    exporter-count-requires
+    (λ c κs. search needs)
+    (λ c κs. search needs)
     returns-2
-    ipid-taken-requires
+    (λ c κs. search needs)
     returns-3
     list-number-requires
     returns-4)

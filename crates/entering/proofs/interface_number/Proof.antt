@@ -17,18 +17,6 @@ use borrow.Author.Needs.{needs}
 use Rattle.entering.proofs.interface_number.Statement.{statement}
 use Rattle.entering.proofs.interface_number.Tie as tie
 
-ipid-taken-requires : tie.Need-ipid-taken-requires
-ipid-taken-requires c κs = search needs
-
-object-count-requires : tie.Need-object-count-requires
-object-count-requires c κs = search needs
-
-object-row-requires : tie.Need-object-row-requires
-object-row-requires c κs = search needs
-
-interface-count-requires : tie.Need-interface-count-requires
-interface-count-requires c κs = search needs
-
 -- the live entries, with any store
 abbrev At : tie.Start → List ℕ → Entries
 At st s = view (memory (st .args .words .now) s)
@@ -93,12 +81,12 @@ pub interface-number-spec : {M : Type 1} → statement M
 interface-number-spec =
     tie.close
     (tie.spec
-    ipid-taken-requires
+    (λ c κs. search needs)
     returns
-    object-count-requires
-    object-row-requires
+    (λ c κs. search needs)
+    (λ c κs. search needs)
     returns-2
     returns-3
-    interface-count-requires
+    (λ c κs. search needs)
     returns-4
     returns-5)

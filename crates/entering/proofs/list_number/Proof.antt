@@ -19,12 +19,6 @@ use borrow.Author.Needs.{needs}
 use Rattle.entering.proofs.list_number.Statement.{statement}
 use Rattle.entering.proofs.list_number.Tie as tie
 
-list-answer-requires : tie.Need-list-answer-requires
-list-answer-requires c κs = search needs
-
-exporter-count-requires : tie.Need-exporter-count-requires
-exporter-count-requires c κs = search needs
-
 -- the live entries
 abbrev At : tie.Start → Entries
 At st = view (memory (st .args .words .now) (st .args .store .now))
@@ -102,10 +96,10 @@ pub list-number-spec : {M : Type 1} → statement M
 list-number-spec =
     tie.close
     (tie.spec
-    list-answer-requires
+    (λ c κs. search needs)
     returns
     returns-2
-    exporter-count-requires
+    (λ c κs. search needs)
     returns-3
     list-start-requires
     add-if4

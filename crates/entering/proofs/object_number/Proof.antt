@@ -20,27 +20,6 @@ use borrow.Author.Needs.{needs}
 use Rattle.entering.proofs.object_number.Statement.{statement}
 use Rattle.entering.proofs.object_number.Tie as tie
 
-object-row-requires : tie.Need-object-row-requires
-object-row-requires c κs = search needs
-
-object-count-requires : tie.Need-object-count-requires
-object-count-requires c κs = search needs
-
-ipid-taken-requires : tie.Need-ipid-taken-requires
-ipid-taken-requires c κs = search needs
-
-exporter-count-requires : tie.Need-exporter-count-requires
-exporter-count-requires c κs = search needs
-
-exporter-row-requires : tie.Need-exporter-row-requires
-exporter-row-requires c κs = search needs
-
-object-count-requires-2 : tie.Need-object-count-requires-2
-object-count-requires-2 c κs = search needs
-
-interface-count-requires : tie.Need-interface-count-requires
-interface-count-requires c κs = search needs
-
 -- the live entries, with any store
 abbrev At : tie.Start → List ℕ → Entries
 At st s = view (memory (st .args .words .now) s)
@@ -136,17 +115,17 @@ object-number-spec =
     tie.close
     (tie.spec
     returns
-    object-row-requires
-    object-count-requires
+    (λ c κs. search needs)
+    (λ c κs. search needs)
     returns-2
-    ipid-taken-requires
+    (λ c κs. search needs)
     returns-3
-    exporter-count-requires
-    exporter-row-requires
+    (λ c κs. search needs)
+    (λ c κs. search needs)
     returns-4
     returns-5
-    object-count-requires-2
+    (λ c κs. search needs)
     returns-6
-    interface-count-requires
+    (λ c κs. search needs)
     returns-7
     returns-8)

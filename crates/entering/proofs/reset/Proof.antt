@@ -27,12 +27,6 @@ returns-2 c =
     let a = c .before .before .before .before .args in
     unfit view (Call.reset (a .time)) (memory (a .words .now) (a .store .now)) (rw (eq-eqb _ _ (c .before .if1 .left), ne-eqb _ _ (c .if2 .taken)))
 
-clear-requires : tie.Need-clear-requires
-clear-requires c κs = search needs
-
-same-length : tie.Need-same-length
-same-length c = search needs
-
 returns-3 : tie.Need-returns-3
 unfolding acceptedReply results number refusals order next soundMemory
 returns-3 c =
@@ -48,4 +42,4 @@ returns-3 c =
     view-is
 
 pub reset-spec : {M : Type 1} → statement M
-reset-spec = tie.close (tie.spec returns returns-2 clear-requires same-length returns-3)
+reset-spec = tie.close (tie.spec returns returns-2 (λ c κs. search needs) (λ c. search needs) returns-3)

@@ -19,21 +19,6 @@ returns-2 : tie.Need-returns-2
 unfolding arrayLength
 returns-2 c = rw (ne-eqb _ _ (c .before .if1 .left), c .if2 .taken)
 
-cast-paired : tie.Need-cast-paired
-cast-paired c = search needs
-
-paired-requires : tie.Need-paired-requires
-paired-requires c κs = search needs
-
-mul-result : tie.Need-mul-result
-mul-result c = search needs
-
-add-result : tie.Need-add-result
-add-result c = search needs
-
-extents-length-requires : tie.Need-extents-length-requires
-extents-length-requires c κs = search needs
-
 add-result-2 : tie.Need-add-result-2
 add-result-2 c =
     let ws = c .before .before .before .before .before .args .entries .now in
@@ -57,10 +42,10 @@ array-length-spec =
     (tie.spec
     returns
     returns-2
-    cast-paired
-    paired-requires
-    mul-result
-    add-result
-    extents-length-requires
+    (λ c. search needs)
+    (λ c κs. search needs)
+    (λ c. search needs)
+    (λ c. search needs)
+    (λ c κs. search needs)
     add-result-2
     returns-3)

@@ -30,20 +30,8 @@ loop-holds c =
 one : (c : tie.In-loop Inv-loop μ-loop) → Entry (getD (c .before .before .before .args .entries .now) (c .before .loop .i + 2) 0) (getD (c .before .before .before .args .entries .now) (c .before .loop .i + 3) 0)
 one c = entry _ _ (words-first _ _ _ (omega arith) (c .before .loop .inv .1) .0)
 
-add-rounded : tie.Need-add-rounded Inv-loop μ-loop
-add-rounded c = omega arith
-
-mul-rounded : tie.Need-mul-rounded Inv-loop μ-loop
-mul-rounded c = omega arith
-
-shared-slice-read-rounded : tie.Need-shared-slice-read-rounded Inv-loop μ-loop
-shared-slice-read-rounded c = omega arith
-
 cast-rounded : tie.Need-cast-rounded Inv-loop μ-loop
 cast-rounded c = let h = one (c .before) in omega (arith, h .fit)
-
-rounded-requires : tie.Need-rounded-requires Inv-loop μ-loop
-rounded-requires c κs = search needs
 
 whole : (c : tie.After-rounded Inv-loop μ-loop) → c .rounded .result ≡ rounded (getD (c .before .before .before .before .before .args .entries .now) (c .before .before .before .loop .i + 3) 0)
 whole c = c .rounded .ensures
@@ -56,15 +44,6 @@ add-total-2 c =
     let l = c .before .before .before .loop in
     let more = length-more (c .before .before .before .before .before .args .entries .now) (l .i) (l .left) (omega arith) in
     omega (arith, whole c)
-
-add-i : tie.Need-add-i Inv-loop μ-loop
-add-i c = omega arith
-
-sub-left : tie.Need-sub-left Inv-loop μ-loop
-sub-left c = omega arith
-
-loop-less : tie.Need-loop-less Inv-loop μ-loop
-loop-less c = omega arith
 
 loop-again : tie.Need-loop-again Inv-loop μ-loop
 loop-again c =
@@ -87,15 +66,15 @@ extents-length-spec =
     Inv-loop
     μ-loop
     loop-holds
-    add-rounded
-    mul-rounded
-    shared-slice-read-rounded
+    (λ c. omega arith)
+    (λ c. omega arith)
+    (λ c. omega arith)
     cast-rounded
-    rounded-requires
+    (λ c κs. search needs)
     add-total
     add-total-2
-    add-i
-    sub-left
-    loop-less
+    (λ c. omega arith)
+    (λ c. omega arith)
+    (λ c. omega arith)
     loop-again
     returns)

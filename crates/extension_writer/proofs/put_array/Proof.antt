@@ -14,39 +14,9 @@ use borrow.Author.Needs.{needs}
 use Rattle.extension_writer.proofs.put_array.Statement.{statement}
 use Rattle.extension_writer.proofs.put_array.Tie as tie
 
-write-u32-requires : tie.Need-write-u32-requires
-write-u32-requires c κs = search needs
-
-same-length : tie.Need-same-length
-same-length c = search needs
-
 returns : tie.Need-returns
 unfolding arrayBytes given
 returns c = c .before .before .before .write-u32 .ensures ∙ (rw (c .if1 .taken, append-nil (encode 4 0)))
-
-add-write-u32 : tie.Need-add-write-u32
-add-write-u32 c = search needs
-
-cast-write-u32 : tie.Need-cast-write-u32
-cast-write-u32 c = search needs
-
-write-u32-requires-2 : tie.Need-write-u32-requires-2
-write-u32-requires-2 c κs = search needs
-
-add-write-u32-2 : tie.Need-add-write-u32-2
-add-write-u32-2 c = search needs
-
-write-u32-requires-3 : tie.Need-write-u32-requires-3
-write-u32-requires-3 c κs = search needs
-
-add-write-u32-3 : tie.Need-add-write-u32-3
-add-write-u32-3 c = search needs
-
-write-u32-requires-4 : tie.Need-write-u32-requires-4
-write-u32-requires-4 c κs = search needs
-
-same-length-2 : tie.Need-same-length-2
-same-length-2 c = search needs
 
 returns-2 : tie.Need-returns-2
 unfolding arrayBytes given
@@ -64,9 +34,6 @@ returns-2 c =
     let run4 = then-field 4 (a .array) run3 (omega arith) (c .before .before .before .write-u324 .ensures) in
     run4 .holds ∙ (rw (ne-eqb _ _ some, c .if2 .taken, length-described ws (a .contents .now) 0 n) (simp (append-assoc, append-nil)))
 
-add-put-pointed : tie.Need-add-put-pointed
-add-put-pointed c = search needs
-
 put-pointed-requires : tie.Need-put-pointed-requires
 put-pointed-requires c κs =
     let a = c .before .before .before .before .before .before .before .before .before .before .before .before .before .before .before .before .before .before .before .before .before .before .args in
@@ -74,9 +41,6 @@ put-pointed-requires c κs =
     let room = p .3 in
     let size = length-full (a .pointer) (a .array) (a .entries .now) (c .before .before .before .before .before .before .before .before .before .before .before .before .before .before .if1 .left) (c .before .if2 .left) in
     (p .0, p .1, p .2, omega arith)
-
-same-length-3 : tie.Need-same-length-3
-same-length-3 c = search needs
 
 returns-3 : tie.Need-returns-3
 unfolding arrayBytes given
@@ -103,19 +67,19 @@ pub put-array-spec : {M : Type 1} → statement M
 put-array-spec =
     tie.close
     (tie.spec
-    write-u32-requires
-    same-length
+    (λ c κs. search needs)
+    (λ c. search needs)
     returns
-    add-write-u32
-    cast-write-u32
-    write-u32-requires-2
-    add-write-u32-2
-    write-u32-requires-3
-    add-write-u32-3
-    write-u32-requires-4
-    same-length-2
+    (λ c. search needs)
+    (λ c. search needs)
+    (λ c κs. search needs)
+    (λ c. search needs)
+    (λ c κs. search needs)
+    (λ c. search needs)
+    (λ c κs. search needs)
+    (λ c. search needs)
     returns-2
-    add-put-pointed
+    (λ c. search needs)
     put-pointed-requires
-    same-length-3
+    (λ c. search needs)
     returns-3)

@@ -11,57 +11,6 @@ use Rattle.extension_writer.proofs.put_extent.Statement.{statement}
 use Rattle.extension_writer.proofs.put_extent.Tie as tie
 use Rattle.fields.specs.Fields.{rounded, zeros}
 
-cast-size : tie.Need-cast-size
-cast-size c = search needs
-
-rounded-requires : tie.Need-rounded-requires
-rounded-requires c κs = search needs
-
-cast-write-u32 : tie.Need-cast-write-u32
-cast-write-u32 c = search needs
-
-write-u32-requires : tie.Need-write-u32-requires
-write-u32-requires c κs = search needs
-
-add-write-u64 : tie.Need-add-write-u64
-add-write-u64 c = search needs
-
-write-u64-requires : tie.Need-write-u64-requires
-write-u64-requires c κs = search needs
-
-add-write-u64-2 : tie.Need-add-write-u64-2
-add-write-u64-2 c = search needs
-
-write-u64-requires-2 : tie.Need-write-u64-requires-2
-write-u64-requires-2 c κs = search needs
-
-add-write-u32 : tie.Need-add-write-u32
-add-write-u32 c = search needs
-
-write-u32-requires-2 : tie.Need-write-u32-requires-2
-write-u32-requires-2 c κs = search needs
-
-add-copy : tie.Need-add-copy
-add-copy c = search needs
-
-copy-requires : tie.Need-copy-requires
-copy-requires c κs = search needs
-
-add-fill : tie.Need-add-fill
-add-fill c = search needs
-
-add-fill-2 : tie.Need-add-fill-2
-add-fill-2 c = search needs
-
-sub-fill : tie.Need-sub-fill
-sub-fill c = search needs
-
-fill-requires : tie.Need-fill-requires
-fill-requires c κs = search needs
-
-same-length : tie.Need-same-length
-same-length c = search needs
-
 returns : tie.Need-returns
 unfolding extentBytes
 returns c =
@@ -85,21 +34,21 @@ pub put-extent-spec : {M : Type 1} → statement M
 put-extent-spec =
     tie.close
     (tie.spec
-    cast-size
-    rounded-requires
-    cast-write-u32
-    write-u32-requires
-    add-write-u64
-    write-u64-requires
-    add-write-u64-2
-    write-u64-requires-2
-    add-write-u32
-    write-u32-requires-2
-    add-copy
-    copy-requires
-    add-fill
-    add-fill-2
-    sub-fill
-    fill-requires
-    same-length
+    (λ c. search needs)
+    (λ c κs. search needs)
+    (λ c. search needs)
+    (λ c κs. search needs)
+    (λ c. search needs)
+    (λ c κs. search needs)
+    (λ c. search needs)
+    (λ c κs. search needs)
+    (λ c. search needs)
+    (λ c κs. search needs)
+    (λ c. search needs)
+    (λ c κs. search needs)
+    (λ c. search needs)
+    (λ c. search needs)
+    (λ c. search needs)
+    (λ c κs. search needs)
+    (λ c. search needs)
     returns)

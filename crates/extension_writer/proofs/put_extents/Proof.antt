@@ -50,38 +50,8 @@ next c =
       room = omega arith;
     }
 
-add-size : tie.Need-add-size Inv-loop μ-loop
-add-size c = omega arith
-
-mul-size : tie.Need-mul-size Inv-loop μ-loop
-mul-size c = omega arith
-
-shared-slice-read-size : tie.Need-shared-slice-read-size Inv-loop μ-loop
-shared-slice-read-size c = omega arith
-
-mul-put-extent : tie.Need-mul-put-extent Inv-loop μ-loop
-mul-put-extent c = omega arith
-
-shared-slice-read-put-extent : tie.Need-shared-slice-read-put-extent Inv-loop μ-loop
-shared-slice-read-put-extent c = omega arith
-
-add-put-extent : tie.Need-add-put-extent Inv-loop μ-loop
-add-put-extent c = omega arith
-
-mul-put-extent-2 : tie.Need-mul-put-extent-2 Inv-loop μ-loop
-mul-put-extent-2 c = omega arith
-
-shared-slice-read-put-extent-2 : tie.Need-shared-slice-read-put-extent-2 Inv-loop μ-loop
-shared-slice-read-put-extent-2 c = omega arith
-
 add-put-extent-2 : tie.Need-add-put-extent-2 Inv-loop μ-loop
 add-put-extent-2 c = let h = next (c .before .before .before .before) in omega (arith, h .sizes)
-
-sub-put-extent : tie.Need-sub-put-extent Inv-loop μ-loop
-sub-put-extent c = omega arith
-
-part-put-extent-start : tie.Need-part-put-extent-start Inv-loop μ-loop
-part-put-extent-start c = omega arith
 
 part-put-extent-end : tie.Need-part-put-extent-end Inv-loop μ-loop
 part-put-extent-end c = let h = next (c .before .before .before .before) in omega (arith, h .sizes)
@@ -98,9 +68,6 @@ put-extent-requires c κs =
 cast-rounded : tie.Need-cast-rounded Inv-loop μ-loop
 cast-rounded c = let h = next (c .before .before .before .before .before .before .before .before) in omega (arith, h .fit)
 
-rounded-requires : tie.Need-rounded-requires Inv-loop μ-loop
-rounded-requires c κs = search needs
-
 whole : (c : tie.After-rounded Inv-loop μ-loop) → c .rounded .result ≡ rounded (getD (c .before .before .before .before .before .before .before .before .before .before .before .before .before .before .args .entries .now) (c .before .before .before .before .before .before .before .before .before .before .loop .i + 3) 0)
 whole c = c .rounded .ensures
 
@@ -112,15 +79,6 @@ add-to-2 c = let h = next (c .before .before .before .before .before .before .be
 
 add-from : tie.Need-add-from Inv-loop μ-loop
 add-from c = let h = next (c .before .before .before .before .before .before .before .before .before) in omega (arith, h .sizes)
-
-add-i : tie.Need-add-i Inv-loop μ-loop
-add-i c = omega arith
-
-sub-left : tie.Need-sub-left Inv-loop μ-loop
-sub-left c = omega arith
-
-loop-less : tie.Need-loop-less Inv-loop μ-loop
-loop-less c = omega arith
 
 loop-again : tie.Need-loop-again Inv-loop μ-loop
 loop-again c =
@@ -158,27 +116,27 @@ put-extents-spec =
     Inv-loop
     μ-loop
     loop-holds
-    add-size
-    mul-size
-    shared-slice-read-size
-    mul-put-extent
-    shared-slice-read-put-extent
-    add-put-extent
-    mul-put-extent-2
-    shared-slice-read-put-extent-2
+    (λ c. omega arith)
+    (λ c. omega arith)
+    (λ c. omega arith)
+    (λ c. omega arith)
+    (λ c. omega arith)
+    (λ c. omega arith)
+    (λ c. omega arith)
+    (λ c. omega arith)
     add-put-extent-2
-    sub-put-extent
-    part-put-extent-start
+    (λ c. omega arith)
+    (λ c. omega arith)
     part-put-extent-end
     put-extent-requires
     cast-rounded
-    rounded-requires
+    (λ c κs. search needs)
     add-to
     add-to-2
     add-from
-    add-i
-    sub-left
-    loop-less
+    (λ c. omega arith)
+    (λ c. omega arith)
+    (λ c. omega arith)
     loop-again
     same-length
     returns)

@@ -13,57 +13,6 @@ use Rattle.extension_writer.proofs.put_pointed.Statement.{statement}
 use Rattle.extension_writer.proofs.put_pointed.Tie as tie
 use Rattle.fields.specs.Fields.{zeros}
 
-cast-paired : tie.Need-cast-paired
-cast-paired c = search needs
-
-paired-requires : tie.Need-paired-requires
-paired-requires c κs = search needs
-
-cast-write-u32 : tie.Need-cast-write-u32
-cast-write-u32 c = search needs
-
-write-u32-requires : tie.Need-write-u32-requires
-write-u32-requires c κs = search needs
-
-add-put-pointers : tie.Need-add-put-pointers
-add-put-pointers c = search needs
-
-put-pointers-requires : tie.Need-put-pointers-requires
-put-pointers-requires c κs = search needs
-
-add-fill : tie.Need-add-fill
-add-fill c = search needs
-
-mul-fill : tie.Need-mul-fill
-mul-fill c = search needs
-
-add-fill-2 : tie.Need-add-fill-2
-add-fill-2 c = search needs
-
-sub-fill : tie.Need-sub-fill
-sub-fill c = search needs
-
-mul-fill-2 : tie.Need-mul-fill-2
-mul-fill-2 c = search needs
-
-fill-requires : tie.Need-fill-requires
-fill-requires c κs = search needs
-
-add-put-extents : tie.Need-add-put-extents
-add-put-extents c = search needs
-
-mul-put-extents : tie.Need-mul-put-extents
-mul-put-extents c = search needs
-
-add-put-extents-2 : tie.Need-add-put-extents-2
-add-put-extents-2 c = search needs
-
-put-extents-requires : tie.Need-put-extents-requires
-put-extents-requires c κs = search needs
-
-same-length : tie.Need-same-length
-same-length c = search needs
-
 returns : tie.Need-returns
 unfolding pointedBytes
 returns c =
@@ -92,21 +41,21 @@ pub put-pointed-spec : {M : Type 1} → statement M
 put-pointed-spec =
     tie.close
     (tie.spec
-    cast-paired
-    paired-requires
-    cast-write-u32
-    write-u32-requires
-    add-put-pointers
-    put-pointers-requires
-    add-fill
-    mul-fill
-    add-fill-2
-    sub-fill
-    mul-fill-2
-    fill-requires
-    add-put-extents
-    mul-put-extents
-    add-put-extents-2
-    put-extents-requires
-    same-length
+    (λ c. search needs)
+    (λ c κs. search needs)
+    (λ c. search needs)
+    (λ c κs. search needs)
+    (λ c. search needs)
+    (λ c κs. search needs)
+    (λ c. search needs)
+    (λ c. search needs)
+    (λ c. search needs)
+    (λ c. search needs)
+    (λ c. search needs)
+    (λ c κs. search needs)
+    (λ c. search needs)
+    (λ c. search needs)
+    (λ c. search needs)
+    (λ c κs. search needs)
+    (λ c. search needs)
     returns)

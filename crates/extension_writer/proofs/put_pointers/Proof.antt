@@ -33,32 +33,8 @@ loop-holds c =
 one : (c : tie.In-loop Inv-loop μ-loop) → Entry (getD (c .before .before .before .before .args .entries .now) (c .before .loop .i + 2) 0) (getD (c .before .before .before .before .args .entries .now) (c .before .loop .i + 3) 0)
 one c = entry _ _ (words-first _ _ _ (omega arith) (c .before .loop .inv .1) .0)
 
-add-write-u32 : tie.Need-add-write-u32 Inv-loop μ-loop
-add-write-u32 c = omega arith
-
-mul-write-u32 : tie.Need-mul-write-u32 Inv-loop μ-loop
-mul-write-u32 c = omega arith
-
-shared-slice-read-write-u32 : tie.Need-shared-slice-read-write-u32 Inv-loop μ-loop
-shared-slice-read-write-u32 c = omega arith
-
 cast-write-u32 : tie.Need-cast-write-u32 Inv-loop μ-loop
 cast-write-u32 c = let h = one (c .before .before) in omega (arith, h .narrow)
-
-write-u32-requires : tie.Need-write-u32-requires Inv-loop μ-loop
-write-u32-requires c κs = search needs
-
-add-to : tie.Need-add-to Inv-loop μ-loop
-add-to c = omega arith
-
-add-i : tie.Need-add-i Inv-loop μ-loop
-add-i c = omega arith
-
-sub-left : tie.Need-sub-left Inv-loop μ-loop
-sub-left c = omega arith
-
-loop-less : tie.Need-loop-less Inv-loop μ-loop
-loop-less c = omega arith
 
 loop-again : tie.Need-loop-again Inv-loop μ-loop
 unfolding pointersBytes
@@ -92,15 +68,15 @@ put-pointers-spec =
     Inv-loop
     μ-loop
     loop-holds
-    add-write-u32
-    mul-write-u32
-    shared-slice-read-write-u32
+    (λ c. omega arith)
+    (λ c. omega arith)
+    (λ c. omega arith)
     cast-write-u32
-    write-u32-requires
-    add-to
-    add-i
-    sub-left
-    loop-less
+    (λ c κs. search needs)
+    (λ c. omega arith)
+    (λ c. omega arith)
+    (λ c. omega arith)
+    (λ c. omega arith)
     loop-again
     same-length
     returns)

@@ -15,9 +15,6 @@ returns : tie.Need-returns
 unfolding takes agree
 returns c = rw (ne-eqb _ _ (c .if1 .taken))
 
-sizes-are-requires : tie.Need-sizes-are-requires
-sizes-are-requires c κs = search needs
-
 returns-2 : tie.Need-returns-2
 unfolding takes agree
 returns-2 c =
@@ -55,9 +52,6 @@ returns-6 c =
     let few : n ≤ 32 = omega (arith, c .before .if5 .left) in
     rw (agreed (c .before .before .before), ne-eqb _ _ (c .before .before .if3 .left), c .if6 .taken, length-described (a .entries .now) (a .contents .now) 0 n, le-leb _ _ few) (bare (a .entries .now) (a .contents .now) n)
 
-words-writable-requires : tie.Need-words-writable-requires
-words-writable-requires c κs = search needs
-
 returns-7 : tie.Need-returns-7
 unfolding takes writable given
 returns-7 c =
@@ -72,11 +66,11 @@ takes-spec =
     tie.close
     (tie.spec
     returns
-    sizes-are-requires
+    (λ c κs. search needs)
     returns-2
     returns-3
     returns-4
     returns-5
     returns-6
-    words-writable-requires
+    (λ c κs. search needs)
     returns-7)

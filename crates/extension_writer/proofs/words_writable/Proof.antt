@@ -19,27 +19,6 @@ abbrev μ-loop : tie.MeasureT-loop
 loop-holds : tie.Need-loop-holds Inv-loop μ-loop
 loop-holds c = (omega arith, refl)
 
-add-entry-writable : tie.Need-add-entry-writable Inv-loop μ-loop
-add-entry-writable c = omega arith
-
-mul-entry-writable : tie.Need-mul-entry-writable Inv-loop μ-loop
-mul-entry-writable c = omega arith
-
-shared-slice-read-entry-writable : tie.Need-shared-slice-read-entry-writable Inv-loop μ-loop
-shared-slice-read-entry-writable c = omega arith
-
-add-entry-writable-2 : tie.Need-add-entry-writable-2 Inv-loop μ-loop
-add-entry-writable-2 c = omega arith
-
-mul-entry-writable-2 : tie.Need-mul-entry-writable-2 Inv-loop μ-loop
-mul-entry-writable-2 c = omega arith
-
-shared-slice-read-entry-writable-2 : tie.Need-shared-slice-read-entry-writable-2 Inv-loop μ-loop
-shared-slice-read-entry-writable-2 c = omega arith
-
-entry-writable-requires : tie.Need-entry-writable-requires Inv-loop μ-loop
-entry-writable-requires c κs = search needs
-
 returns : tie.Need-returns Inv-loop μ-loop
 returns c =
     let l = c .before .before .before .before .before .loop in
@@ -47,15 +26,6 @@ returns c =
     let more = words-more (a .entries .now) (l .i) (l .left) (omega arith) in
     let no = sym (c .before .entry-writable .ensures) ∙ not-true _ (c .if1 .taken) in
     sym (sym (l .inv .1) ∙ more ∙ (rw no))
-
-add-i : tie.Need-add-i Inv-loop μ-loop
-add-i c = omega arith
-
-sub-left : tie.Need-sub-left Inv-loop μ-loop
-sub-left c = omega arith
-
-loop-less : tie.Need-loop-less Inv-loop μ-loop
-loop-less c = omega arith
 
 loop-again : tie.Need-loop-again Inv-loop μ-loop
 loop-again c =
@@ -78,16 +48,16 @@ words-writable-spec =
     Inv-loop
     μ-loop
     loop-holds
-    add-entry-writable
-    mul-entry-writable
-    shared-slice-read-entry-writable
-    add-entry-writable-2
-    mul-entry-writable-2
-    shared-slice-read-entry-writable-2
-    entry-writable-requires
+    (λ c. omega arith)
+    (λ c. omega arith)
+    (λ c. omega arith)
+    (λ c. omega arith)
+    (λ c. omega arith)
+    (λ c. omega arith)
+    (λ c κs. search needs)
     returns
-    add-i
-    sub-left
-    loop-less
+    (λ c. omega arith)
+    (λ c. omega arith)
+    (λ c. omega arith)
     loop-again
     returns-2)

@@ -11,9 +11,6 @@ use borrow.Author.Needs.{needs}
 use Rattle.extension_writer.proofs.write.Statement.{statement}
 use Rattle.extension_writer.proofs.write.Tie as tie
 
-takes-requires : tie.Need-takes-requires
-takes-requires c κs = search needs
-
 returns : tie.Need-returns
 returns c =
     let a = c .before .before .before .before .before .args in
@@ -28,9 +25,6 @@ fine c = good _ _ _ _ (able c)
 
 array-length-requires : tie.Need-array-length-requires
 array-length-requires c κs = let g = fine c in (g .few, g .words)
-
-inside-requires : tie.Need-inside-requires
-inside-requires c κs = search needs
 
 returns-2 : tie.Need-returns-2
 returns-2 c =
@@ -57,9 +51,6 @@ add-t10 c =
     let n = c .before .before .before .before .before .before .array-length .ensures in
     omega arith
 
-same-length : tie.Need-same-length
-same-length c = search needs
-
 returns-3 : tie.Need-returns-3
 returns-3 c =
     let a = c .before .before .before .before .before .before .before .before .before .before .before .before .args in
@@ -70,12 +61,12 @@ pub write-spec : {M : Type 1} → statement M
 write-spec =
     tie.close
     (tie.spec
-    takes-requires
+    (λ c κs. search needs)
     returns
     array-length-requires
-    inside-requires
+    (λ c κs. search needs)
     returns-2
     put-array-requires
     add-t10
-    same-length
+    (λ c. search needs)
     returns-3)

@@ -7,9 +7,6 @@ use borrow.Author.Needs.{needs}
 use Rattle.extensions.proofs.array.Statement.{statement}
 use Rattle.extensions.proofs.array.Tie as tie
 
-front-answer-requires : tie.Need-front-answer-requires
-front-answer-requires c κs = search needs
-
 returns : tie.Need-returns
 returns c =
     let e = c .before .front-answer .ensures in
@@ -23,9 +20,6 @@ ok c = fronted _ _ (done c)
 
 add-read-u32 : tie.Need-add-read-u32
 add-read-u32 c = let h = ok c in omega (arith, h .room)
-
-read-u32-requires : tie.Need-read-u32-requires
-read-u32-requires c κs = search needs
 
 add-t7 : tie.Need-add-t7
 add-t7 c = let h = ok (c .before .before) in omega (arith, h .room)
@@ -43,10 +37,10 @@ pub array-spec : {M : Type 1} → statement M
 array-spec =
     tie.close
     (tie.spec
-    front-answer-requires
+    (λ c κs. search needs)
     returns
     add-read-u32
-    read-u32-requires
+    (λ c κs. search needs)
     add-t7
     returns-2
     pointed-requires

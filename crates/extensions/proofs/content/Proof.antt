@@ -10,9 +10,6 @@ use borrow.Author.Needs.{needs}
 use Rattle.extensions.proofs.content.Statement.{statement}
 use Rattle.extensions.proofs.content.Tie as tie
 
-locate-requires : tie.Need-locate-requires
-locate-requires c κs = search needs
-
 within : (c : tie.After-locate) → Lies (length (c .before .before .args .s .now)) (c .locate .result)
 within c = rw (c .locate .ensures) (lies _ _ _)
 
@@ -36,4 +33,4 @@ returns c =
 
 pub content-spec : {M : Type 1} → statement M
 content-spec =
-    tie.close (tie.spec locate-requires sub-result part-result-start part-result-end returns)
+    tie.close (tie.spec (λ c κs. search needs) sub-result part-result-start part-result-end returns)

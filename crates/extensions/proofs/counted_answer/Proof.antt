@@ -13,9 +13,6 @@ use borrow.Author.Needs.{needs}
 use Rattle.extensions.proofs.counted_answer.Statement.{statement}
 use Rattle.extensions.proofs.counted_answer.Tie as tie
 
-inside-requires : tie.Need-inside-requires
-inside-requires c κs = search needs
-
 returns : tie.Need-returns
 returns c = sym (counted-short _ _ _ (sym (c .before .inside .ensures) ∙ not-true _ (c .if1 .taken)))
 
@@ -25,15 +22,6 @@ room c = sym (c .before .inside .ensures) ∙ not-false _ (c .if1 .left)
 fits : (c : tie.Else1) → c .before .before .before .args .at + 4 ≤ length (c .before .before .before .args .s .now)
 fits c = leb-true _ _ (room c)
 
-paired-requires : tie.Need-paired-requires
-paired-requires c κs = search needs
-
-read-u32-requires : tie.Need-read-u32-requires
-read-u32-requires c κs = search needs
-
-cast-if2 : tie.Need-cast-if2
-cast-if2 c = search needs
-
 returns-2 : tie.Need-returns-2
 returns-2 c = sym (counted-differ _ _ _ (room (c .before .before .before)) (λ z. c .if2 .taken (c .before .read-u32 .ensures ∙ z ∙ sym (c .before .before .paired .ensures))))
 
@@ -42,9 +30,6 @@ same c = sym (c .before .read-u32 .ensures) ∙ c .if2 .left ∙ c .before .befo
 
 add-pointers-answer : tie.Need-add-pointers-answer
 add-pointers-answer c = omega (arith, fits (c .before .before .before))
-
-pointers-answer-requires : tie.Need-pointers-answer-requires
-pointers-answer-requires c κs = search needs
 
 returns-3 : tie.Need-returns-3
 returns-3 c =
@@ -60,20 +45,8 @@ past c = pointers-room _ _ _ (fits (c .before .before .before .before .before)) 
 add-padding-answer : tie.Need-add-padding-answer
 add-padding-answer c = omega (arith, past c)
 
-mul-padding-answer : tie.Need-mul-padding-answer
-mul-padding-answer c = search needs
-
 add-padding-answer-2 : tie.Need-add-padding-answer-2
 add-padding-answer-2 c = omega (arith, past c)
-
-sub-padding-answer : tie.Need-sub-padding-answer
-sub-padding-answer c = search needs
-
-mul-padding-answer-2 : tie.Need-mul-padding-answer-2
-mul-padding-answer-2 c = search needs
-
-padding-answer-requires : tie.Need-padding-answer-requires
-padding-answer-requires c κs = search needs
 
 returns-4 : tie.Need-returns-4
 returns-4 c =
@@ -84,19 +57,19 @@ pub counted-answer-spec : {M : Type 1} → statement M
 counted-answer-spec =
     tie.close
     (tie.spec
-    inside-requires
+    (λ c κs. search needs)
     returns
-    paired-requires
-    read-u32-requires
-    cast-if2
+    (λ c κs. search needs)
+    (λ c κs. search needs)
+    (λ c. search needs)
     returns-2
     add-pointers-answer
-    pointers-answer-requires
+    (λ c κs. search needs)
     returns-3
     add-padding-answer
-    mul-padding-answer
+    (λ c. search needs)
     add-padding-answer-2
-    sub-padding-answer
-    mul-padding-answer-2
-    padding-answer-requires
+    (λ c. search needs)
+    (λ c. search needs)
+    (λ c κs. search needs)
     returns-4)

@@ -13,9 +13,6 @@ use Rattle.extensions.proofs.ArrayWalk.{extent-short, extent-sizes, ext
 use Rattle.extensions.proofs.extent_answer.Statement.{statement}
 use Rattle.extensions.proofs.extent_answer.Tie as tie
 
-inside-requires : tie.Need-inside-requires
-inside-requires c κs = search needs
-
 returns : tie.Need-returns
 returns c = sym (extent-short (c .before .before .before .args .s .now) (c .before .before .before .args .at) (sym (c .before .inside .ensures) ∙ not-true _ (c .if1 .taken)))
 
@@ -27,18 +24,6 @@ room c = leb-true _ _ (fixed c)
 
 add-read-u32 : tie.Need-add-read-u32
 add-read-u32 c = omega (arith, room c)
-
-read-u32-requires : tie.Need-read-u32-requires
-read-u32-requires c κs = search needs
-
-rounded-requires : tie.Need-rounded-requires
-rounded-requires c κs = search needs
-
-read-u32-requires-2 : tie.Need-read-u32-requires-2
-read-u32-requires-2 c κs = search needs
-
-cast-if2 : tie.Need-cast-if2
-cast-if2 c = search needs
 
 whole : (c : tie.After-rounded) → c .rounded .result ≡ rounded (sizeAt (c .before .before .before .before .before .args .s .now) (c .before .before .before .before .before .args .at))
 whole c = c .rounded .ensures ∙ ap rounded (c .before .read-u32 .ensures)
@@ -52,12 +37,6 @@ sizes c = sym (c .before .read-u322 .ensures) ∙ c .if2 .left ∙ whole (c .bef
 
 add-inside : tie.Need-add-inside
 add-inside c = omega (arith, room (c .before .before .before .before))
-
-cast-inside : tie.Need-cast-inside
-cast-inside c = search needs
-
-inside-requires-2 : tie.Need-inside-requires-2
-inside-requires-2 c κs = search needs
 
 returns-3 : tie.Need-returns-3
 returns-3 c =
@@ -73,24 +52,12 @@ content c =
 add-padding-answer : tie.Need-add-padding-answer
 add-padding-answer c = omega (arith, room (c .before .before .before .before .before .before))
 
-cast-padding-answer : tie.Need-cast-padding-answer
-cast-padding-answer c = search needs
-
 add-padding-answer-2 : tie.Need-add-padding-answer-2
 add-padding-answer-2 c =
     let a = c .before .before .before .before .before .before .before .before .before .args in
     let size = c .before .before .before .before .before .read-u32 .ensures in
     let h : a .at + 24 + sizeAt (a .s .now) (a .at) ≤ length (a .s .now) = leb-true _ _ (content c) in
     omega arith
-
-cast-padding-answer-2 : tie.Need-cast-padding-answer-2
-cast-padding-answer-2 c = search needs
-
-sub-padding-answer : tie.Need-sub-padding-answer
-sub-padding-answer c = search needs
-
-padding-answer-requires : tie.Need-padding-answer-requires
-padding-answer-requires c κs = search needs
 
 returns-4 : tie.Need-returns-4
 returns-4 c =
@@ -102,22 +69,22 @@ pub extent-answer-spec : {M : Type 1} → statement M
 extent-answer-spec =
     tie.close
     (tie.spec
-    inside-requires
+    (λ c κs. search needs)
     returns
     add-read-u32
-    read-u32-requires
-    rounded-requires
-    read-u32-requires-2
-    cast-if2
+    (λ c κs. search needs)
+    (λ c κs. search needs)
+    (λ c κs. search needs)
+    (λ c. search needs)
     returns-2
     add-inside
-    cast-inside
-    inside-requires-2
+    (λ c. search needs)
+    (λ c κs. search needs)
     returns-3
     add-padding-answer
-    cast-padding-answer
+    (λ c. search needs)
     add-padding-answer-2
-    cast-padding-answer-2
-    sub-padding-answer
-    padding-answer-requires
+    (λ c. search needs)
+    (λ c. search needs)
+    (λ c κs. search needs)
     returns-4)

@@ -18,9 +18,6 @@ abbrev μ-loop : tie.MeasureT-loop
 loop-holds : tie.Need-loop-holds Inv-loop μ-loop
 loop-holds c = (refl, refl)
 
-extent-answer-requires : tie.Need-extent-answer-requires Inv-loop μ-loop
-extent-answer-requires c κs = search needs
-
 returns : tie.Need-returns Inv-loop μ-loop
 returns c =
     let a = c .before .before .before .before .before .args in
@@ -38,12 +35,6 @@ whole c = held _ _ (one c)
 add-read-u32 : tie.Need-add-read-u32 Inv-loop μ-loop
 add-read-u32 c = let h = whole c in omega (arith, h .fixed)
 
-read-u32-requires : tie.Need-read-u32-requires Inv-loop μ-loop
-read-u32-requires c κs = search needs
-
-rounded-requires : tie.Need-rounded-requires Inv-loop μ-loop
-rounded-requires c κs = search needs
-
 next : (c : tie.After-rounded Inv-loop μ-loop) → c .before .before .before .before .before .loop .i + (24 + c .rounded .result) ≡ nextAt (c .before .before .before .before .before .before .before .args .s .now) (c .before .before .before .before .before .loop .i)
 next c =
     let e : c .rounded .result ≡ rounded (sizeAt (c .before .before .before .before .before .before .before .args .s .now) (c .before .before .before .before .before .loop .i)) = c .rounded .ensures ∙ ap rounded (c .before .read-u32 .ensures) in
@@ -54,12 +45,6 @@ add-i c = let h = whole (c .before .before) in omega (arith, next c, h .room)
 
 add-i-2 : tie.Need-add-i-2 Inv-loop μ-loop
 add-i-2 c = let h = whole (c .before .before) in omega (arith, next c, h .room)
-
-sub-left : tie.Need-sub-left Inv-loop μ-loop
-sub-left c = omega arith
-
-loop-less : tie.Need-loop-less Inv-loop μ-loop
-loop-less c = omega arith
 
 loop-again : tie.Need-loop-again Inv-loop μ-loop
 loop-again c =
@@ -83,14 +68,14 @@ extents-spec =
     Inv-loop
     μ-loop
     loop-holds
-    extent-answer-requires
+    (λ c κs. search needs)
     returns
     add-read-u32
-    read-u32-requires
-    rounded-requires
+    (λ c κs. search needs)
+    (λ c κs. search needs)
     add-i
     add-i-2
-    sub-left
-    loop-less
+    (λ c. omega arith)
+    (λ c. omega arith)
     loop-again
     returns-2)

@@ -13,9 +13,6 @@ use borrow.Author.Needs.{needs}
 use Rattle.extensions.proofs.front_answer.Statement.{statement}
 use Rattle.extensions.proofs.front_answer.Tie as tie
 
-inside-requires : tie.Need-inside-requires
-inside-requires c κs = search needs
-
 returns : tie.Need-returns
 unfolding frontAnswer order
 returns c = simp (sym (c .before .inside .ensures) ∙ not-true _ (c .if1 .taken))
@@ -25,9 +22,6 @@ one c = sym (c .before .inside .ensures) ∙ not-false _ (c .if1 .left)
 
 add-read-u32 : tie.Need-add-read-u32
 add-read-u32 c = let h : c .before .before .before .args .at + 8 ≤ length (c .before .before .before .args .s .now) = leb-true _ _ (one c) in omega arith
-
-read-u32-requires : tie.Need-read-u32-requires
-read-u32-requires c κs = search needs
 
 returns-2 : tie.Need-returns-2
 unfolding frontAnswer order
@@ -39,9 +33,6 @@ returns-2 c =
 few : (c : tie.Else2) → countAt (c .before .before .before .before .before .args .s .now) (c .before .before .before .before .before .args .at) ≤ 32
 few c = let n = c .before .read-u32 .ensures in omega arith
 
-inside-requires-2 : tie.Need-inside-requires-2
-inside-requires-2 c κs = search needs
-
 returns-3 : tie.Need-returns-3
 unfolding frontAnswer order
 returns-3 c = simp (one (c .before .before .before .before), le-ltb _ _ (few (c .before .before)), sym (c .before .inside2 .ensures) ∙ not-true _ (c .if3 .taken))
@@ -52,9 +43,6 @@ two c = sym (c .before .inside2 .ensures) ∙ not-false _ (c .if3 .left)
 add-read-u32-2 : tie.Need-add-read-u32-2
 add-read-u32-2 c = let h : c .before .before .before .before .before .before .before .args .at + 12 ≤ length (c .before .before .before .before .before .before .before .args .s .now) = leb-true _ _ (two c) in omega arith
 
-read-u32-requires-2 : tie.Need-read-u32-requires-2
-read-u32-requires-2 c κs = search needs
-
 returns-4 : tie.Need-returns-4
 unfolding frontAnswer order
 returns-4 c =
@@ -63,9 +51,6 @@ returns-4 c =
 
 clear : (c : tie.Else4) → field (c .before .before .before .before .before .before .before .before .before .args .s .now) (c .before .before .before .before .before .before .before .before .before .args .at + 8) 4 ≡ 0
 clear c = sym (c .before .read-u322 .ensures) ∙ c .if4 .left
-
-inside-requires-3 : tie.Need-inside-requires-3
-inside-requires-3 c κs = search needs
 
 returns-5 : tie.Need-returns-5
 unfolding frontAnswer order
@@ -76,9 +61,6 @@ three c = sym (c .before .inside3 .ensures) ∙ not-false _ (c .if5 .left)
 
 add-read-u32-3 : tie.Need-add-read-u32-3
 add-read-u32-3 c = let h : c .before .before .before .before .before .before .before .before .before .before .before .args .at + 16 ≤ length (c .before .before .before .before .before .before .before .before .before .before .before .args .s .now) = leb-true _ _ (three c) in omega arith
-
-read-u32-requires-3 : tie.Need-read-u32-requires-3
-read-u32-requires-3 c κs = search needs
 
 returns-6 : tie.Need-returns-6
 unfolding frontAnswer order
@@ -104,20 +86,20 @@ pub front-answer-spec : {M : Type 1} → statement M
 front-answer-spec =
     tie.close
     (tie.spec
-    inside-requires
+    (λ c κs. search needs)
     returns
     add-read-u32
-    read-u32-requires
+    (λ c κs. search needs)
     returns-2
-    inside-requires-2
+    (λ c κs. search needs)
     returns-3
     add-read-u32-2
-    read-u32-requires-2
+    (λ c κs. search needs)
     returns-4
-    inside-requires-3
+    (λ c κs. search needs)
     returns-5
     add-read-u32-3
-    read-u32-requires-3
+    (λ c κs. search needs)
     returns-6
     returns-7
     returns-8)

@@ -11,17 +11,11 @@ use borrow.Author.Needs.{needs}
 use Rattle.extensions.proofs.judge.Statement.{statement}
 use Rattle.extensions.proofs.judge.Tie as tie
 
-inside-requires : tie.Need-inside-requires
-inside-requires c κs = search needs
-
 returns : tie.Need-returns
 returns c = sym (walk-short _ _ (sym (c .before .inside .ensures) ∙ not-true _ (c .if1 .taken)))
 
 room : (c : tie.Else1) → leb (c .before .before .before .args .at + 4) (length (c .before .before .before .args .s .now)) ≡ true
 room c = sym (c .before .inside .ensures) ∙ not-false _ (c .if1 .left)
-
-read-u32-requires : tie.Need-read-u32-requires
-read-u32-requires c κs = search needs
 
 add-t7 : tie.Need-add-t7
 add-t7 c = let h : c .before .before .before .before .before .args .at + 4 ≤ length (c .before .before .before .before .before .args .s .now) = leb-true _ _ (room (c .before .before)) in omega arith
@@ -29,13 +23,10 @@ add-t7 c = let h : c .before .before .before .before .before .args .at + 4 ≤ l
 returns-2 : tie.Need-returns-2
 returns-2 c = rw (walk-null _ _ (room (c .before .before)) (sym (c .before .read-u32 .ensures) ∙ c .if2 .taken))
 
-array-requires : tie.Need-array-requires
-array-requires c κs = search needs
-
 returns-3 : tie.Need-returns-3
 returns-3 c = c .array .ensures ∙ sym (walk-rest _ _ (room (c .before .before .before)) (λ z. c .before .if2 .left (c .before .before .read-u32 .ensures ∙ z)))
 
 pub judge-spec : {M : Type 1} → statement M
 judge-spec =
     tie.close
-    (tie.spec inside-requires returns read-u32-requires add-t7 returns-2 array-requires returns-3)
+    (tie.spec (λ c κs. search needs) returns (λ c κs. search needs) add-t7 returns-2 (λ c κs. search needs) returns-3)

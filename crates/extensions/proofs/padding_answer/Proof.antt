@@ -13,18 +13,12 @@ use Rattle.extensions.proofs.padding_answer.Tie as tie
 use Rattle.fields.specs.Fields.{allZero}
 use Rattle.fields.proofs.Fields.{zero-field}
 
-inside-requires : tie.Need-inside-requires
-inside-requires c κs = search needs
-
 returns : tie.Need-returns
 unfolding paddingAnswer order
 returns c = simp (sym (c .before .inside .ensures) ∙ not-true _ (c .if1 .taken))
 
 inner : (c : tie.Else1) → leb (c .before .before .before .args .at + c .before .before .before .args .n) (length (c .before .before .before .args .s .now)) ≡ true
 inner c = sym (c .before .inside .ensures) ∙ not-false _ (c .if1 .left)
-
-is-zero-requires : tie.Need-is-zero-requires
-is-zero-requires c κs = search needs
 
 same : (c : tie.After-is-zero) → c .is-zero .result ≡ allZero (take (c .before .before .before .before .args .n) (drop (c .before .before .before .before .args .at) (c .before .before .before .before .args .s .now)))
 same c = c .is-zero .ensures ∙ zero-field _ _ _ (leb-true _ _ (inner (c .before)))
@@ -39,4 +33,4 @@ returns-3 c = simp (inner (c .before .before), sym (same (c .before)) ∙ c .if2
 
 pub padding-answer-spec : {M : Type 1} → statement M
 padding-answer-spec =
-    tie.close (tie.spec inside-requires returns is-zero-requires returns-2 returns-3)
+    tie.close (tie.spec (λ c κs. search needs) returns (λ c κs. search needs) returns-2 returns-3)

@@ -7,18 +7,6 @@ use borrow.Author.Needs.{needs}
 use Rattle.extensions.proofs.pointed.Statement.{statement}
 use Rattle.extensions.proofs.pointed.Tie as tie
 
-add-read-u32 : tie.Need-add-read-u32
-add-read-u32 c = search needs
-
-read-u32-requires : tie.Need-read-u32-requires
-read-u32-requires c κs = search needs
-
-add-counted-answer : tie.Need-add-counted-answer
-add-counted-answer c = search needs
-
-counted-answer-requires : tie.Need-counted-answer-requires
-counted-answer-requires c κs = search needs
-
 same : (c : tie.After-counted-answer) → c .counted-answer .result ≡ countedAnswer (c .before .before .before .args .s .now) (c .before .before .before .args .at + 16) (countAt (c .before .before .before .args .s .now) (c .before .before .before .args .at))
 same c = rw (c .before .read-u32 .ensures) at (c .counted-answer .ensures)
 
@@ -26,24 +14,6 @@ returns : tie.Need-returns
 returns c =
     let e = same (c .before) in
     walked-stop _ _ (e ∙ sym (pointed-stop _ _ (λ z. c .if1 .taken (e ∙ z)))) (c .if1 .taken)
-
-add-extents : tie.Need-add-extents
-add-extents c = search needs
-
-paired-requires : tie.Need-paired-requires
-paired-requires c κs = search needs
-
-mul-extents : tie.Need-mul-extents
-mul-extents c = search needs
-
-add-extents-2 : tie.Need-add-extents-2
-add-extents-2 c = search needs
-
-cast-extents : tie.Need-cast-extents
-cast-extents c = search needs
-
-extents-requires : tie.Need-extents-requires
-extents-requires c κs = search needs
 
 returns-2 : tie.Need-returns-2
 returns-2 c =
@@ -57,15 +27,15 @@ pub pointed-spec : {M : Type 1} → statement M
 pointed-spec =
     tie.close
     (tie.spec
-    add-read-u32
-    read-u32-requires
-    add-counted-answer
-    counted-answer-requires
+    (λ c. search needs)
+    (λ c κs. search needs)
+    (λ c. search needs)
+    (λ c κs. search needs)
     returns
-    add-extents
-    paired-requires
-    mul-extents
-    add-extents-2
-    cast-extents
-    extents-requires
+    (λ c. search needs)
+    (λ c κs. search needs)
+    (λ c. search needs)
+    (λ c. search needs)
+    (λ c. search needs)
+    (λ c κs. search needs)
     returns-2)

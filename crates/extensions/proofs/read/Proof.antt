@@ -8,9 +8,6 @@ use borrow.Author.Needs.{needs}
 use Rattle.extensions.proofs.read.Statement.{statement}
 use Rattle.extensions.proofs.read.Tie as tie
 
-judge-requires : tie.Need-judge-requires
-judge-requires c κs = search needs
-
 number : (c : tie.After-judge) → c .judge .result .answer ≡ extensionsAnswer (c .before .before .args .s .now) (c .before .before .args .at)
 number c = ap (λ x. x .answer) (c .judge .ensures) ∙ walk-answer _ _
 
@@ -24,9 +21,6 @@ done c = sym (number (c .before .before)) ∙ c .if1 .left
 ok : (c : tie.Else1) → Accepted (c .before .before .before .before .args .s .now) (c .before .before .before .before .args .at)
 ok c = accepted _ _ (done c)
 
-read-u32-requires : tie.Need-read-u32-requires
-read-u32-requires c κs = search needs
-
 returns-2 : tie.Need-returns-2
 unfolding readExtensions extensionsCount
 returns-2 c = rw (eq-eqb _ _ (done (c .before .before)), sym (c .before .read-u32 .ensures) ∙ c .if2 .taken)
@@ -34,14 +28,8 @@ returns-2 c = rw (eq-eqb _ _ (done (c .before .before)), sym (c .before .read-u3
 add-read-u32 : tie.Need-add-read-u32
 add-read-u32 c = let h = ok (c .before .before) .front (λ z. c .if2 .left (c .before .read-u32 .ensures ∙ z)) in omega (arith, h .room)
 
-read-u32-requires-2 : tie.Need-read-u32-requires-2
-read-u32-requires-2 c κs = search needs
-
 add-read-u32-2 : tie.Need-add-read-u32-2
 add-read-u32-2 c = let h = ok (c .before .before .before) .front (λ z. c .before .if2 .left (c .before .before .read-u32 .ensures ∙ z)) in omega (arith, h .room)
-
-read-u32-requires-3 : tie.Need-read-u32-requires-3
-read-u32-requires-3 c κs = search needs
 
 returns-3 : tie.Need-returns-3
 unfolding readExtensions extensionsCount
@@ -51,12 +39,12 @@ pub read-spec : {M : Type 1} → statement M
 read-spec =
     tie.close
     (tie.spec
-    judge-requires
+    (λ c κs. search needs)
     returns
-    read-u32-requires
+    (λ c κs. search needs)
     returns-2
     add-read-u32
-    read-u32-requires-2
+    (λ c κs. search needs)
     add-read-u32-2
-    read-u32-requires-3
+    (λ c κs. search needs)
     returns-3)

@@ -27,12 +27,6 @@ whole c = held _ _ (both c .0)
 add-read-u32 : tie.Need-add-read-u32 Inv-loop μ-loop
 add-read-u32 c = let h = whole c in omega (arith, h .fixed)
 
-read-u32-requires : tie.Need-read-u32-requires Inv-loop μ-loop
-read-u32-requires c κs = search needs
-
-rounded-requires : tie.Need-rounded-requires Inv-loop μ-loop
-rounded-requires c κs = search needs
-
 next : (c : tie.After-rounded Inv-loop μ-loop) → c .before .before .before .loop .i + (24 + c .rounded .result) ≡ nextAt (c .before .before .before .before .before .args .s .now) (c .before .before .before .loop .i)
 next c =
     let e : c .rounded .result ≡ rounded (sizeAt (c .before .before .before .before .before .args .s .now) (c .before .before .before .loop .i)) = c .rounded .ensures ∙ ap rounded (c .before .read-u32 .ensures) in
@@ -43,15 +37,6 @@ add-i c = let h = whole (c .before .before) in omega (arith, next c, h .room)
 
 add-i-2 : tie.Need-add-i-2 Inv-loop μ-loop
 add-i-2 c = let h = whole (c .before .before) in omega (arith, next c, h .room)
-
-sub-left : tie.Need-sub-left Inv-loop μ-loop
-sub-left c = omega arith
-
-sub-skip : tie.Need-sub-skip Inv-loop μ-loop
-sub-skip c = omega arith
-
-loop-less : tie.Need-loop-less Inv-loop μ-loop
-loop-less c = omega arith
 
 loop-again : tie.Need-loop-again Inv-loop μ-loop
 loop-again c =
@@ -75,12 +60,12 @@ start-spec =
     μ-loop
     loop-holds
     add-read-u32
-    read-u32-requires
-    rounded-requires
+    (λ c κs. search needs)
+    (λ c κs. search needs)
     add-i
     add-i-2
-    sub-left
-    sub-skip
-    loop-less
+    (λ c. omega arith)
+    (λ c. omega arith)
+    (λ c. omega arith)
     loop-again
     returns)

@@ -6,17 +6,8 @@ use borrow.Author.Needs.{needs}
 use Rattle.fields.proofs.copy.Statement.{statement}
 use Rattle.fields.proofs.copy.Tie as tie
 
-inside-requires : tie.Need-inside-requires
-inside-requires c κs = search needs
-
 put-all-requires : tie.Need-put-all-requires
 put-all-requires c κs = leb-true _ _ (sym (c .before .before .inside .ensures) ∙ c .before .if1 .taken)
-
-same-length : tie.Need-same-length
-same-length c = search needs
-
-returns : tie.Need-returns
-returns c = search needs
 
 returns-2 : tie.Need-returns-2
 returns-2 c =
@@ -24,4 +15,4 @@ returns-2 c =
     sym (written-out (a .buf .now) (a .at) (a .src .now) (leb-false _ _ (sym (c .before .inside .ensures) ∙ c .if1 .left)))
 
 pub copy-spec : {M : Type 1} → statement M
-copy-spec = tie.close (tie.spec inside-requires put-all-requires same-length returns returns-2)
+copy-spec = tie.close (tie.spec (λ c κs. search needs) put-all-requires (λ c. search needs) (λ c. search needs) returns-2)

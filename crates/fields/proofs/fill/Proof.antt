@@ -8,16 +8,10 @@ use borrow.Author.Needs.{needs}
 use Rattle.fields.proofs.fill.Statement.{statement}
 use Rattle.fields.proofs.fill.Tie as tie
 
-write-requires : tie.Need-write-requires
-write-requires c κs = search needs
-
-same-length : tie.Need-same-length
-same-length c = search needs
-
 returns : tie.Need-returns
 returns c =
     let a = c .before .before .before .before .before .args in
     c .before .before .write .ensures ∙ ap (λ (l : List ℕ). written (a .buf .now) (a .at) l) (encode-zeros (a .n))
 
 pub fill-spec : {M : Type 1} → statement M
-fill-spec = tie.close (tie.spec write-requires same-length returns)
+fill-spec = tie.close (tie.spec (λ c κs. search needs) (λ c. search needs) returns)

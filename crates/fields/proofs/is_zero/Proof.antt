@@ -19,9 +19,6 @@ Inv-loop s at w i₀ i =
 abbrev μ-loop : tie.MeasureT-loop
 μ-loop s at w i₀ i = w - i
 
-inside-requires : tie.Need-inside-requires Inv-loop μ-loop
-inside-requires c κs = search needs
-
 returns : tie.Need-returns Inv-loop μ-loop
 returns c =
     let a = c .before .before .before .args in
@@ -33,23 +30,11 @@ loop-holds c =
     let room = leb-true (a .at + a .w) (length (a .s .now)) (sym (c .before .inside .ensures) ∙ not-false _ (c .if1 .left)) in
     (omega arith, room, rw (sub-zero, add-zero, field-in (a .s .now) (a .at) (a .w) room))
 
-add-if2 : tie.Need-add-if2 Inv-loop μ-loop
-add-if2 c = omega arith
-
-shared-slice-read-if2 : tie.Need-shared-slice-read-if2 Inv-loop μ-loop
-shared-slice-read-if2 c = omega arith
-
 returns-2 : tie.Need-returns-2 Inv-loop μ-loop
 returns-2 c =
     let a = c .before .before .before .before .before .before .before .args in
     let l = c .before .before .before .loop in
     sym (nonzero-first (a .s .now) (a .at) (a .w) (l .i) (omega arith) (l .inv .1) (c .if2 .taken)) ∙ l .inv .2
-
-add-i : tie.Need-add-i Inv-loop μ-loop
-add-i c = omega arith
-
-loop-less : tie.Need-loop-less Inv-loop μ-loop
-loop-less c = omega arith
 
 loop-again : tie.Need-loop-again Inv-loop μ-loop
 loop-again c =
@@ -71,13 +56,13 @@ is-zero-spec =
     (tie.spec
     Inv-loop
     μ-loop
-    inside-requires
+    (λ c κs. search needs)
     returns
     loop-holds
-    add-if2
-    shared-slice-read-if2
+    (λ c. omega arith)
+    (λ c. omega arith)
     returns-2
-    add-i
-    loop-less
+    (λ c. omega arith)
+    (λ c. omega arith)
     loop-again
     returns-3)

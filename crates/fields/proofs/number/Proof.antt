@@ -22,19 +22,10 @@ loop-holds c =
     let e : c .args .w - c .args .w ≡ 0 = omega arith in
     (omega arith, rw e, rw e (omega arith))
 
-sub-i : tie.Need-sub-i Inv-loop μ-loop
-sub-i c = omega arith
-
 mul-n : tie.Need-mul-n Inv-loop μ-loop
 mul-n c =
     let l = c .before .loop in
     omega (arith, bound-word (c .before .before .args .w - l .i) (l .n) (l .inv .2) (omega arith))
-
-add-n : tie.Need-add-n Inv-loop μ-loop
-add-n c = omega arith
-
-shared-slice-read-n : tie.Need-shared-slice-read-n Inv-loop μ-loop
-shared-slice-read-n c = omega arith
 
 byte : (c : tie.After-shared-slice-known Inv-loop μ-loop) →
     getD (c .before .before .before .args .s .now) (c .before .before .before .args .at + (c .before .before .loop .i - 1)) 0 < 256
@@ -47,9 +38,6 @@ add-n-2 : tie.Need-add-n-2 Inv-loop μ-loop
 add-n-2 c =
     let l = c .before .before .loop in
     omega (arith, byte c, bound-word (c .before .before .before .args .w - l .i) (l .n) (l .inv .2) (omega arith))
-
-loop-less : tie.Need-loop-less Inv-loop μ-loop
-loop-less c = omega arith
 
 loop-again : tie.Need-loop-again Inv-loop μ-loop
 loop-again c =
@@ -74,12 +62,12 @@ number-spec =
     Inv-loop
     μ-loop
     loop-holds
-    sub-i
+    (λ c. omega arith)
     mul-n
-    add-n
-    shared-slice-read-n
+    (λ c. omega arith)
+    (λ c. omega arith)
     cast-n
     add-n-2
-    loop-less
+    (λ c. omega arith)
     loop-again
     returns)

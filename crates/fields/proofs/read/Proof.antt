@@ -6,14 +6,8 @@ use borrow.Author.Needs.{needs}
 use Rattle.fields.proofs.read.Statement.{statement}
 use Rattle.fields.proofs.read.Tie as tie
 
-inside-requires : tie.Need-inside-requires
-inside-requires c κs = search needs
-
 number-requires : tie.Need-number-requires
 number-requires c κs = (search needs, leb-true _ _ (sym (c .before .inside .ensures) ∙ c .if1 .taken))
-
-returns : tie.Need-returns
-returns c = search needs
 
 returns-2 : tie.Need-returns-2
 returns-2 c =
@@ -21,4 +15,4 @@ returns-2 c =
     (sym (field-out (a .s .now) (a .at) (a .w) (leb-false _ _ (sym (c .before .inside .ensures) ∙ c .if1 .left))), power-positive (a .w))
 
 pub read-spec : {M : Type 1} → statement M
-read-spec = tie.close (tie.spec inside-requires number-requires returns returns-2)
+read-spec = tie.close (tie.spec (λ c κs. search needs) number-requires (λ c. search needs) returns-2)

@@ -10,19 +10,10 @@ use borrow.Author.Needs.{needs}
 use Rattle.fields.proofs.read_guid.Statement.{statement}
 use Rattle.fields.proofs.read_guid.Tie as tie
 
-inside-requires : tie.Need-inside-requires
-inside-requires c κs = search needs
-
-read-u64-requires : tie.Need-read-u64-requires
-read-u64-requires c κs = search needs
-
 add-read-u64 : tie.Need-add-read-u64
 add-read-u64 c =
     let room : c .before .before .before .before .args .at + 8 ≤ length (c .before .before .before .before .args .s .now) =
     leb-true _ _ (sym (c .before .before .inside .ensures) ∙ c .before .if1 .taken) in omega arith
-
-read-u64-requires-2 : tie.Need-read-u64-requires-2
-read-u64-requires-2 c κs = search needs
 
 returns : tie.Need-returns
 returns c = λ u. record { low = c .before .read-u64 .ensures u; high = c .read-u642 .ensures u }
@@ -38,4 +29,4 @@ returns-2 c =
 pub read-guid-spec : {M : Type 1} → statement M
 read-guid-spec =
     tie.close
-    (tie.spec inside-requires read-u64-requires add-read-u64 read-u64-requires-2 returns returns-2)
+    (tie.spec (λ c κs. search needs) (λ c κs. search needs) add-read-u64 (λ c κs. search needs) returns returns-2)

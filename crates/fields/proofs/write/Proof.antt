@@ -9,17 +9,8 @@ use borrow.Author.Needs.{needs}
 use Rattle.fields.proofs.write.Statement.{statement}
 use Rattle.fields.proofs.write.Tie as tie
 
-inside-requires : tie.Need-inside-requires
-inside-requires c κs = search needs
-
 put-requires : tie.Need-put-requires
 put-requires c κs = leb-true _ _ (sym (c .before .before .inside .ensures) ∙ c .before .if1 .taken)
-
-same-length : tie.Need-same-length
-same-length c = search needs
-
-returns : tie.Need-returns
-returns c = search needs
 
 returns-2 : tie.Need-returns-2
 returns-2 c =
@@ -28,4 +19,4 @@ returns-2 c =
     sym (written-out (a .buf .now) (a .at) (encode (a .w) (a .n)) (rw (length-encode (a .w) (a .n)) out))
 
 pub write-spec : {M : Type 1} → statement M
-write-spec = tie.close (tie.spec inside-requires put-requires same-length returns returns-2)
+write-spec = tie.close (tie.spec (λ c κs. search needs) put-requires (λ c. search needs) (λ c. search needs) returns-2)

@@ -10,23 +10,11 @@ use borrow.Author.Needs.{needs}
 use Rattle.fields.proofs.write_guid.Statement.{statement}
 use Rattle.fields.proofs.write_guid.Tie as tie
 
-inside-requires : tie.Need-inside-requires
-inside-requires c κs = search needs
-
-write-u64-requires : tie.Need-write-u64-requires
-write-u64-requires c κs = search needs
-
 add-write-u64 : tie.Need-add-write-u64
 add-write-u64 c =
     let k = c .before .before .before .before .before in
     let a = k .before .before .before .args in
     let room : a .at + 16 ≤ length (a .buf .now) = leb-true _ _ (sym (k .before .inside .ensures) ∙ k .if1 .taken) in omega arith
-
-write-u64-requires-2 : tie.Need-write-u64-requires-2
-write-u64-requires-2 c κs = search needs
-
-same-length : tie.Need-same-length
-same-length c = search needs
 
 returns : tie.Need-returns
 returns c =
@@ -46,10 +34,10 @@ pub write-guid-spec : {M : Type 1} → statement M
 write-guid-spec =
     tie.close
     (tie.spec
-    inside-requires
-    write-u64-requires
+    (λ c κs. search needs)
+    (λ c κs. search needs)
     add-write-u64
-    write-u64-requires-2
-    same-length
+    (λ c κs. search needs)
+    (λ c. search needs)
     returns
     returns-2)

@@ -12,9 +12,6 @@ use borrow.Author.Needs.{needs}
 use Rattle.fragments.proofs.fits.Statement.{statement}
 use Rattle.fragments.proofs.fits.Tie as tie
 
-returns : tie.Need-returns
-returns c = search needs
-
 returns-2 : tie.Need-returns-2
 returns-2 c =
     let a = c .before .before .args in
@@ -33,4 +30,4 @@ returns-3 c =
     rw (c .before .if1 .left) (room (a .w) (a .n) (a .kept) (omega arith))
 
 pub fits-spec : {M : Type 1} → statement M
-fits-spec = tie.close (tie.spec returns returns-2 returns-3)
+fits-spec = tie.close (tie.spec (λ c. search needs) returns-2 returns-3)

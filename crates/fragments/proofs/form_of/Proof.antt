@@ -10,20 +10,11 @@ returns : tie.Need-returns
 unfolding formOf
 returns c = rw (lt-leb _ _ (c .if1 .taken))
 
-read-u32-requires : tie.Need-read-u32-requires
-read-u32-requires c κs = search needs
-
 returns-2 : tie.Need-returns-2
 unfolding formOf
 returns-2 c =
     let e = c .before .read-u32 .ensures in
     rw (le-leb _ _ (c .before .before .if1 .left), ne-eqb _ _ (λ z. c .if2 .taken (e ∙ z)))
-
-read-u32-requires-2 : tie.Need-read-u32-requires-2
-read-u32-requires-2 c κs = search needs
-
-is-plain-requires : tie.Need-is-plain-requires
-is-plain-requires c κs = search needs
 
 returns-3 : tie.Need-returns-3
 unfolding formOf
@@ -46,9 +37,9 @@ form-of-spec =
     tie.close
     (tie.spec
     returns
-    read-u32-requires
+    (λ c κs. search needs)
     returns-2
-    read-u32-requires-2
-    is-plain-requires
+    (λ c κs. search needs)
+    (λ c κs. search needs)
     returns-3
     returns-4)

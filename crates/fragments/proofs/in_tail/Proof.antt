@@ -9,12 +9,9 @@ returns : tie.Need-returns
 unfolding inTail
 returns c = rw (c .if1 .taken)
 
-fixed-size-requires : tie.Need-fixed-size-requires
-fixed-size-requires c κs = search needs
-
 returns-2 : tie.Need-returns-2
 unfolding inTail
 returns-2 c = rw (ne-eqb _ _ (c .before .if1 .left), c .fixed-size .ensures)
 
 pub in-tail-spec : {M : Type 1} → statement M
-in-tail-spec = tie.close (tie.spec returns fixed-size-requires returns-2)
+in-tail-spec = tie.close (tie.spec returns (λ c κs. search needs) returns-2)

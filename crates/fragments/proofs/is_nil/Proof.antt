@@ -7,11 +7,8 @@ use Rattle.fragments.proofs.is_nil.Tie as tie
 returns : tie.Need-returns
 returns c = rw (eq-eqb _ _ (c .if1 .taken))
 
-has-nil-requires : tie.Need-has-nil-requires
-has-nil-requires c κs = search needs
-
 returns-2 : tie.Need-returns-2
 returns-2 c = rw (ne-eqb _ _ (c .before .before .if1 .left)) (c .has-nil .ensures)
 
 pub is-nil-spec : {M : Type 1} → statement M
-is-nil-spec = tie.close (tie.spec returns has-nil-requires returns-2)
+is-nil-spec = tie.close (tie.spec returns (λ c κs. search needs) returns-2)

@@ -9,11 +9,8 @@ use Rattle.fragments.proofs.is_plain.Tie as tie
 returns : tie.Need-returns
 returns c = rw (c .if1 .taken)
 
-is-form-requires : tie.Need-is-form-requires
-is-form-requires c κs = search needs
-
 returns-2 : tie.Need-returns-2
 returns-2 c = c .is-form .ensures ∙ sym (plain-form (c .before .before .args .f) (ne-eqb _ _ (c .before .if1 .left)))
 
 pub is-plain-spec : {M : Type 1} → statement M
-is-plain-spec = tie.close (tie.spec returns is-form-requires returns-2)
+is-plain-spec = tie.close (tie.spec returns (λ c κs. search needs) returns-2)

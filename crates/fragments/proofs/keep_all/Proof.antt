@@ -10,26 +10,8 @@ use borrow.Author.Needs.{needs}
 use Rattle.fragments.proofs.keep_all.Statement.{statement}
 use Rattle.fragments.proofs.keep_all.Tie as tie
 
-sub-least : tie.Need-sub-least
-sub-least c = search needs
-
-least-requires : tie.Need-least-requires
-least-requires c κs = search needs
-
-sub-copy : tie.Need-sub-copy
-sub-copy c = search needs
-
-part-copy-start : tie.Need-part-copy-start
-part-copy-start c = search needs
-
 part-copy-end : tie.Need-part-copy-end
 part-copy-end c = let e = c .before .least .ensures in omega arith
-
-copy-requires : tie.Need-copy-requires
-copy-requires c κs = search needs
-
-same-length : tie.Need-same-length
-same-length c = search needs
 
 returns : tie.Need-returns
 returns c =
@@ -46,20 +28,17 @@ returns-2 c =
     let z : length w - a .kept ≡ 0 = omega arith in
     rw (c .before .if1 .taken, z) (sym (written-none w (a .kept)))
 
-returns-3 : tie.Need-returns-3
-returns-3 c = search needs
-
 pub keep-all-spec : {M : Type 1} → statement M
 keep-all-spec =
     tie.close
     (tie.spec
-    sub-least
-    least-requires
-    sub-copy
-    part-copy-start
+    (λ c. search needs)
+    (λ c κs. search needs)
+    (λ c. search needs)
+    (λ c. search needs)
     part-copy-end
-    copy-requires
-    same-length
+    (λ c κs. search needs)
+    (λ c. search needs)
     returns
     returns-2
-    returns-3)
+    (λ c. search needs))

@@ -11,12 +11,6 @@ returns c = rw (not-true (c .before .args .inside) (c .if1 .taken))
 returns-2 : tie.Need-returns-2
 returns-2 c = rw (not-false (c .before .before .args .inside) (c .before .if1 .left)) (omega arith)
 
-sub-if3 : tie.Need-sub-if3
-sub-if3 c = search needs
-
-add-result : tie.Need-add-result
-add-result c = search needs
-
 returns-3 : tie.Need-returns-3
 returns-3 c = rw (not-false (c .before .before .before .args .inside) (c .before .before .if1 .left)) (omega arith)
 
@@ -24,4 +18,4 @@ returns-4 : tie.Need-returns-4
 returns-4 c = rw (not-false (c .before .before .before .args .inside) (c .before .before .if1 .left)) (omega arith)
 
 pub kept-after-spec : {M : Type 1} → statement M
-kept-after-spec = tie.close (tie.spec returns returns-2 sub-if3 add-result returns-3 returns-4)
+kept-after-spec = tie.close (tie.spec returns returns-2 (λ c. search needs) (λ c. search needs) returns-3 returns-4)

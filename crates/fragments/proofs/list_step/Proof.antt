@@ -8,9 +8,6 @@ use borrow.Author.Needs.{needs}
 use Rattle.fragments.proofs.list_step.Statement.{statement}
 use Rattle.fragments.proofs.list_step.Tie as tie
 
-word-step-requires : tie.Need-word-step-requires
-word-step-requires c κs = search needs
-
 returns : tie.Need-returns
 unfolding listStep
 returns c =
@@ -19,9 +16,6 @@ returns c =
     let other : a .k ≡ a .v → ⊥ = λ z. omega arith in
     rw (lt-ltb _ _ below, ne-eqb _ _ other) (c .word-step .ensures)
 
-word-step-requires-2 : tie.Need-word-step-requires-2
-word-step-requires-2 c κs = search needs
-
 returns-2 : tie.Need-returns-2
 unfolding listStep
 returns-2 c =
@@ -29,18 +23,12 @@ returns-2 c =
     let above : a .v ≤ a .k = omega arith in
     rw (le-ltb _ _ above, ne-eqb _ _ (c .before .if2 .taken)) (c .word-step2 .ensures)
 
-word-step-requires-3 : tie.Need-word-step-requires-3
-word-step-requires-3 c κs = search needs
-
 returns-3 : tie.Need-returns-3
 unfolding listStep
 returns-3 c =
     let a = c .before .before .before .before .args in
     let above : a .v ≤ a .k = omega arith in
     rw (le-ltb _ _ above, eq-eqb _ _ (c .before .before .if2 .left), c .before .if3 .taken) (c .word-step3 .ensures)
-
-word-step-requires-4 : tie.Need-word-step-requires-4
-word-step-requires-4 c κs = search needs
 
 returns-4 : tie.Need-returns-4
 unfolding listStep
@@ -53,11 +41,11 @@ pub list-step-spec : {M : Type 1} → statement M
 list-step-spec =
     tie.close
     (tie.spec
-    word-step-requires
+    (λ c κs. search needs)
     returns
-    word-step-requires-2
+    (λ c κs. search needs)
     returns-2
-    word-step-requires-3
+    (λ c κs. search needs)
     returns-3
-    word-step-requires-4
+    (λ c κs. search needs)
     returns-4)

@@ -7,14 +7,8 @@ use Rattle.fragments.proofs.low_after.Tie as tie
 returns : tie.Need-returns
 returns c = rw (eq-eqb _ _ (c .if1 .taken))
 
-sub-result : tie.Need-sub-result
-sub-result c = search needs
-
-shared-slice-read-result : tie.Need-shared-slice-read-result
-shared-slice-read-result c = search needs
-
 returns-2 : tie.Need-returns-2
 returns-2 c = rw (ne-eqb _ _ (c .before .if1 .left))
 
 pub low-after-spec : {M : Type 1} → statement M
-low-after-spec = tie.close (tie.spec returns sub-result shared-slice-read-result returns-2)
+low-after-spec = tie.close (tie.spec returns (λ c. search needs) (λ c. search needs) returns-2)

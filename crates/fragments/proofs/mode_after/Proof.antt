@@ -24,27 +24,6 @@ abbrev μ-loop : tie.MeasureT-loop
 loop-holds : tie.Need-loop-holds Inv-loop μ-loop
 loop-holds c = (omega arith, omega arith, refl)
 
-sub-next-mode : tie.Need-sub-next-mode Inv-loop μ-loop
-sub-next-mode c = omega arith
-
-shared-slice-read-next-mode : tie.Need-shared-slice-read-next-mode Inv-loop μ-loop
-shared-slice-read-next-mode c = omega arith
-
-next-mode-requires : tie.Need-next-mode-requires Inv-loop μ-loop
-next-mode-requires c κs = search needs
-
-next-seen-requires : tie.Need-next-seen-requires Inv-loop μ-loop
-next-seen-requires c κs = search needs
-
-shared-slice-read-last : tie.Need-shared-slice-read-last Inv-loop μ-loop
-shared-slice-read-last c = omega arith
-
-add-i : tie.Need-add-i Inv-loop μ-loop
-add-i c = omega arith
-
-loop-less : tie.Need-loop-less Inv-loop μ-loop
-loop-less c = omega arith
-
 loop-again : tie.Need-loop-again Inv-loop μ-loop
 loop-again c =
     let a = c .before .before .before .before .before .before .before .args in
@@ -75,12 +54,12 @@ mode-after-spec =
     Inv-loop
     μ-loop
     loop-holds
-    sub-next-mode
-    shared-slice-read-next-mode
-    next-mode-requires
-    next-seen-requires
-    shared-slice-read-last
-    add-i
-    loop-less
+    (λ c. omega arith)
+    (λ c. omega arith)
+    (λ c κs. search needs)
+    (λ c κs. search needs)
+    (λ c. omega arith)
+    (λ c. omega arith)
+    (λ c. omega arith)
     loop-again
     returns)

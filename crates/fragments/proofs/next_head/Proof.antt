@@ -5,9 +5,6 @@ use borrow.Author.Needs.{needs}
 use Rattle.fragments.proofs.next_head.Statement.{statement}
 use Rattle.fragments.proofs.next_head.Tie as tie
 
-array-write-next : tie.Need-array-write-next
-array-write-next c = search needs
-
 returns : tie.Need-returns
 unfolding stepHead
 returns c = rw (lt-ltb _ _ (c .if1 .taken))
@@ -17,4 +14,4 @@ unfolding stepHead
 returns-2 c = rw (le-ltb _ _ (c .if1 .left))
 
 pub next-head-spec : {M : Type 1} → statement M
-next-head-spec = tie.close (tie.spec array-write-next returns returns-2)
+next-head-spec = tie.close (tie.spec (λ c. search needs) returns returns-2)

@@ -17,15 +17,6 @@ returns-3 : tie.Need-returns-3
 unfolding nextMode
 returns-3 c = rw (le-leb _ _ (c .before .before .if1 .left), eq-eqb _ _ (c .before .if2 .left), le-ltb _ _ (c .if3 .taken))
 
-mul-list-step : tie.Need-mul-list-step
-mul-list-step c = search needs
-
-add-list-step : tie.Need-add-list-step
-add-list-step c = search needs
-
-list-step-requires : tie.Need-list-step-requires
-list-step-requires c κs = search needs
-
 returns-4 : tie.Need-returns-4
 unfolding nextMode
 returns-4 c =
@@ -38,7 +29,7 @@ next-mode-spec =
     returns
     returns-2
     returns-3
-    mul-list-step
-    add-list-step
-    list-step-requires
+    (λ c. search needs)
+    (λ c. search needs)
+    (λ c κs. search needs)
     returns-4)

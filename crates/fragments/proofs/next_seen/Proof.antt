@@ -4,9 +4,6 @@ use borrow.Author.Needs.{needs}
 use Rattle.fragments.proofs.next_seen.Statement.{statement}
 use Rattle.fragments.proofs.next_seen.Tie as tie
 
-add-result : tie.Need-add-result
-add-result c = search needs
-
 returns : tie.Need-returns
 returns c = rw (lt-ltb _ _ (c .if1 .taken))
 
@@ -14,4 +11,4 @@ returns-2 : tie.Need-returns-2
 returns-2 c = rw (le-ltb _ _ (c .if1 .left))
 
 pub next-seen-spec : {M : Type 1} → statement M
-next-seen-spec = tie.close (tie.spec add-result returns returns-2)
+next-seen-spec = tie.close (tie.spec (λ c. search needs) returns returns-2)

@@ -7,9 +7,6 @@ use borrow.Author.Needs.{needs}
 use Rattle.fragments.proofs.over_after.Statement.{statement}
 use Rattle.fragments.proofs.over_after.Tie as tie
 
-returns : tie.Need-returns
-returns c = search needs
-
 returns-2 : tie.Need-returns-2
 returns-2 c = rw (c .before .if1 .left, not-true (c .before .before .args .inside) (c .if2 .taken))
 
@@ -19,11 +16,8 @@ returns-3 c =
     let z : a .size - a .kept ≡ 0 = omega arith in
     rw (c .before .before .if1 .left, not-false (c .before .before .before .args .inside) (c .before .if2 .left), z)
 
-sub-result : tie.Need-sub-result
-sub-result c = search needs
-
 returns-4 : tie.Need-returns-4
 returns-4 c = rw (c .before .before .if1 .left, not-false (c .before .before .before .args .inside) (c .before .if2 .left))
 
 pub over-after-spec : {M : Type 1} → statement M
-over-after-spec = tie.close (tie.spec returns returns-2 returns-3 sub-result returns-4)
+over-after-spec = tie.close (tie.spec (λ c. search needs) returns-2 returns-3 (λ c. search needs) returns-4)

@@ -18,20 +18,11 @@ returns : tie.Need-returns
 unfolding readEnd order
 returns c = simp (lt-ltb _ _ (c .if1 .taken))
 
-read-u32-requires : tie.Need-read-u32-requires
-read-u32-requires c κs = search needs
-
 returns-2 : tie.Need-returns-2
 unfolding readEnd order
 returns-2 c =
     let e = c .before .read-u32 .ensures in
     simp (le-ltb _ _ (c .before .before .if1 .left), ne-eqb _ _ (λ z. c .if2 .taken (e ∙ z)))
-
-read-u32-requires-2 : tie.Need-read-u32-requires-2
-read-u32-requires-2 c κs = search needs
-
-is-plain-requires : tie.Need-is-plain-requires
-is-plain-requires c κs = search needs
 
 signed : (c : tie.Else2) → field (c .before .before .before .before .args .head .now) 0 4 ≡ signature
 signed c = sym (c .before .read-u32 .ensures) ∙ c .if2 .left
@@ -41,9 +32,6 @@ unfolding readEnd order
 returns-3 c =
     let form : isPlain (field (c .before .before .before .before .before .before .before .args .head .now) 4 4) ≡ false = ap isPlain (sym (c .before .before .read-u322 .ensures)) ∙ sym (c .before .is-plain .ensures) ∙ not-true _ (c .if3 .taken) in
     simp (le-ltb _ _ (c .before .before .before .before .before .if1 .left), eq-eqb _ _ (signed (c .before .before .before)), form)
-
-fixed-size-requires : tie.Need-fixed-size-requires
-fixed-size-requires c κs = search needs
 
 form : (c : tie.Else3) → isPlain (field (c .before .before .before .before .before .before .before .args .head .now) 4 4) ≡ true
 form c = ap isPlain (sym (c .before .before .read-u322 .ensures)) ∙ sym (c .before .is-plain .ensures) ∙ not-false _ (c .if3 .left)
@@ -79,12 +67,12 @@ read-end-spec =
     tie.close
     (tie.spec
     returns
-    read-u32-requires
+    (λ c κs. search needs)
     returns-2
-    read-u32-requires-2
-    is-plain-requires
+    (λ c κs. search needs)
+    (λ c κs. search needs)
     returns-3
-    fixed-size-requires
+    (λ c κs. search needs)
     returns-4
     tail-end-requires
     returns-5)

@@ -9,9 +9,6 @@ use Rattle.fragments.proofs.tail_end.Tie as tie
 returns : tie.Need-returns
 returns c = rw (eq-eqb _ _ (c .if1 .taken))
 
-fixed-size-requires : tie.Need-fixed-size-requires
-fixed-size-requires c κs = search needs
-
 cast-list-end : tie.Need-cast-list-end
 cast-list-end c = let h = size-most (c .before .before .before .args .f) in let e = c .fixed-size .ensures in omega arith
 
@@ -27,4 +24,4 @@ returns-2 c = rw (ne-eqb _ _ (c .before .before .if1 .left)) (rw (c .before .fix
 pub tail-end-spec : {M : Type 1} → statement M
 tail-end-spec =
     tie.close
-    (tie.spec returns fixed-size-requires cast-list-end sub-list-end list-end-requires returns-2)
+    (tie.spec returns (λ c κs. search needs) cast-list-end sub-list-end list-end-requires returns-2)

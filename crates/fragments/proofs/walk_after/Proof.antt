@@ -12,17 +12,8 @@ returns c = rw (c .if1 .taken)
 returns-2 : tie.Need-returns-2
 returns-2 c = rw (c .if2 .taken)
 
-fixed-size-requires : tie.Need-fixed-size-requires
-fixed-size-requires c κs = search needs
-
-read-u16-requires : tie.Need-read-u16-requires
-read-u16-requires c κs = search needs
-
 add-read-u16 : tie.Need-add-read-u16
 add-read-u16 c = let h = size-most (c .before .before .before .before .before .before .args .form) in let e = c .before .fixed-size .ensures in omega arith
-
-read-u16-requires-2 : tie.Need-read-u16-requires-2
-read-u16-requires-2 c κs = search needs
 
 cast-mode-after : tie.Need-cast-mode-after
 cast-mode-after c = let h = size-most (c .before .before .before .before .before .before .before .args .form) in let e = c .before .before .fixed-size .ensures in omega arith
@@ -41,10 +32,10 @@ walk-after-spec =
     (tie.spec
     returns
     returns-2
-    fixed-size-requires
-    read-u16-requires
+    (λ c κs. search needs)
+    (λ c κs. search needs)
     add-read-u16
-    read-u16-requires-2
+    (λ c κs. search needs)
     cast-mode-after
     mode-after-requires
     returns-3)

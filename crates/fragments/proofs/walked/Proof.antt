@@ -12,9 +12,6 @@ use borrow.Author.Needs.{needs}
 use Rattle.fragments.proofs.walked.Statement.{statement}
 use Rattle.fragments.proofs.walked.Tie as tie
 
-in-tail-requires : tie.Need-in-tail-requires
-in-tail-requires c κs = search needs
-
 returns : tie.Need-returns
 returns c = simp (sym (c .before .in-tail .ensures) ∙ not-true _ (c .if1 .taken))
 
@@ -24,17 +21,8 @@ inner c = sym (c .before .in-tail .ensures) ∙ not-false _ (c .if1 .left)
 returns-2 : tie.Need-returns-2
 returns-2 c = rw (inner (c .before), eq-eqb _ _ (c .if2 .taken))
 
-fixed-size-requires : tie.Need-fixed-size-requires
-fixed-size-requires c κs = search needs
-
-read-u16-requires : tie.Need-read-u16-requires
-read-u16-requires c κs = search needs
-
 add-read-u16 : tie.Need-add-read-u16
 add-read-u16 c = let h = size-most (c .before .before .before .before .before .before .args .form) in let e = c .before .fixed-size .ensures in omega arith
-
-read-u16-requires-2 : tie.Need-read-u16-requires-2
-read-u16-requires-2 c κs = search needs
 
 cast-next-mode : tie.Need-cast-next-mode
 cast-next-mode c = let h = size-most (c .before .before .before .before .before .before .before .args .form) in let e = c .before .before .fixed-size .ensures in omega arith
@@ -46,9 +34,6 @@ sub-next-mode c =
     let h : fixedSize (a .form) ≤ a .seen = leb-true _ _ (and-eq-true-iff (not (eqb (a .form) 0)) (leb (fixedSize (a .form)) (a .seen)) .0 (inner (c .before .before .before .before)) .1) in
     rw (c .before .before .fixed-size .ensures) h
 
-next-mode-requires : tie.Need-next-mode-requires
-next-mode-requires c κs = search needs
-
 returns-3 : tie.Need-returns-3
 returns-3 c =
     simp (inner (c .before .before .before .before .before), ne-eqb _ _ (c .before .before .before .before .if2 .left))
@@ -58,14 +43,14 @@ pub walked-spec : {M : Type 1} → statement M
 walked-spec =
     tie.close
     (tie.spec
-    in-tail-requires
+    (λ c κs. search needs)
     returns
     returns-2
-    fixed-size-requires
-    read-u16-requires
+    (λ c κs. search needs)
+    (λ c κs. search needs)
     add-read-u16
-    read-u16-requires-2
+    (λ c κs. search needs)
     cast-next-mode
     sub-next-mode
-    next-mode-requires
+    (λ c κs. search needs)
     returns-3)

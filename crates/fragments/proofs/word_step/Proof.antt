@@ -9,15 +9,9 @@ returns : tie.Need-returns
 unfolding wordStep
 returns c = simp (c .before .if1 .taken, c .if2 .taken)
 
-enum-told : tie.Need-enum-told
-enum-told c = search needs
-
 returns-2 : tie.Need-returns-2
 unfolding wordStep
 returns-2 c = simp (c .before .before .before .if1 .taken, ne-eqb _ _ (c .before .before .if2 .left), c .enum-told .given .1)
-
-enum-told-2 : tie.Need-enum-told-2
-enum-told-2 c = search needs
 
 returns-3 : tie.Need-returns-3
 unfolding wordStep
@@ -44,9 +38,9 @@ word-step-spec =
     tie.close
     (tie.spec
     returns
-    enum-told
+    (λ c. search needs)
     returns-2
-    enum-told-2
+    (λ c. search needs)
     returns-3
     returns-4
     returns-5

@@ -10,15 +10,6 @@ use borrow.Author.Needs.{needs}
 use Rattle.judge.proofs.exporters_sound.Statement.{statement}
 use Rattle.judge.proofs.exporters_sound.Tie as tie
 
-exporter-count-requires : tie.Need-exporter-count-requires
-exporter-count-requires c κs = search needs
-
-column-requires : tie.Need-column-requires
-column-requires c κs = search needs
-
-are-proper-requires : tie.Need-are-proper-requires
-are-proper-requires c κs = search needs
-
 -- the first outcome is a clause
 proper-judged : (c : tie.After-are-proper) → c .are-proper .result ≡ proper (oxids (view (memory (c .before .before .before .before .before .args .words .now) (c .before .before .before .before .before .args .store .now))))
 proper-judged c =
@@ -27,9 +18,6 @@ proper-judged c =
 
 returns : tie.Need-returns
 returns c = judged-fails _ refl (proper-judged (c .before)) (c .if1 .taken)
-
-lists-kept-requires : tie.Need-lists-kept-requires
-lists-kept-requires c κs = search needs
 
 returns-2 : tie.Need-returns-2
 returns-2 c =
@@ -42,9 +30,9 @@ pub exporters-sound-spec : {M : Type 1} → statement M
 exporters-sound-spec =
     tie.close
     (tie.spec
-    exporter-count-requires
-    column-requires
-    are-proper-requires
+    (λ c κs. search needs)
+    (λ c κs. search needs)
+    (λ c κs. search needs)
     returns
-    lists-kept-requires
+    (λ c κs. search needs)
     returns-2)

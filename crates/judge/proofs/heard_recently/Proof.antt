@@ -15,12 +15,6 @@ Inv-loop words n clock i₀ i = (n ≤ objectCount words) × (everyRow n (heardR
 abbrev μ-loop : tie.MeasureT-loop
 μ-loop words n clock i₀ i = n - i
 
-object-count-requires : tie.Need-object-count-requires Inv-loop μ-loop
-object-count-requires c κs = search needs
-
-shared-slice-read-clock : tie.Need-shared-slice-read-clock Inv-loop μ-loop
-shared-slice-read-clock c = search needs
-
 loop-holds : tie.Need-loop-holds Inv-loop μ-loop
 loop-holds c = let e = c .before .object-count .ensures .0 in (omega arith, refl)
 
@@ -33,12 +27,6 @@ returns c =
     λ s.
     check-fails _ _ (l .i) (l .inv .1) (search needs) (c .before .is-heard-within .ensures) (c .if1 .taken)
     ∙ heard-rows (c .before .before .before .before .before .before .before .args .words .now) s _ (c .before .before .before .before .before .object-count .ensures .0)
-
-add-i : tie.Need-add-i Inv-loop μ-loop
-add-i c = search needs
-
-loop-less : tie.Need-loop-less Inv-loop μ-loop
-loop-less c = search needs
 
 loop-again : tie.Need-loop-again Inv-loop μ-loop
 loop-again c =
@@ -58,12 +46,12 @@ heard-recently-spec =
     (tie.spec
     Inv-loop
     μ-loop
-    object-count-requires
-    shared-slice-read-clock
+    (λ c κs. search needs)
+    (λ c. search needs)
     loop-holds
     is-heard-within-requires
     returns
-    add-i
-    loop-less
+    (λ c. search needs)
+    (λ c. search needs)
     loop-again
     returns-2)

@@ -15,9 +15,6 @@ Inv-loop words n i₀ i = (n ≤ interfaceCount words) × (everyRow n (heldRow w
 abbrev μ-loop : tie.MeasureT-loop
 μ-loop words n i₀ i = n - i
 
-interface-count-requires : tie.Need-interface-count-requires Inv-loop μ-loop
-interface-count-requires c κs = search needs
-
 loop-holds : tie.Need-loop-holds Inv-loop μ-loop
 loop-holds c = let e = c .interface-count .ensures .0 in (omega arith, refl)
 
@@ -30,12 +27,6 @@ returns c =
     λ s.
     check-fails _ _ (l .i) (l .inv .1) (search needs) (c .before .is-held .ensures) (c .if1 .taken)
     ∙ held-rows (c .before .before .before .before .before .before .args .words .now) s _ (c .before .before .before .before .interface-count .ensures .0)
-
-add-i : tie.Need-add-i Inv-loop μ-loop
-add-i c = search needs
-
-loop-less : tie.Need-loop-less Inv-loop μ-loop
-loop-less c = search needs
 
 loop-again : tie.Need-loop-again Inv-loop μ-loop
 loop-again c =
@@ -52,4 +43,4 @@ returns-2 c =
 pub interfaces-held-spec : {M : Type 1} → statement M
 interfaces-held-spec =
     tie.close
-    (tie.spec Inv-loop μ-loop interface-count-requires loop-holds is-held-requires returns add-i loop-less loop-again returns-2)
+    (tie.spec Inv-loop μ-loop (λ c κs. search needs) loop-holds is-held-requires returns (λ c. search needs) (λ c. search needs) loop-again returns-2)

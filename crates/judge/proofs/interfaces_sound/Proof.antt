@@ -13,21 +13,6 @@ use borrow.Author.Needs.{needs}
 use Rattle.judge.proofs.interfaces_sound.Statement.{statement}
 use Rattle.judge.proofs.interfaces_sound.Tie as tie
 
-object-count-requires : tie.Need-object-count-requires
-object-count-requires c κs = search needs
-
-interface-count-requires : tie.Need-interface-count-requires
-interface-count-requires c κs = search needs
-
-column-requires : tie.Need-column-requires
-column-requires c κs = search needs
-
-column-requires-2 : tie.Need-column-requires-2
-column-requires-2 c κs = search needs
-
-ipids-proper-requires : tie.Need-ipids-proper-requires
-ipids-proper-requires c κs = search needs
-
 -- the live entries, with any store
 abbrev At : tie.After-column2 → List ℕ → Entries
 At c s = view (memory (c .before .before .before .before .before .args .words .now) s)
@@ -55,14 +40,8 @@ left-2 c s = judged-passes _ (left-1 (c .before .before) s) (objects-judged (c .
 returns : tie.Need-returns
 returns c = λ s. judged-fails _ refl (c .before .ipids-proper .ensures s) (c .if1 .taken)
 
-all-in-requires : tie.Need-all-in-requires
-all-in-requires c κs = search needs
-
 returns-2 : tie.Need-returns-2
 returns-2 c = λ s. judged-fails _ (left-1 (c .before .before) s) (objects-judged (c .before) s) (c .if2 .taken)
-
-interfaces-held-requires : tie.Need-interfaces-held-requires
-interfaces-held-requires c κs = search needs
 
 returns-3 : tie.Need-returns-3
 returns-3 c = λ s. judged-last (left-2 (c .before) s) (c .interfaces-held .ensures s)
@@ -71,13 +50,13 @@ pub interfaces-sound-spec : {M : Type 1} → statement M
 interfaces-sound-spec =
     tie.close
     (tie.spec
-    object-count-requires
-    interface-count-requires
-    column-requires
-    column-requires-2
-    ipids-proper-requires
+    (λ c κs. search needs)
+    (λ c κs. search needs)
+    (λ c κs. search needs)
+    (λ c κs. search needs)
+    (λ c κs. search needs)
     returns
-    all-in-requires
+    (λ c κs. search needs)
     returns-2
-    interfaces-held-requires
+    (λ c κs. search needs)
     returns-3)

@@ -17,27 +17,6 @@ use borrow.Author.Needs.{needs}
 use Rattle.judge.proofs.ipids_proper.Statement.{statement}
 use Rattle.judge.proofs.ipids_proper.Tie as tie
 
-exporter-count-requires : tie.Need-exporter-count-requires
-exporter-count-requires c κs = search needs
-
-interface-count-requires : tie.Need-interface-count-requires
-interface-count-requires c κs = search needs
-
-column-requires : tie.Need-column-requires
-column-requires c κs = search needs
-
-column-requires-2 : tie.Need-column-requires-2
-column-requires-2 c κs = search needs
-
-column-requires-3 : tie.Need-column-requires-3
-column-requires-3 c κs = search needs
-
-column-requires-4 : tie.Need-column-requires-4
-column-requires-4 c κs = search needs
-
-guids-not-nil-requires : tie.Need-guids-not-nil-requires
-guids-not-nil-requires c κs = search needs
-
 -- the live entries, with any store
 abbrev At : tie.After-column4 → List ℕ → Entries
 At c s = view (memory (c .before .before .before .before .before .before .before .args .words .now) s)
@@ -91,26 +70,14 @@ left-4 c s = judged-passes _ (left-3 (c .before .before) s) (ipids-distinct (c .
 returns : tie.Need-returns
 returns c = λ s. judged-fails _ (pair-proper (unknowns (c .before .before) s) (interfaceIpids (At (c .before .before) s))) (unknowns-not-nil (c .before) s) (c .if1 .taken)
 
-guids-not-nil-requires-2 : tie.Need-guids-not-nil-requires-2
-guids-not-nil-requires-2 c κs = search needs
-
 returns-2 : tie.Need-returns-2
 returns-2 c = λ s. judged-fails _ (left-1 (c .before .before) s) (ipids-not-nil (c .before) s) (c .if2 .taken)
-
-guids-distinct-requires : tie.Need-guids-distinct-requires
-guids-distinct-requires c κs = search needs
 
 returns-3 : tie.Need-returns-3
 returns-3 c = λ s. judged-fails _ (left-2 (c .before .before) s) (unknowns-distinct (c .before) s) (c .if3 .taken)
 
-guids-distinct-requires-2 : tie.Need-guids-distinct-requires-2
-guids-distinct-requires-2 c κs = search needs
-
 returns-4 : tie.Need-returns-4
 returns-4 c = λ s. judged-fails _ (left-3 (c .before .before) s) (ipids-distinct (c .before) s) (c .if4 .taken)
-
-guids-apart-requires : tie.Need-guids-apart-requires
-guids-apart-requires c κs = search needs
 
 returns-5 : tie.Need-returns-5
 returns-5 c = λ s. judged-last (left-4 (c .before) s) (both-apart c s)
@@ -119,19 +86,19 @@ pub ipids-proper-spec : {M : Type 1} → statement M
 ipids-proper-spec =
     tie.close
     (tie.spec
-    exporter-count-requires
-    interface-count-requires
-    column-requires
-    column-requires-2
-    column-requires-3
-    column-requires-4
-    guids-not-nil-requires
+    (λ c κs. search needs)
+    (λ c κs. search needs)
+    (λ c κs. search needs)
+    (λ c κs. search needs)
+    (λ c κs. search needs)
+    (λ c κs. search needs)
+    (λ c κs. search needs)
     returns
-    guids-not-nil-requires-2
+    (λ c κs. search needs)
     returns-2
-    guids-distinct-requires
+    (λ c κs. search needs)
     returns-3
-    guids-distinct-requires-2
+    (λ c κs. search needs)
     returns-4
-    guids-apart-requires
+    (λ c κs. search needs)
     returns-5)

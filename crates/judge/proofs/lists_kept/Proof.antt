@@ -37,23 +37,8 @@ Inv-loop words store n at₀ k₀ at k = (n ≤ exporterPlaces) × (everyRow n (
 abbrev μ-loop : tie.MeasureT-loop
 μ-loop words store n at₀ k₀ at k = n - k
 
-exporter-count-requires : tie.Need-exporter-count-requires Inv-loop μ-loop
-exporter-count-requires c κs = search needs
-
 loop-holds : tie.Need-loop-holds Inv-loop μ-loop
 loop-holds c = (search needs, refl, sym (start-first _), search needs)
-
-sub-front-answer : tie.Need-sub-front-answer Inv-loop μ-loop
-sub-front-answer c = search needs
-
-part-front-answer-start : tie.Need-part-front-answer-start Inv-loop μ-loop
-part-front-answer-start c = search needs
-
-part-front-answer-end : tie.Need-part-front-answer-end Inv-loop μ-loop
-part-front-answer-end c = search needs
-
-front-answer-requires : tie.Need-front-answer-requires Inv-loop μ-loop
-front-answer-requires c κs = search needs
 
 -- the bytes from list k on are lent
 answer : (c : tie.After-front-answer Inv-loop μ-loop) → c .front-answer .result ≡ frontAnswer (listFrom (c .before .before .before .before .before .before .before .args .store .now) (c .before .before .before .loop .k))
@@ -69,18 +54,6 @@ returns c =
     let e = answer (c .before) in
     check-fails _ _ (l .k) (l .inv .1) (search needs) (bad-answer (start .args .store .now) (l .k) (λ z. c .if1 .taken (e ∙ z))) refl
     ∙ kept-rows (start .args .words .now) (start .args .store .now) _ (c .before .before .before .before .before .exporter-count .ensures .0)
-
-sub-stated-length : tie.Need-sub-stated-length Inv-loop μ-loop
-sub-stated-length c = search needs
-
-part-stated-length-start : tie.Need-part-stated-length-start Inv-loop μ-loop
-part-stated-length-start c = search needs
-
-part-stated-length-end : tie.Need-part-stated-length-end Inv-loop μ-loop
-part-stated-length-end c = search needs
-
-stated-length-requires : tie.Need-stated-length-requires Inv-loop μ-loop
-stated-length-requires c κs = search needs
 
 size : (c : tie.After-stated-length Inv-loop μ-loop) → c .stated-length .result ≡ listLength (listFrom (c .before .before .before .before .before .before .before .before .before .before .args .store .now) (c .before .before .before .before .before .before .loop .k))
 size c =
@@ -110,12 +83,6 @@ returns-2 c =
 add-at : tie.Need-add-at Inv-loop μ-loop
 add-at c = let h = ends (c .before) in omega arith
 
-add-k : tie.Need-add-k Inv-loop μ-loop
-add-k c = search needs
-
-loop-less : tie.Need-loop-less Inv-loop μ-loop
-loop-less c = search needs
-
 loop-again : tie.Need-loop-again Inv-loop μ-loop
 loop-again c =
     let l = c .before .before .before .before .before .before .before .loop in
@@ -141,20 +108,20 @@ lists-kept-spec =
     (tie.spec
     Inv-loop
     μ-loop
-    exporter-count-requires
+    (λ c κs. search needs)
     loop-holds
-    sub-front-answer
-    part-front-answer-start
-    part-front-answer-end
-    front-answer-requires
+    (λ c. search needs)
+    (λ c. search needs)
+    (λ c. search needs)
+    (λ c κs. search needs)
     returns
-    sub-stated-length
-    part-stated-length-start
-    part-stated-length-end
-    stated-length-requires
+    (λ c. search needs)
+    (λ c. search needs)
+    (λ c. search needs)
+    (λ c κs. search needs)
     returns-2
     add-at
-    add-k
-    loop-less
+    (λ c. search needs)
+    (λ c. search needs)
     loop-again
     returns-3)

@@ -16,20 +16,11 @@ Inv-loop words n objects i₀ i = (n ≤ setCount words) × (everyRow n (belowRo
 abbrev μ-loop : tie.MeasureT-loop
 μ-loop words n objects i₀ i = n - i
 
-set-count-requires : tie.Need-set-count-requires Inv-loop μ-loop
-set-count-requires c κs = search needs
-
-object-count-requires : tie.Need-object-count-requires Inv-loop μ-loop
-object-count-requires c κs = search needs
-
 loop-holds : tie.Need-loop-holds Inv-loop μ-loop
 loop-holds c = let e = c .before .set-count .ensures .0 in (omega arith, refl)
 
 members-requires : tie.Need-members-requires Inv-loop μ-loop
 members-requires c κs = let l = c .before .loop .inv .0 in (search needs, omega arith)
-
-below-requires : tie.Need-below-requires Inv-loop μ-loop
-below-requires c κs = search needs
 
 returns : tie.Need-returns Inv-loop μ-loop
 returns c =
@@ -37,12 +28,6 @@ returns c =
     λ s.
     check-fails _ _ (l .i) (l .inv .1) (search needs) (rw (c .before .before .members .ensures) at (c .before .below .ensures)) (c .if1 .taken)
     ∙ members-rows (c .before .before .before .before .before .before .before .before .args .words .now) s _ _ (c .before .before .before .before .before .before .set-count .ensures .0) (c .before .before .before .before .before .object-count .ensures .0) (and-left _ _ (c .before .before .before .before .before .before .before .before .pre .1))
-
-add-i : tie.Need-add-i Inv-loop μ-loop
-add-i c = search needs
-
-loop-less : tie.Need-loop-less Inv-loop μ-loop
-loop-less c = search needs
 
 loop-again : tie.Need-loop-again Inv-loop μ-loop
 loop-again c =
@@ -62,13 +47,13 @@ members-live-spec =
     (tie.spec
     Inv-loop
     μ-loop
-    set-count-requires
-    object-count-requires
+    (λ c κs. search needs)
+    (λ c κs. search needs)
     loop-holds
     members-requires
-    below-requires
+    (λ c κs. search needs)
     returns
-    add-i
-    loop-less
+    (λ c. search needs)
+    (λ c. search needs)
     loop-again
     returns-2)

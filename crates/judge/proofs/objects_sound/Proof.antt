@@ -15,36 +15,6 @@ use borrow.Author.Needs.{needs}
 use Rattle.judge.proofs.objects_sound.Statement.{statement}
 use Rattle.judge.proofs.objects_sound.Tie as tie
 
-exporter-count-requires : tie.Need-exporter-count-requires
-exporter-count-requires c κs = search needs
-
-object-count-requires : tie.Need-object-count-requires
-object-count-requires c κs = search needs
-
-interface-count-requires : tie.Need-interface-count-requires
-interface-count-requires c κs = search needs
-
-column-requires : tie.Need-column-requires
-column-requires c κs = search needs
-
-column-requires-2 : tie.Need-column-requires-2
-column-requires-2 c κs = search needs
-
-column-requires-3 : tie.Need-column-requires-3
-column-requires-3 c κs = search needs
-
-column-requires-4 : tie.Need-column-requires-4
-column-requires-4 c κs = search needs
-
-column-requires-5 : tie.Need-column-requires-5
-column-requires-5 c κs = search needs
-
-shared-slice-read-clock : tie.Need-shared-slice-read-clock
-shared-slice-read-clock c = search needs
-
-are-proper-requires : tie.Need-are-proper-requires
-are-proper-requires c κs = search needs
-
 -- the live entries, with any store
 abbrev At : tie.After-column5 → List ℕ → Entries
 At c s = view (memory (c .before .before .before .before .before .before .before .before .before .args .words .now) s)
@@ -101,26 +71,14 @@ left-4 c s = judged-passes _ (left-3 (c .before .before) s) (heard-judged (c .be
 returns : tie.Need-returns
 returns c = λ s. judged-fails _ refl (proper-judged (c .before) s) (c .if1 .taken)
 
-all-in-requires : tie.Need-all-in-requires
-all-in-requires c κs = search needs
-
 returns-2 : tie.Need-returns-2
 returns-2 c = λ s. judged-fails _ (left-1 (c .before .before) s) (exporters-judged (c .before) s) (c .if2 .taken)
-
-all-in-requires-2 : tie.Need-all-in-requires-2
-all-in-requires-2 c κs = search needs
 
 returns-3 : tie.Need-returns-3
 returns-3 c = λ s. judged-fails _ (left-2 (c .before .before) s) (interfaces-judged (c .before) s) (c .if3 .taken)
 
-all-at-most-requires : tie.Need-all-at-most-requires
-all-at-most-requires c κs = search needs
-
 returns-4 : tie.Need-returns-4
 returns-4 c = λ s. judged-fails _ (left-3 (c .before .before) s) (heard-judged (c .before) s) (c .if4 .taken)
-
-heard-recently-requires : tie.Need-heard-recently-requires
-heard-recently-requires c κs = search needs
 
 returns-5 : tie.Need-returns-5
 returns-5 c = λ s. judged-last (left-4 (c .before) s) (c .heard-recently .ensures s)
@@ -129,22 +87,22 @@ pub objects-sound-spec : {M : Type 1} → statement M
 objects-sound-spec =
     tie.close
     (tie.spec
-    exporter-count-requires
-    object-count-requires
-    interface-count-requires
-    column-requires
-    column-requires-2
-    column-requires-3
-    column-requires-4
-    column-requires-5
-    shared-slice-read-clock
-    are-proper-requires
+    (λ c κs. search needs)
+    (λ c κs. search needs)
+    (λ c κs. search needs)
+    (λ c κs. search needs)
+    (λ c κs. search needs)
+    (λ c κs. search needs)
+    (λ c κs. search needs)
+    (λ c κs. search needs)
+    (λ c. search needs)
+    (λ c κs. search needs)
     returns
-    all-in-requires
+    (λ c κs. search needs)
     returns-2
-    all-in-requires-2
+    (λ c κs. search needs)
     returns-3
-    all-at-most-requires
+    (λ c κs. search needs)
     returns-4
-    heard-recently-requires
+    (λ c κs. search needs)
     returns-5)

@@ -17,24 +17,6 @@ use borrow.Author.Needs.{needs}
 use Rattle.judge.proofs.sets_sound.Statement.{statement}
 use Rattle.judge.proofs.sets_sound.Tie as tie
 
-set-count-requires : tie.Need-set-count-requires
-set-count-requires c κs = search needs
-
-shared-slice-read-clock : tie.Need-shared-slice-read-clock
-shared-slice-read-clock c = search needs
-
-shared-slice-read-next : tie.Need-shared-slice-read-next
-shared-slice-read-next c = search needs
-
-column-requires : tie.Need-column-requires
-column-requires c κs = search needs
-
-column-requires-2 : tie.Need-column-requires-2
-column-requires-2 c κs = search needs
-
-are-proper-requires : tie.Need-are-proper-requires
-are-proper-requires c κs = search needs
-
 -- the live entries, with any store
 abbrev At : tie.After-column2 → List ℕ → Entries
 At c s = view (memory (c .before .before .before .before .before .before .args .words .now) s)
@@ -81,29 +63,17 @@ left-5 c s = holding-passes _ _ (left-4 (c .before) s) (ap not (ne-eqb _ 0 (c .i
 returns : tie.Need-returns
 returns c = λ s. judged-fails _ refl (proper-judged (c .before) s) (c .if1 .taken)
 
-all-at-most-requires : tie.Need-all-at-most-requires
-all-at-most-requires c κs = search needs
-
 returns-2 : tie.Need-returns-2
 returns-2 c = λ s. judged-fails _ (left-1 (c .before .before) s) (before-judged (c .before) s) (c .if2 .taken)
 
-all-within-requires : tie.Need-all-within-requires
-all-within-requires c κs = search needs
-
 returns-3 : tie.Need-returns-3
 returns-3 c = λ s. judged-fails _ (left-2 (c .before .before) s) (recent-judged (c .before) s) (c .if3 .taken)
-
-all-below-requires : tie.Need-all-below-requires
-all-below-requires c κs = search needs
 
 returns-4 : tie.Need-returns-4
 returns-4 c = λ s. judged-fails _ (left-3 (c .before .before) s) (below-judged (c .before) s) (c .if4 .taken)
 
 returns-5 : tie.Need-returns-5
 returns-5 c = λ s. holding-fails _ _ (left-4 (c .before) s) (ap not (eq-eqb _ 0 (c .if5 .taken)))
-
-members-live-requires : tie.Need-members-live-requires
-members-live-requires c κs = search needs
 
 returns-6 : tie.Need-returns-6
 returns-6 c = λ s. judged-last (left-5 (c .before) s) (c .members-live .ensures s)
@@ -112,19 +82,19 @@ pub sets-sound-spec : {M : Type 1} → statement M
 sets-sound-spec =
     tie.close
     (tie.spec
-    set-count-requires
-    shared-slice-read-clock
-    shared-slice-read-next
-    column-requires
-    column-requires-2
-    are-proper-requires
+    (λ c κs. search needs)
+    (λ c. search needs)
+    (λ c. search needs)
+    (λ c κs. search needs)
+    (λ c κs. search needs)
+    (λ c κs. search needs)
     returns
-    all-at-most-requires
+    (λ c κs. search needs)
     returns-2
-    all-within-requires
+    (λ c κs. search needs)
     returns-3
-    all-below-requires
+    (λ c κs. search needs)
     returns-4
     returns-5
-    members-live-requires
+    (λ c κs. search needs)
     returns-6)

@@ -50,20 +50,11 @@ returns c = holding-fails _ _ (all-left (c .before .before .before)) (ne-eqb _ 8
 returns-2 : tie.Need-returns-2
 returns-2 c = holding-fails _ _ (left-1 (c .before)) (ne-eqb _ 8192 (c .if2 .taken))
 
-exporters-sound-requires : tie.Need-exporters-sound-requires
-exporters-sound-requires c κs = search needs
-
 returns-3 : tie.Need-returns-3
 returns-3 c = judged-fails _ (left-2 (c .before .before)) (c .before .exporters-sound .ensures) (c .if3 .taken)
 
-objects-sound-requires : tie.Need-objects-sound-requires
-objects-sound-requires c κs = search needs
-
 returns-4 : tie.Need-returns-4
 returns-4 c = judged-fails _ (left-3 (c .before .before)) (c .before .objects-sound .ensures (c .before .before .before .before .before .before .before .before .args .store .now)) (c .if4 .taken)
-
-interfaces-sound-requires : tie.Need-interfaces-sound-requires
-interfaces-sound-requires c κs = search needs
 
 returns-5 : tie.Need-returns-5
 returns-5 c = judged-fails _ (left-4 (c .before .before)) (c .before .interfaces-sound .ensures (c .before .before .before .before .before .before .before .before .before .before .args .store .now)) (c .if5 .taken)
@@ -80,11 +71,11 @@ sound-spec =
     (tie.spec
     returns
     returns-2
-    exporters-sound-requires
+    (λ c κs. search needs)
     returns-3
-    objects-sound-requires
+    (λ c κs. search needs)
     returns-4
-    interfaces-sound-requires
+    (λ c κs. search needs)
     returns-5
     sets-sound-requires
     returns-6)

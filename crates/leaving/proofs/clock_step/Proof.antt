@@ -11,12 +11,6 @@ use Rattle.leaving.proofs.clock_step.Tie as tie
 clock-requires : tie.Need-clock-requires
 clock-requires c κs = c .before .before .before .pre .words
 
-refused-requires : tie.Need-refused-requires
-refused-requires c κs = search needs
-
-same-length : tie.Need-same-length
-same-length c = search needs
-
 returns : tie.Need-returns
 returns c =
     let a = c .before .before .before .before .before .before .args in
@@ -77,9 +71,6 @@ sub-t36 c =
     let f = fewer-sets (a .words .now) (a .store .now) (a .time) (b .before .before .before .before .before .before .before .before .before .before .before .before .before .before .before .before .before .before .before .before .before .pre) _ _ (b .before .before .before .before .before .before .before .before .drop-sets .ensures) (b .before .before .before .before .set-clock .ensures) _ (b .remove-leaving .ensures) in
     omega (arith, c .set-count2 .ensures .0, b .before .before .before .before .before .before .before .before .before .before .set-count .ensures .0)
 
-same-length-2 : tie.Need-same-length-2
-same-length-2 c = search needs
-
 returns-2 : tie.Need-returns-2
 returns-2 c =
     let b = c .before .before .before .before .before .before .before .before in
@@ -96,8 +87,8 @@ clock-step-spec =
     tie.close
     (tie.spec
     clock-requires
-    refused-requires
-    same-length
+    (λ c κs. search needs)
+    (λ c. search needs)
     returns
     object-count-requires
     interface-count-requires
@@ -111,5 +102,5 @@ clock-step-spec =
     sub-t32
     set-count-requires-2
     sub-t36
-    same-length-2
+    (λ c. search needs)
     returns-2)

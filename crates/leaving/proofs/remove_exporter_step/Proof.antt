@@ -16,9 +16,6 @@ exporter-row-requires c κs = c .before .before .before .pre .words
 exporter-count-requires : tie.Need-exporter-count-requires
 exporter-count-requires c κs = c .before .before .before .before .before .pre .words
 
-same-length : tie.Need-same-length
-same-length c = search needs
-
 returns : tie.Need-returns
 returns c =
     let a = c .before .before .before .before .before .before .before .args in
@@ -43,12 +40,6 @@ remove-exporter-requires c κs =
     let e = list-starts (a .words .now) (a .store .now) (sound-fields _ (t .entries) .listsKept) (exporterCount (a .words .now)) (omega arith) in
     (search needs, b, omega arith, rw n (omega arith))
 
-same-length-2 : tie.Need-same-length-2
-same-length-2 c = search needs
-
-same-length-3 : tie.Need-same-length-3
-same-length-3 c = search needs
-
 returns-2 : tie.Need-returns-2
 returns-2 c =
     let a = c .before .before .before .before .before .before .before .before .before .before .before .before .before .before .before .before .before .before .args in
@@ -64,10 +55,10 @@ remove-exporter-step-spec =
     (tie.spec
     exporter-row-requires
     exporter-count-requires
-    same-length
+    (λ c. search needs)
     returns
     remove-leaving-requires
     remove-exporter-requires
-    same-length-2
-    same-length-3
+    (λ c. search needs)
+    (λ c. search needs)
     returns-2)

@@ -50,12 +50,6 @@ cast-buffer c = let b = c .before .before .item-step .ensures .byte in search ne
 slice-write-buffer : tie.Need-slice-write-buffer Inv-loop μ-loop
 slice-write-buffer c = let z = c .before .before .before .before .before .loop .inv .listed .size in omega arith
 
-add-k : tie.Need-add-k Inv-loop μ-loop
-add-k c = search needs
-
-loop-less : tie.Need-loop-less Inv-loop μ-loop
-loop-less c = omega arith
-
 loop-again : tie.Need-loop-again Inv-loop μ-loop
 loop-again c =
     let a = c .before .before .before .before .before .before .before .before .before .before .before .before .before .before .args in
@@ -91,8 +85,8 @@ list-step-spec =
     item-step-requires
     cast-buffer
     slice-write-buffer
-    add-k
-    loop-less
+    (λ c. search needs)
+    (λ c. omega arith)
     loop-again
     same-length
     same-length-2

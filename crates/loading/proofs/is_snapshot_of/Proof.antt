@@ -12,12 +12,6 @@ use borrow.Author.Needs.{needs}
 use Rattle.loading.proofs.is_snapshot_of.Statement.{statement}
 use Rattle.loading.proofs.is_snapshot_of.Tie as tie
 
-slice-aggregate-write-snapshot-step : tie.Need-slice-aggregate-write-snapshot-step
-slice-aggregate-write-snapshot-step c = search needs
-
-write-snapshot-step-requires : tie.Need-write-snapshot-step-requires
-write-snapshot-step-requires c κs = search needs
-
 array-share-prefix-own : tie.Need-array-share-prefix-own
 array-share-prefix-own c =
     let st = c .before .before .before .before .before .before in
@@ -36,9 +30,6 @@ slice-aggregate-same-bytes c =
     let l = lent ws store (st .pre) (λ i. let z = c .before .before .before .before .before .before .shared-slice-known .given i in omega arith) (λ i. let z = c .before .before .before .before .before .shared-slice-known2 .given i in omega arith) in
     sym (length-take-le _ _ (written-inside (memory ws store) (st .pre) l _ _ _ (length-replicate {A = ℕ} 64698 0) w))
 
-same-bytes-requires : tie.Need-same-bytes-requires
-same-bytes-requires c κs = search needs
-
 returns : tie.Need-returns
 returns c =
     let st = c .before .before .before .before .before .before .before .before in
@@ -52,9 +43,9 @@ pub is-snapshot-of-spec : {M : Type 1} → statement M
 is-snapshot-of-spec =
     tie.close
     (tie.spec
-    slice-aggregate-write-snapshot-step
-    write-snapshot-step-requires
+    (λ c. search needs)
+    (λ c κs. search needs)
     array-share-prefix-own
     slice-aggregate-same-bytes
-    same-bytes-requires
+    (λ c κs. search needs)
     returns)

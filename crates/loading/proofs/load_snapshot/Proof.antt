@@ -26,39 +26,12 @@ returns-2 c =
     let a = c .before .before .before .before .before .args in
     unfit view (Call.loadSnapshot (a .snapshot .now)) (memory (a .words .now) (a .store .now)) (rw (eq-eqb _ _ (c .before .if1 .left), ne-eqb _ _ (c .if2 .taken)))
 
-slice-aggregate-read-snapshot : tie.Need-slice-aggregate-read-snapshot
-slice-aggregate-read-snapshot c = search needs
-
-slice-aggregate-read-snapshot-2 : tie.Need-slice-aggregate-read-snapshot-2
-slice-aggregate-read-snapshot-2 c = search needs
-
-read-snapshot-requires : tie.Need-read-snapshot-requires
-read-snapshot-requires c κs = search needs
-
 returns-3 : tie.Need-returns-3
 unfolding refusedReply results
 returns-3 c =
     let a = c .before .before .before .before .before .before .before .before .before .before .before .args in
     load-refused (a .snapshot .now) (memory (a .words .now) (a .store .now)) (c .before .before .before .before .before .before .before .if1 .left) (c .before .before .before .before .before .before .if2 .left)
     (sym (c .before .before .before .read-snapshot .ensures .accepted) ∙ not-true _ (c .if3 .taken))
-
-slice-aggregate-copy-words : tie.Need-slice-aggregate-copy-words
-slice-aggregate-copy-words c = search needs
-
-copy-words-requires : tie.Need-copy-words-requires
-copy-words-requires c κs = search needs
-
-slice-aggregate-copy : tie.Need-slice-aggregate-copy
-slice-aggregate-copy c = search needs
-
-copy-requires : tie.Need-copy-requires
-copy-requires c κs = search needs
-
-same-length : tie.Need-same-length
-same-length c = search needs
-
-same-length-2 : tie.Need-same-length-2
-same-length-2 c = search needs
 
 returns-4 : tie.Need-returns-4
 unfolding acceptedReply results
@@ -78,14 +51,14 @@ load-snapshot-spec =
     (tie.spec
     returns
     returns-2
-    slice-aggregate-read-snapshot
-    slice-aggregate-read-snapshot-2
-    read-snapshot-requires
+    (λ c. search needs)
+    (λ c. search needs)
+    (λ c κs. search needs)
     returns-3
-    slice-aggregate-copy-words
-    copy-words-requires
-    slice-aggregate-copy
-    copy-requires
-    same-length
-    same-length-2
+    (λ c. search needs)
+    (λ c κs. search needs)
+    (λ c. search needs)
+    (λ c κs. search needs)
+    (λ c. search needs)
+    (λ c. search needs)
     returns-4)

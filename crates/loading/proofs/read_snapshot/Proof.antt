@@ -8,27 +8,9 @@ use Rattle.loading.proofs.Loading.{lent, not-read, not-sound, read-soun
 use Rattle.loading.proofs.read_snapshot.Statement.{statement}
 use Rattle.loading.proofs.read_snapshot.Tie as tie
 
-read-table-requires : tie.Need-read-table-requires
-read-table-requires c κs = search needs
-
-same-length : tie.Need-same-length
-same-length c = search needs
-
-same-length-2 : tie.Need-same-length-2
-same-length-2 c = search needs
-
 returns : tie.Need-returns
 returns c =
     not-read _ _ _ (c .before .before .before .before .before .read-table .ensures) (not-true _ (c .if1 .taken))
-
-sound-requires : tie.Need-sound-requires
-sound-requires c κs = search needs
-
-same-length-3 : tie.Need-same-length-3
-same-length-3 c = search needs
-
-same-length-4 : tie.Need-same-length-4
-same-length-4 c = search needs
 
 returns-2 : tie.Need-returns-2
 returns-2 c =
@@ -41,12 +23,6 @@ returns-2 c =
 
 is-snapshot-of-requires : tie.Need-is-snapshot-of-requires
 is-snapshot-of-requires c κs = sound-table (c .before .before .before .sound .ensures) (c .before .before .if2 .left)
-
-same-length-5 : tie.Need-same-length-5
-same-length-5 c = search needs
-
-same-length-6 : tie.Need-same-length-6
-same-length-6 c = search needs
 
 returns-3 : tie.Need-returns-3
 returns-3 c =
@@ -61,15 +37,15 @@ pub read-snapshot-spec : {M : Type 1} → statement M
 read-snapshot-spec =
     tie.close
     (tie.spec
-    read-table-requires
-    same-length
-    same-length-2
+    (λ c κs. search needs)
+    (λ c. search needs)
+    (λ c. search needs)
     returns
-    sound-requires
-    same-length-3
-    same-length-4
+    (λ c κs. search needs)
+    (λ c. search needs)
+    (λ c. search needs)
     returns-2
     is-snapshot-of-requires
-    same-length-5
-    same-length-6
+    (λ c. search needs)
+    (λ c. search needs)
     returns-3)

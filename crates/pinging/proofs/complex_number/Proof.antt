@@ -49,14 +49,8 @@ returns c s = row-gives _ _ _ (complex-rows _ _ _ _ (At (c .before .before .befo
 returns-2 : tie.Need-returns-2
 returns-2 c s = row-gives _ _ _ (row-passes _ _ _ (complex-rows _ _ _ _ (At (c .before .before .before .before .before) s)) (le-ltb 65535 _ (c .before .if1 .left))) (lt-ltb 65535 _ (c .if2 .taken))
 
-are-live-requires : tie.Need-are-live-requires
-are-live-requires c κs = search needs
-
 returns-3 : tie.Need-returns-3
 returns-3 c s = row-gives _ _ _ (new-left (c .before .before) s) (ap not (sym (c .before .are-live .ensures s)) ∙ c .if4 .taken)
-
-set-count-requires : tie.Need-set-count-requires
-set-count-requires c κs = search needs
 
 -- every id is live
 new-passes : (c : tie.Else4) (s : List ℕ) → Number (c .before .before .before .before .before .before .before .before .before) s ≡ order (drop 1 (newRows (c .before .before .before .before .before .before .before .before .before .args .set .0) (c .before .before .before .before .before .before .before .before .before .args .sequence) (c .before .before .before .before .before .before .before .before .before .args .adds .now) (c .before .before .before .before .before .before .before .before .before .args .deletes .now) (At (c .before .before .before .before .before .before .before .before .before) s)))
@@ -65,29 +59,14 @@ new-passes c s = row-passes _ _ _ (new-left (c .before .before) s) (ap not (sym 
 returns-4 : tie.Need-returns-4
 returns-4 c s = row-gives _ _ _ (new-passes (c .before .before) s) (full-judged (c .before) s ∙ le-leb setPlaces _ (c .if5 .taken))
 
-next-set-requires : tie.Need-next-set-requires
-next-set-requires c κs = search needs
-
 returns-5 : tie.Need-returns-5
 returns-5 c s = row-gives _ _ _ (row-passes _ _ _ (new-passes (c .before .before .before .before) s) (full-judged (c .before .before .before) s ∙ lt-leb setPlaces _ (c .before .before .if5 .left))) (rw (c .before .next-set .ensures) at (eq-eqb _ _ (c .if6 .taken)))
 
 returns-6 : tie.Need-returns-6
 returns-6 c s = rows-end (row-passes _ _ _ (row-passes _ _ _ (new-passes (c .before .before .before .before) s) (full-judged (c .before .before .before) s ∙ lt-leb setPlaces _ (c .before .before .if5 .left))) (rw (c .before .next-set .ensures) at (ne-eqb _ _ (c .if6 .left))))
 
-set-row-requires : tie.Need-set-row-requires
-set-row-requires c κs = search needs
-
-set-count-requires-2 : tie.Need-set-count-requires-2
-set-count-requires-2 c κs = search needs
-
 returns-7 : tie.Need-returns-7
 returns-7 c s = gone-gives (set-judged (c .before) s) _ _ (live-left (c .before .before .before) s) (c .if7 .taken)
-
-sequence-requires : tie.Need-sequence-requires
-sequence-requires c κs = search needs
-
-is-stale-requires : tie.Need-is-stale-requires
-is-stale-requires c κs = search needs
 
 -- the set is live
 live-passed : (c : tie.Else7) (s : List ℕ) → Number (c .before .before .before .before .before .before .before .before .before .before) s ≡ order (drop 1 (liveRows (c .before .before .before .before .before .before .before .before .before .before .args .set .0) (c .before .before .before .before .before .before .before .before .before .before .args .sequence) (c .before .before .before .before .before .before .before .before .before .before .args .adds .now) (c .before .before .before .before .before .before .before .before .before .before .args .deletes .now) (At (c .before .before .before .before .before .before .before .before .before .before) s)))
@@ -95,9 +74,6 @@ live-passed c s = live-passes (set-judged (c .before) s) _ _ (live-left (c .befo
 
 returns-8 : tie.Need-returns-8
 returns-8 c s = row-gives _ _ _ (live-passed (c .before .before .before) s) (stale-judged (c .before) s ∙ c .if8 .taken)
-
-are-live-requires-2 : tie.Need-are-live-requires-2
-are-live-requires-2 c κs = search needs
 
 returns-9 : tie.Need-returns-9
 returns-9 c s = row-gives _ _ _ (row-passes _ _ _ (live-passed (c .before .before .before .before .before) s) (stale-judged (c .before .before .before) s ∙ c .before .before .if8 .left)) (ap not (sym (c .before .are-live2 .ensures s)) ∙ c .if9 .taken)
@@ -111,19 +87,19 @@ complex-number-spec =
     (tie.spec
     returns
     returns-2
-    are-live-requires
+    (λ c κs. search needs)
     returns-3
-    set-count-requires
+    (λ c κs. search needs)
     returns-4
-    next-set-requires
+    (λ c κs. search needs)
     returns-5
     returns-6
-    set-row-requires
-    set-count-requires-2
+    (λ c κs. search needs)
+    (λ c κs. search needs)
     returns-7
-    sequence-requires
-    is-stale-requires
+    (λ c κs. search needs)
+    (λ c κs. search needs)
     returns-8
-    are-live-requires-2
+    (λ c κs. search needs)
     returns-9
     returns-10)

@@ -14,20 +14,11 @@ use Rattle.pinging.proofs.complex_ping_step.Tie as tie
 complex-number-requires : tie.Need-complex-number-requires
 complex-number-requires c κs = c .before .before .before .before .before .pre .words
 
-refused-requires : tie.Need-refused-requires
-refused-requires c κs = search needs
-
-same-length : tie.Need-same-length
-same-length c = search needs
-
 returns : tie.Need-returns
 unfolding refusedReply results
 returns c =
     let a = c .before .before .before .before .before .before .before .before .args in
     rw (c .refused .ensures) (refused-step _ (c .before .before .complex-number .ensures (a .store .now)) (c .before .if1 .taken))
-
-ping-set-number-requires : tie.Need-ping-set-number-requires
-ping-set-number-requires c κs = search needs
 
 -- the call is accepted
 sound-here : (c : tie.Else1) → SoundTable (memory (c .before .before .before .before .before .before .before .args .words .now) (c .before .before .before .before .before .before .before .args .store .now))
@@ -68,9 +59,6 @@ ping-row-requires c κs =
     (a .store .now) (r .last .0) (r .result) (r .ensures .0 (a .store .now)) (r .ensures .1 (a .store .now)) (c .before .before .before .update-set .last .0) (c .before .before .before .update-set .ensures) in
     (search needs, q .0, q .1)
 
-same-length-2 : tie.Need-same-length-2
-same-length-2 c = search needs
-
 returns-2 : tie.Need-returns-2
 unfolding acceptedReply results
 returns-2 c =
@@ -88,12 +76,12 @@ complex-ping-step-spec =
     tie.close
     (tie.spec
     complex-number-requires
-    refused-requires
-    same-length
+    (λ c κs. search needs)
+    (λ c. search needs)
     returns
-    ping-set-number-requires
+    (λ c κs. search needs)
     ping-set-row-requires
     update-set-requires
     ping-row-requires
-    same-length-2
+    (λ c. search needs)
     returns-2)

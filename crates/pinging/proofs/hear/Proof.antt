@@ -26,17 +26,11 @@ abbrev μ-loop : tie.MeasureT-loop
 same-count : (m : Members) (ws₀ ws : List ℕ) (i : ℕ) → view (memory ws ws) ≡ heardFrom m (view (memory ws₀ ws)) i → objectCount ws ≡ objectCount ws₀
 same-count m ws₀ ws i h = sym (objects-length ws) ∙ ap (λ (e : Entries). length (e .objects)) h ∙ length-tabulate _ _ ∙ objects-length ws₀
 
-object-count-requires : tie.Need-object-count-requires Inv-loop μ-loop
-object-count-requires c κs = search needs
-
 loop-holds : tie.Need-loop-holds Inv-loop μ-loop
 loop-holds c =
     let start = c .before .before .before in
     let ws = start .args .words .now in
     (search needs, omega (arith, c .object-count .ensures .0), λ s. heard-none (start .args .members) (view (memory ws s)) _ (c .object-count .ensures .0 ∙ sym (objects-length ws)))
-
-sub-i : tie.Need-sub-i Inv-loop μ-loop
-sub-i c = omega arith
 
 hear-row-requires : tie.Need-hear-row-requires Inv-loop μ-loop
 hear-row-requires c κs =
@@ -45,9 +39,6 @@ hear-row-requires c κs =
     let n = same-count (start .args .members) (start .args .words .now) (l .words) (l .i) (l .inv .2 (l .words)) in
     let b = l .inv .1 in
     (l .inv .0, omega arith)
-
-loop-less : tie.Need-loop-less Inv-loop μ-loop
-loop-less c = omega arith
 
 loop-again : tie.Need-loop-again Inv-loop μ-loop
 loop-again c =
@@ -64,9 +55,6 @@ loop-again c =
           ∙ heard-row (start .args .members) (view (memory ws s)) (l .i) _ (omega arith) (omega arith),
     )
 
-same-length : tie.Need-same-length Inv-loop μ-loop
-same-length c = search needs
-
 returns : tie.Need-returns Inv-loop μ-loop
 returns c s =
     let l = c .before .loop in
@@ -81,11 +69,11 @@ hear-spec =
     (tie.spec
     Inv-loop
     μ-loop
-    object-count-requires
+    (λ c κs. search needs)
     loop-holds
-    sub-i
+    (λ c. omega arith)
     hear-row-requires
-    loop-less
+    (λ c. omega arith)
     loop-again
-    same-length
+    (λ c. search needs)
     returns)

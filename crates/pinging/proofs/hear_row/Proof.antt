@@ -4,18 +4,6 @@ use borrow.Author.Needs.{needs}
 use Rattle.pinging.proofs.hear_row.Statement.{statement}
 use Rattle.pinging.proofs.hear_row.Tie as tie
 
-has-requires : tie.Need-has-requires
-has-requires c κs = search needs
-
-clock-requires : tie.Need-clock-requires
-clock-requires c κs = search needs
-
-set-heard-requires : tie.Need-set-heard-requires
-set-heard-requires c κs = search needs
-
-same-length : tie.Need-same-length
-same-length c = search needs
-
 returns : tie.Need-returns
 returns c s =
     let b = c .before .before .before .before .before .before in
@@ -25,4 +13,4 @@ returns-2 : tie.Need-returns-2
 returns-2 c s = rw (sym (c .before .has .ensures) ∙ c .if1 .left) refl
 
 pub hear-row-spec : {M : Type 1} → statement M
-hear-row-spec = tie.close (tie.spec has-requires clock-requires set-heard-requires same-length returns returns-2)
+hear-row-spec = tie.close (tie.spec (λ c κs. search needs) (λ c κs. search needs) (λ c κs. search needs) (λ c. search needs) returns returns-2)

@@ -16,9 +16,6 @@ stale-by last new d e b l =
     let h : d ≡ (new + 65536 - last) % 65536 = omega arith in
     ap (λ (k : ℕ). eqb k 0 || ltb 32767 k) h
 
-wrapping-sub-u16-requires : tie.Need-wrapping-sub-u16-requires
-wrapping-sub-u16-requires c κs = search needs
-
 returns : tie.Need-returns
 returns c = rw (eq-eqb _ 0 (c .if1 .taken)) at (stale-by (c .before .before .args .last) (c .before .before .args .new) (c .before .wrapping-sub-u16 .result) (c .before .wrapping-sub-u16 .ensures) (omega arith) (omega arith))
 
@@ -26,4 +23,4 @@ returns-2 : tie.Need-returns-2
 returns-2 c = rw (ne-eqb _ 0 (c .if1 .left)) at (stale-by (c .before .before .args .last) (c .before .before .args .new) (c .before .wrapping-sub-u16 .result) (c .before .wrapping-sub-u16 .ensures) (omega arith) (omega arith))
 
 pub is-stale-spec : {M : Type 1} → statement M
-is-stale-spec = tie.close (tie.spec wrapping-sub-u16-requires returns returns-2)
+is-stale-spec = tie.close (tie.spec (λ c κs. search needs) returns returns-2)

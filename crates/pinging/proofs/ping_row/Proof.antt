@@ -11,15 +11,6 @@ use Rattle.pinging.proofs.Pings.{row-heard}
 use Rattle.pinging.proofs.ping_row.Statement.{statement}
 use Rattle.pinging.proofs.ping_row.Tie as tie
 
-members-requires : tie.Need-members-requires
-members-requires c κs = search needs
-
-clock-requires : tie.Need-clock-requires
-clock-requires c κs = search needs
-
-hear-requires : tie.Need-hear-requires
-hear-requires c κs = search needs
-
 set-pinged-requires : tie.Need-set-pinged-requires
 set-pinged-requires c κs =
     let start = c .before .before .before .before .before .before .before .before .before .before in
@@ -27,9 +18,6 @@ set-pinged-requires c κs =
     let b = start .pre .1 in
     let sets : setCount (c .before .before .before .hear .last .0) ≡ setCount ws = sym (sets-length (c .before .before .before .hear .last .0)) ∙ ap (λ (e : Entries). length (e .sets)) (c .before .before .before .hear .ensures ws) ∙ sets-length ws in
     (search needs, omega arith)
-
-same-length : tie.Need-same-length
-same-length c = search needs
 
 returns : tie.Need-returns
 returns c s =
@@ -39,4 +27,4 @@ returns c s =
     ∙ ap (changeSet (start .args .i) (pingedAt (clockOf ws))) (c .before .before .before .before .before .before .hear .ensures s ∙ row-heard ws (start .args .i) (c .before .before .before .before .before .before .before .before .before .before .members .result) s (start .pre .1) (c .before .before .before .before .before .before .before .before .before .before .members .ensures))
 
 pub ping-row-spec : {M : Type 1} → statement M
-ping-row-spec = tie.close (tie.spec members-requires clock-requires hear-requires set-pinged-requires same-length returns)
+ping-row-spec = tie.close (tie.spec (λ c κs. search needs) (λ c κs. search needs) (λ c κs. search needs) set-pinged-requires (λ c. search needs) returns)

@@ -4,9 +4,6 @@ use borrow.Author.Needs.{needs}
 use Rattle.pinging.proofs.ping_set_number.Statement.{statement}
 use Rattle.pinging.proofs.ping_set_number.Tie as tie
 
-next-set-requires : tie.Need-next-set-requires
-next-set-requires c κs = search needs
-
 returns : tie.Need-returns
 returns c = rw (eq-eqb _ 0 (c .before .if1 .taken)) (c .next-set .ensures)
 
@@ -14,4 +11,4 @@ returns-2 : tie.Need-returns-2
 returns-2 c = rw (ne-eqb _ 0 (c .if1 .left))
 
 pub ping-set-number-spec : {M : Type 1} → statement M
-ping-set-number-spec = tie.close (tie.spec next-set-requires returns returns-2)
+ping-set-number-spec = tie.close (tie.spec (λ c κs. search needs) returns returns-2)

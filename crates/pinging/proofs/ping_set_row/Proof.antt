@@ -6,29 +6,17 @@ use Rattle.table.proofs.LiveRows.{sets-length}
 use Rattle.pinging.proofs.ping_set_row.Statement.{statement}
 use Rattle.pinging.proofs.ping_set_row.Tie as tie
 
-set-count-requires : tie.Need-set-count-requires
-set-count-requires c κs = search needs
-
 put-set-requires : tie.Need-put-set-requires
 put-set-requires c κs =
     let start = c .before .before .before .before .before .before in
     let room = start .pre .1 (c .before .before .before .if1 .taken) in
     (start .pre .0, room .0, room .1)
 
-same-length : tie.Need-same-length
-same-length c = search needs
-
 returns : tie.Need-returns
 returns c =
     let start = c .before .before .before .before .before .before .before .before .before in
     let z = eq-eqb (start .args .set .0) 0 (c .before .before .before .before .before .before .if1 .taken) in
     (λ s. rw z (c .before .before .before .before .set-count .ensures .0 ∙ sym (sets-length (start .args .words .now))), λ s. rw z (c .before .before .put-set .ensures s))
-
-set-row-requires : tie.Need-set-row-requires
-set-row-requires c κs = search needs
-
-same-length-2 : tie.Need-same-length-2
-same-length-2 c = search needs
 
 returns-2 : tie.Need-returns-2
 returns-2 c =
@@ -40,10 +28,10 @@ pub ping-set-row-spec : {M : Type 1} → statement M
 ping-set-row-spec =
     tie.close
     (tie.spec
-    set-count-requires
+    (λ c κs. search needs)
     put-set-requires
-    same-length
+    (λ c. search needs)
     returns
-    set-row-requires
-    same-length-2
+    (λ c κs. search needs)
+    (λ c. search needs)
     returns-2)

@@ -28,9 +28,6 @@ set-row-requires c κs = c .before .before .before .before .before .pre .words
 set-count-requires : tie.Need-set-count-requires
 set-count-requires c κs = c .before .before .before .before .before .before .before .pre .words
 
-same-length : tie.Need-same-length
-same-length c = search needs
-
 returns-2 : tie.Need-returns-2
 unfolding refusedReply results
 returns-2 c =
@@ -46,9 +43,6 @@ ping-row-requires c κs =
     let count = c .before .before .set-count .ensures .0 in
     let live = c .before .if2 .left in
     (t .words, omega arith, sound-fields _ (t .entries) .objectsProper)
-
-same-length-2 : tie.Need-same-length-2
-same-length-2 c = search needs
 
 returns-3 : tie.Need-returns-3
 unfolding acceptedReply results
@@ -75,8 +69,8 @@ simple-ping-step-spec =
     returns
     set-row-requires
     set-count-requires
-    same-length
+    (λ c. search needs)
     returns-2
     ping-row-requires
-    same-length-2
+    (λ c. search needs)
     returns-3)

@@ -8,12 +8,6 @@ use Rattle.pinging.proofs.Memberships.{put-none, put-one}
 use Rattle.pinging.proofs.update_member.Statement.{statement}
 use Rattle.pinging.proofs.update_member.Tie as tie
 
-object-row-requires : tie.Need-object-row-requires
-object-row-requires c κs = search needs
-
-object-count-requires : tie.Need-object-count-requires
-object-count-requires c κs = search needs
-
 returns : tie.Need-returns
 returns c s =
     let start = c .before .before .before .before in
@@ -22,9 +16,6 @@ returns c s =
     let row = c .before .before .object-row .ensures s in
     let count = c .before .object-count .ensures .0 in
     put-none (oids (view (memory (a .words .now) s))) (start .pre .1) (a .oid .0) (a .members) (a .member) (omega arith, omega arith) (omega arith)
-
-put-requires : tie.Need-put-requires
-put-requires c κs = search needs
 
 returns-2 : tie.Need-returns-2
 returns-2 c s =
@@ -37,4 +28,4 @@ returns-2 c s =
 
 pub update-member-spec : {M : Type 1} → statement M
 update-member-spec =
-    tie.close (tie.spec object-row-requires object-count-requires returns put-requires returns-2)
+    tie.close (tie.spec (λ c κs. search needs) (λ c κs. search needs) returns (λ c κs. search needs) returns-2)

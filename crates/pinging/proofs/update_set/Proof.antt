@@ -10,18 +10,6 @@ use Rattle.pinging.proofs.Pings.{row-updated}
 use Rattle.pinging.proofs.update_set.Statement.{statement}
 use Rattle.pinging.proofs.update_set.Tie as tie
 
-members-requires : tie.Need-members-requires
-members-requires c κs = search needs
-
-update-members-requires : tie.Need-update-members-requires
-update-members-requires c κs = search needs
-
-update-members-requires-2 : tie.Need-update-members-requires-2
-update-members-requires-2 c κs = search needs
-
-set-members-requires : tie.Need-set-members-requires
-set-members-requires c κs = search needs
-
 set-sequence-requires : tie.Need-set-sequence-requires
 set-sequence-requires c κs =
     let start = c .before .before .before .before .before .before .before .before .before .before .before .before .before .before in
@@ -29,9 +17,6 @@ set-sequence-requires c κs =
     let b = start .pre .1 in
     let sets : setCount (c .before .before .before .set-members .last .0) ≡ setCount ws = sym (sets-length (c .before .before .before .set-members .last .0)) ∙ ap (λ (e : Entries). length (e .sets)) (c .before .before .before .set-members .ensures ws) ∙ length-set (setsOf ws) (start .args .i) _ ∙ sets-length ws in
     (search needs, omega arith)
-
-same-length : tie.Need-same-length
-same-length c = search needs
 
 returns : tie.Need-returns
 returns c s =
@@ -45,10 +30,10 @@ pub update-set-spec : {M : Type 1} → statement M
 update-set-spec =
     tie.close
     (tie.spec
-    members-requires
-    update-members-requires
-    update-members-requires-2
-    set-members-requires
+    (λ c κs. search needs)
+    (λ c κs. search needs)
+    (λ c κs. search needs)
+    (λ c κs. search needs)
     set-sequence-requires
-    same-length
+    (λ c. search needs)
     returns)

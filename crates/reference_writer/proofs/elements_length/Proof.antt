@@ -18,9 +18,6 @@ most c = given-parts _ _ _ (rw (c .if1 .left) at (c .before .before .before .pre
 cast-rounded : tie.Need-cast-rounded
 cast-rounded c = omega (arith, most c)
 
-rounded-requires : tie.Need-rounded-requires
-rounded-requires c κs = search needs
-
 add-result : tie.Need-add-result
 add-result c = let h = most (c .before) in omega (arith, c .rounded .ensures)
 
@@ -31,4 +28,4 @@ returns-2 c =
     (rw (eq-eqb _ _ (c .before .if1 .left)) (omega arith), omega arith)
 
 pub elements-length-spec : {M : Type 1} → statement M
-elements-length-spec = tie.close (tie.spec returns cast-rounded rounded-requires add-result returns-2)
+elements-length-spec = tie.close (tie.spec returns cast-rounded (λ c κs. search needs) add-result returns-2)

@@ -8,9 +8,6 @@ use borrow.Author.Needs.{needs}
 use Rattle.reference_writer.proofs.given_answer.Statement.{statement}
 use Rattle.reference_writer.proofs.given_answer.Tie as tie
 
-is-nil-requires : tie.Need-is-nil-requires
-is-nil-requires c κs = search needs
-
 returns : tie.Need-returns
 unfolding givenAnswer order
 returns c = rw (sym (c .before .is-nil .ensures) ∙ c .if1 .taken)
@@ -23,9 +20,6 @@ returns-3 : tie.Need-returns-3
 unfolding givenAnswer order
 returns-3 c = rw (sym (c .before .before .before .is-nil .ensures) ∙ c .before .before .if1 .left, ne-eqb _ _ (c .before .if2 .left), lt-ltb _ _ (c .if3 .taken))
 
-content-answer-requires : tie.Need-content-answer-requires
-content-answer-requires c κs = search needs
-
 returns-4 : tie.Need-returns-4
 unfolding givenAnswer order
 returns-4 c = rw (sym (c .before .before .before .before .is-nil .ensures) ∙ c .before .before .before .if1 .left, ne-eqb _ _ (c .before .before .if2 .left), le-ltb _ _ (c .before .if3 .left)) (c .content-answer .ensures ∙ sym (last-row _))
@@ -33,4 +27,4 @@ returns-4 c = rw (sym (c .before .before .before .before .is-nil .ensures) ∙ c
 pub given-answer-spec : {M : Type 1} → statement M
 given-answer-spec =
     tie.close
-    (tie.spec is-nil-requires returns returns-2 returns-3 content-answer-requires returns-4)
+    (tie.spec (λ c κs. search needs) returns returns-2 returns-3 (λ c κs. search needs) returns-4)

@@ -10,23 +10,14 @@ use borrow.Author.Needs.{needs}
 use Rattle.reference_writer.proofs.tail_answer.Statement.{statement}
 use Rattle.reference_writer.proofs.tail_answer.Tie as tie
 
-is-form-requires : tie.Need-is-form-requires
-is-form-requires c κs = search needs
-
 returns : tie.Need-returns
 returns c =
     let none : isForm (c .before .before .before .args .reference .flags) ≡ false = sym (c .before .is-form .ensures) ∙ not-true _ (c .if1 .taken) in
     sym (tail-none _ _ none)
 
-object-answer-requires : tie.Need-object-answer-requires
-object-answer-requires c κs = search needs
-
 returns-2 : tie.Need-returns-2
 unfolding tailAnswer
 returns-2 c = rw (c .before .before .if2 .taken) (c .object-answer .ensures)
-
-list-answer-requires : tie.Need-list-answer-requires
-list-answer-requires c κs = search needs
 
 returns-3 : tie.Need-returns-3
 unfolding tailAnswer
@@ -39,9 +30,9 @@ pub tail-answer-spec : {M : Type 1} → statement M
 tail-answer-spec =
     tie.close
     (tie.spec
-    is-form-requires
+    (λ c κs. search needs)
     returns
-    object-answer-requires
+    (λ c κs. search needs)
     returns-2
-    list-answer-requires
+    (λ c κs. search needs)
     returns-3)

@@ -12,17 +12,11 @@ use borrow.Author.Needs.{needs}
 use Rattle.reference_writer.proofs.value_answer.Statement.{statement}
 use Rattle.reference_writer.proofs.value_answer.Tie as tie
 
-is-form-requires : tie.Need-is-form-requires
-is-form-requires c κs = search needs
-
 returns : tie.Need-returns
 unfolding valueAnswer order
 returns c =
     let none : isForm (c .before .before .before .before .args .reference .flags) ≡ false = sym (c .before .is-form .ensures) ∙ not-true _ (c .if1 .taken) in
     rw none
-
-tail-answer-requires : tie.Need-tail-answer-requires
-tail-answer-requires c κs = search needs
 
 form : (c : tie.Else1) → isForm (c .before .before .before .before .args .reference .flags) ≡ true
 form c = sym (c .before .is-form .ensures) ∙ not-false _ (c .if1 .left)
@@ -32,9 +26,6 @@ unfolding valueAnswer order
 returns-2 c =
     let tail = c .before .tail-answer .ensures in
     rw (form (c .before .before), ne-differ _ _ (λ z. c .if2 .taken (tail ∙ z))) tail
-
-element-given-requires : tie.Need-element-given-requires
-element-given-requires c κs = search needs
 
 tailed : (c : tie.Else2) → tailAnswer (c .before .before .before .before .before .before .args .reference) (c .before .before .before .before .before .before .args .tail .now) ≡ 0
 tailed c = sym (c .before .tail-answer .ensures) ∙ c .if2 .left
@@ -56,9 +47,6 @@ rows c = rw (value-rows _ _ _ (form (c .before .before .before .before)) (tailed
 returns-4 : tie.Need-returns-4
 returns-4 c = sym (rows (c .before .before) ∙ (rw (c .if4 .taken)))
 
-has-nil-requires : tie.Need-has-nil-requires
-has-nil-requires c κs = search needs
-
 own : (c : tie.After-has-nil) → ownNil (c .before .before .before .before .before .before .before .before .before .before .before .before .args .reference) ≡ c .has-nil .result
 own c = own-block (c .before .before .before .before .before .before .before .before .before .before .before .before .args .reference) (form (c .before .before .before .before .before .before .before .before)) (c .before .before .if4 .left) ∙ sym (c .has-nil .ensures)
 
@@ -72,13 +60,13 @@ pub value-answer-spec : {M : Type 1} → statement M
 value-answer-spec =
     tie.close
     (tie.spec
-    is-form-requires
+    (λ c κs. search needs)
     returns
-    tail-answer-requires
+    (λ c κs. search needs)
     returns-2
-    element-given-requires
+    (λ c κs. search needs)
     returns-3
     returns-4
-    has-nil-requires
+    (λ c κs. search needs)
     returns-5
     returns-6)

@@ -6,24 +6,6 @@ use borrow.Author.Needs.{needs}
 use Rattle.reference_writer.proofs.write_block.Statement.{statement}
 use Rattle.reference_writer.proofs.write_block.Tie as tie
 
-write-u32-requires : tie.Need-write-u32-requires
-write-u32-requires c κs = search needs
-
-write-u32-requires-2 : tie.Need-write-u32-requires-2
-write-u32-requires-2 c κs = search needs
-
-write-u64-requires : tie.Need-write-u64-requires
-write-u64-requires c κs = search needs
-
-write-u64-requires-2 : tie.Need-write-u64-requires-2
-write-u64-requires-2 c κs = search needs
-
-write-guid-requires : tie.Need-write-guid-requires
-write-guid-requires c κs = search needs
-
-same-length : tie.Need-same-length
-same-length c = search needs
-
 returns : tie.Need-returns
 unfolding blockBytes
 returns c =
@@ -46,10 +28,10 @@ pub write-block-spec : {M : Type 1} → statement M
 write-block-spec =
     tie.close
     (tie.spec
-    write-u32-requires
-    write-u32-requires-2
-    write-u64-requires
-    write-u64-requires-2
-    write-guid-requires
-    same-length
+    (λ c κs. search needs)
+    (λ c κs. search needs)
+    (λ c κs. search needs)
+    (λ c κs. search needs)
+    (λ c κs. search needs)
+    (λ c. search needs)
     returns)

@@ -22,36 +22,15 @@ write-block-requires-2 c κs =
     let room : 80 ≤ length (c .before .before .before .before .before .before .args .buf .now) = rw (c .before .if2 .taken) at (c .before .before .before .before .before .before .pre) in
     omega arith
 
-write-guid-requires : tie.Need-write-guid-requires
-write-guid-requires c κs = search needs
-
-write-guid-requires-2 : tie.Need-write-guid-requires-2
-write-guid-requires-2 c κs = search needs
-
-write-u32-requires : tie.Need-write-u32-requires
-write-u32-requires c κs = search needs
-
-write-u32-requires-2 : tie.Need-write-u32-requires-2
-write-u32-requires-2 c κs = search needs
-
 write-block-requires-3 : tie.Need-write-block-requires-3
 unfolding fixedSize
 write-block-requires-3 c κs =
     let room : 68 ≤ length (c .before .before .before .before .before .before .before .before .args .buf .now) = rw (c .before .if4 .taken) at (c .before .before .before .before .before .before .before .before .pre) in
     omega arith
 
-write-u32-requires-3 : tie.Need-write-u32-requires-3
-write-u32-requires-3 c κs = search needs
-
-same-length : tie.Need-same-length
-same-length c = search needs
-
 returns : tie.Need-returns
 unfolding bodyBytes
 returns c = rw (c .before .before .before .before .if1 .taken) (c .before .before .write-block .ensures)
-
-same-length-2 : tie.Need-same-length-2
-same-length-2 c = search needs
 
 returns-2 : tie.Need-returns-2
 unfolding fixedSize bodyBytes
@@ -65,9 +44,6 @@ returns-2 c =
     let run = first-bytes (blockBytes (r .block)) 40 (length-block (r .block)) (block .write-block2 .ensures) in
     let run2 = then-guid (r .clsid) run (omega arith) (clsid .write-guid .ensures) in
     rw (test .if2 .taken) (run2 .holds)
-
-same-length-3 : tie.Need-same-length-3
-same-length-3 c = search needs
 
 returns-3 : tie.Need-returns-3
 unfolding fixedSize bodyBytes
@@ -83,9 +59,6 @@ returns-3 c =
     let run2 = then-field 4 (r .extension) run (omega arith) (extension .write-u32 .ensures) in
     let run3 = then-field 4 (r .size) run2 (omega arith) (size .write-u322 .ensures) in
     rw (test .if3 .taken) (run3 .holds)
-
-same-length-4 : tie.Need-same-length-4
-same-length-4 c = search needs
 
 returns-4 : tie.Need-returns-4
 unfolding fixedSize bodyBytes
@@ -110,18 +83,18 @@ write-body-spec =
     (tie.spec
     write-block-requires
     write-block-requires-2
-    write-guid-requires
-    write-guid-requires-2
-    write-u32-requires
-    write-u32-requires-2
+    (λ c κs. search needs)
+    (λ c κs. search needs)
+    (λ c κs. search needs)
+    (λ c κs. search needs)
     write-block-requires-3
-    write-u32-requires-3
-    same-length
+    (λ c κs. search needs)
+    (λ c. search needs)
     returns
-    same-length-2
+    (λ c. search needs)
     returns-2
-    same-length-3
+    (λ c. search needs)
     returns-3
-    same-length-4
+    (λ c. search needs)
     returns-4
     returns-5)

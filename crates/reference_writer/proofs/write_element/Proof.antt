@@ -12,48 +12,6 @@ use borrow.Author.Needs.{needs}
 use Rattle.reference_writer.proofs.write_element.Statement.{statement}
 use Rattle.reference_writer.proofs.write_element.Tie as tie
 
-cast-rounded : tie.Need-cast-rounded
-cast-rounded c = search needs
-
-rounded-requires : tie.Need-rounded-requires
-rounded-requires c κs = search needs
-
-write-u32-requires : tie.Need-write-u32-requires
-write-u32-requires c κs = search needs
-
-write-u32-requires-2 : tie.Need-write-u32-requires-2
-write-u32-requires-2 c κs = search needs
-
-write-guid-requires : tie.Need-write-guid-requires
-write-guid-requires c κs = search needs
-
-cast-write-u32 : tie.Need-cast-write-u32
-cast-write-u32 c = search needs
-
-write-u32-requires-3 : tie.Need-write-u32-requires-3
-write-u32-requires-3 c κs = search needs
-
-cast-write-u32-2 : tie.Need-cast-write-u32-2
-cast-write-u32-2 c = search needs
-
-write-u32-requires-4 : tie.Need-write-u32-requires-4
-write-u32-requires-4 c κs = search needs
-
-copy-requires : tie.Need-copy-requires
-copy-requires c κs = search needs
-
-add-fill : tie.Need-add-fill
-add-fill c = search needs
-
-sub-fill : tie.Need-sub-fill
-sub-fill c = search needs
-
-fill-requires : tie.Need-fill-requires
-fill-requires c κs = search needs
-
-same-length : tie.Need-same-length
-same-length c = search needs
-
 returns : tie.Need-returns
 unfolding elementBytes
 returns c =
@@ -79,18 +37,18 @@ pub write-element-spec : {M : Type 1} → statement M
 write-element-spec =
     tie.close
     (tie.spec
-    cast-rounded
-    rounded-requires
-    write-u32-requires
-    write-u32-requires-2
-    write-guid-requires
-    cast-write-u32
-    write-u32-requires-3
-    cast-write-u32-2
-    write-u32-requires-4
-    copy-requires
-    add-fill
-    sub-fill
-    fill-requires
-    same-length
+    (λ c. search needs)
+    (λ c κs. search needs)
+    (λ c κs. search needs)
+    (λ c κs. search needs)
+    (λ c κs. search needs)
+    (λ c. search needs)
+    (λ c κs. search needs)
+    (λ c. search needs)
+    (λ c κs. search needs)
+    (λ c κs. search needs)
+    (λ c. search needs)
+    (λ c. search needs)
+    (λ c κs. search needs)
+    (λ c. search needs)
     returns)

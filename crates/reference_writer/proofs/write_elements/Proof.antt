@@ -14,9 +14,6 @@ write-element-requires c κs =
     let start = c .before .before .before .before .before .before in
     (given-parts _ _ _ (rw f at (start .pre .0)) .0, rw f at (start .pre .1))
 
-same-length : tie.Need-same-length
-same-length c = search needs
-
 returns : tie.Need-returns
 unfolding elementsBytes
 returns c = rw (c .before .before .before .before .before .if1 .taken) (c .before .before .write-element .ensures)
@@ -26,4 +23,4 @@ unfolding elementsBytes
 returns-2 c = sym (rw (ne-eqb _ _ (c .if1 .left)) (written-none _ 0))
 
 pub write-elements-spec : {M : Type 1} → statement M
-write-elements-spec = tie.close (tie.spec write-element-requires same-length returns returns-2)
+write-elements-spec = tie.close (tie.spec write-element-requires (λ c. search needs) returns returns-2)

@@ -7,18 +7,6 @@ use borrow.Author.Needs.{needs}
 use Rattle.reference_writer.proofs.write_header.Statement.{statement}
 use Rattle.reference_writer.proofs.write_header.Tie as tie
 
-write-u32-requires : tie.Need-write-u32-requires
-write-u32-requires c κs = search needs
-
-write-u32-requires-2 : tie.Need-write-u32-requires-2
-write-u32-requires-2 c κs = search needs
-
-write-guid-requires : tie.Need-write-guid-requires
-write-guid-requires c κs = search needs
-
-same-length : tie.Need-same-length
-same-length c = search needs
-
 returns : tie.Need-returns
 unfolding headerBytes
 returns c =
@@ -36,4 +24,4 @@ returns c =
 pub write-header-spec : {M : Type 1} → statement M
 write-header-spec =
     tie.close
-    (tie.spec write-u32-requires write-u32-requires-2 write-guid-requires same-length returns)
+    (tie.spec (λ c κs. search needs) (λ c κs. search needs) (λ c κs. search needs) (λ c. search needs) returns)

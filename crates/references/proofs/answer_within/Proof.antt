@@ -6,15 +6,9 @@ use borrow.Author.Needs.{needs}
 use Rattle.references.proofs.answer_within.Statement.{statement}
 use Rattle.references.proofs.answer_within.Tie as tie
 
-layout-requires : tie.Need-layout-requires
-layout-requires c κs = search needs
-
 returns : tie.Need-returns
 unfolding order
 returns c = let n = c .before .layout .ensures in simp (ne-differ _ _ (λ z. c .if1 .taken (n ∙ z))) n
-
-names-nil-requires : tie.Need-names-nil-requires
-names-nil-requires c κs = search needs
 
 returns-2 : tie.Need-returns-2
 unfolding order
@@ -26,4 +20,4 @@ returns-3 c = simp (eq-differ _ _ (sym (c .before .before .before .layout .ensur
 
 pub answer-within-spec : {M : Type 1} → statement M
 answer-within-spec =
-    tie.close (tie.spec layout-requires returns names-nil-requires returns-2 returns-3)
+    tie.close (tie.spec (λ c κs. search needs) returns (λ c κs. search needs) returns-2 returns-3)

@@ -10,9 +10,6 @@ use borrow.Author.Needs.{needs}
 use Rattle.references.proofs.binding.Statement.{statement}
 use Rattle.references.proofs.binding.Tie as tie
 
-locate-requires : tie.Need-locate-requires
-locate-requires c κs = search needs
-
 within : (c : tie.After-locate) → Within (length (c .before .before .args .s .now)) (c .locate .result)
 within c = rw (c .locate .ensures) (within-reference _ _ _)
 
@@ -33,4 +30,4 @@ returns c =
 
 pub binding-spec : {M : Type 1} → statement M
 binding-spec =
-    tie.close (tie.spec locate-requires sub-result part-result-start part-result-end returns)
+    tie.close (tie.spec (λ c κs. search needs) sub-result part-result-start part-result-end returns)

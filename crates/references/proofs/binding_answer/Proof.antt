@@ -5,11 +5,8 @@ use borrow.Author.Needs.{needs}
 use Rattle.references.proofs.binding_answer.Statement.{statement}
 use Rattle.references.proofs.binding_answer.Tie as tie
 
-locate-requires : tie.Need-locate-requires
-locate-requires c κs = search needs
-
 returns : tie.Need-returns
 returns c = ap (λ (x : Place). x .answer) (c .locate .ensures)
 
 pub binding-answer-spec : {M : Type 1} → statement M
-binding-answer-spec = tie.close (tie.spec locate-requires returns)
+binding-answer-spec = tie.close (tie.spec (λ c κs. search needs) returns)

@@ -8,24 +8,6 @@ use borrow.Author.Needs.{needs}
 use Rattle.references.proofs.content_place.Statement.{statement}
 use Rattle.references.proofs.content_place.Tie as tie
 
-list-end-requires : tie.Need-list-end-requires
-list-end-requires c κs = search needs
-
-add-from : tie.Need-add-from
-add-from c = search needs
-
-sub-read-u32 : tie.Need-sub-read-u32
-sub-read-u32 c = search needs
-
-read-u32-requires : tie.Need-read-u32-requires
-read-u32-requires c κs = search needs
-
-cast-t5 : tie.Need-cast-t5
-cast-t5 c = search needs
-
-add-t6 : tie.Need-add-t6
-add-t6 c = search needs
-
 returns : tie.Need-returns
 returns c =
     let s = c .before .before .before .args .s .now in
@@ -38,4 +20,4 @@ returns c =
 pub content-place-spec : {M : Type 1} → statement M
 content-place-spec =
     tie.close
-    (tie.spec list-end-requires add-from sub-read-u32 read-u32-requires cast-t5 add-t6 returns)
+    (tie.spec (λ c κs. search needs) (λ c. search needs) (λ c. search needs) (λ c κs. search needs) (λ c. search needs) (λ c. search needs) returns)

@@ -5,11 +5,8 @@ use borrow.Author.Needs.{needs}
 use Rattle.references.proofs.element_answer.Statement.{statement}
 use Rattle.references.proofs.element_answer.Tie as tie
 
-locate-element-requires : tie.Need-locate-element-requires
-locate-element-requires c κs = search needs
-
 returns : tie.Need-returns
 returns c = ap (λ (x : Place). x .answer) (c .locate-element .ensures .place)
 
 pub element-answer-spec : {M : Type 1} → statement M
-element-answer-spec = tie.close (tie.spec locate-element-requires returns)
+element-answer-spec = tie.close (tie.spec (λ c κs. search needs) returns)

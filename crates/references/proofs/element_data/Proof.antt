@@ -7,18 +7,6 @@ use borrow.Author.Needs.{needs}
 use Rattle.references.proofs.element_data.Statement.{statement}
 use Rattle.references.proofs.element_data.Tie as tie
 
-locate-element-requires : tie.Need-locate-element-requires
-locate-element-requires c κs = search needs
-
-sub-result : tie.Need-sub-result
-sub-result c = search needs
-
-part-result-start : tie.Need-part-result-start
-part-result-start c = search needs
-
-part-result-end : tie.Need-part-result-end
-part-result-end c = search needs
-
 returns : tie.Need-returns
 returns c =
     let a = c .before .before .before .args in
@@ -31,4 +19,4 @@ returns c =
 pub element-data-spec : {M : Type 1} → statement M
 element-data-spec =
     tie.close
-    (tie.spec locate-element-requires sub-result part-result-start part-result-end returns)
+    (tie.spec (λ c κs. search needs) (λ c. search needs) (λ c. search needs) (λ c. search needs) returns)

@@ -16,24 +16,9 @@ use borrow.Author.Needs.{needs}
 use Rattle.references.proofs.extended_front.Statement.{statement}
 use Rattle.references.proofs.extended_front.Tie as tie
 
-read-u32-requires : tie.Need-read-u32-requires
-read-u32-requires c κs = search needs
-
 returns : tie.Need-returns
 unfolding extendedFront order
 returns c = simp (ne-differ _ _ (λ z. c .if1 .taken (c .before .read-u32 .ensures ∙ z)))
-
-sub-front-answer : tie.Need-sub-front-answer
-sub-front-answer c = search needs
-
-part-front-answer-start : tie.Need-part-front-answer-start
-part-front-answer-start c = search needs
-
-part-front-answer-end : tie.Need-part-front-answer-end
-part-front-answer-end c = search needs
-
-front-answer-requires : tie.Need-front-answer-requires
-front-answer-requires c κs = search needs
 
 returns-2 : tie.Need-returns-2
 unfolding extendedFront order
@@ -41,9 +26,6 @@ returns-2 c =
     let s = c .before .before .before .before .before .before .args .s .now in
     let list = rw (take-rest s 68) at (c .before .front-answer .ensures) in
     simp (eq-differ _ _ (sym (c .before .before .before .before .read-u32 .ensures) ∙ c .before .before .before .if1 .left), ne-differ _ _ (λ z. c .if2 .taken (list ∙ z))) (list)
-
-list-end-requires : tie.Need-list-end-requires
-list-end-requires c κs = search needs
 
 -- what is left after the list
 listed : (c : tie.Else2) → extendedFront (c .before .before .before .before .before .before .args .s .now) ≡ order (ltb (length (c .before .before .before .before .before .before .args .s .now)) (listEnd (c .before .before .before .before .before .before .args .s .now) + 4) gives 13 ∷ not (isElementCount (field (c .before .before .before .before .before .before .args .s .now) (listEnd (c .before .before .before .before .before .before .args .s .now)) 4)) gives 14 ∷ ltb (length (c .before .before .before .before .before .before .args .s .now)) (listEnd (c .before .before .before .before .before .before .args .s .now) + 8) gives 13 ∷ differ (field (c .before .before .before .before .before .before .args .s .now) (listEnd (c .before .before .before .before .before .before .args .s .now) + 4) 4) extendedSignature gives 14 ∷ [])
@@ -62,9 +44,6 @@ returns-3 c =
     let short : length (c .before .before .before .before .before .before .before .before .args .s .now) < listEnd (c .before .before .before .before .before .before .before .before .args .s .now) + 4 = omega arith in
     rw (listed (c .before .before), lt-ltb _ _ short)
 
-read-u32-requires-2 : tie.Need-read-u32-requires-2
-read-u32-requires-2 c κs = search needs
-
 returns-4 : tie.Need-returns-4
 unfolding order
 returns-4 c =
@@ -82,21 +61,12 @@ numbered c =
     let number = rw end at (c .before .read-u322 .ensures) in
     rw (listed (c .before .before .before .before), le-ltb _ _ room, eq-eqb _ _ (sym number ∙ c .if4 .left))
 
-add-if5 : tie.Need-add-if5
-add-if5 c = search needs
-
 returns-5 : tie.Need-returns-5
 unfolding order
 returns-5 c =
     let end = c .before .before .before .before .list-end .ensures .0 in
     let short : length (c .before .before .before .before .before .before .before .before .before .before .before .args .s .now) < listEnd (c .before .before .before .before .before .before .before .before .before .before .before .args .s .now) + 8 = omega arith in
     rw (numbered (c .before), lt-ltb _ _ short)
-
-add-read-u32 : tie.Need-add-read-u32
-add-read-u32 c = search needs
-
-read-u32-requires-3 : tie.Need-read-u32-requires-3
-read-u32-requires-3 c κs = search needs
 
 -- the last row is left
 signed : (c : tie.After-read-u323) → extendedFront (c .before .before .before .before .before .before .before .before .before .before .before .before .args .s .now) ≡ order (differ (c .read-u323 .result) extendedSignature gives 14 ∷ [])
@@ -118,21 +88,21 @@ pub extended-front-spec : {M : Type 1} → statement M
 extended-front-spec =
     tie.close
     (tie.spec
-    read-u32-requires
+    (λ c κs. search needs)
     returns
-    sub-front-answer
-    part-front-answer-start
-    part-front-answer-end
-    front-answer-requires
+    (λ c. search needs)
+    (λ c. search needs)
+    (λ c. search needs)
+    (λ c κs. search needs)
     returns-2
-    list-end-requires
+    (λ c κs. search needs)
     add-if3
     returns-3
-    read-u32-requires-2
+    (λ c κs. search needs)
     returns-4
-    add-if5
+    (λ c. search needs)
     returns-5
-    add-read-u32
-    read-u32-requires-3
+    (λ c. search needs)
+    (λ c κs. search needs)
     returns-6
     returns-7)

@@ -15,25 +15,13 @@ returns : tie.Need-returns
 unfolding headAnswer order
 returns c = simp (lt-ltb _ _ (c .if1 .taken))
 
-read-u32-requires : tie.Need-read-u32-requires
-read-u32-requires c κs = search needs
-
 returns-2 : tie.Need-returns-2
 unfolding headAnswer order
 returns-2 c = simp (le-ltb _ _ (c .before .before .if1 .left), ne-differ _ _ (λ z. c .if2 .taken (c .before .read-u32 .ensures ∙ z)))
 
-read-u32-requires-2 : tie.Need-read-u32-requires-2
-read-u32-requires-2 c κs = search needs
-
-is-form-requires : tie.Need-is-form-requires
-is-form-requires c κs = search needs
-
 returns-3 : tie.Need-returns-3
 unfolding headAnswer order
 returns-3 c = simp (le-ltb _ _ (c .before .before .before .before .before .if1 .left), eq-differ _ _ (sym (c .before .before .before .before .read-u32 .ensures) ∙ c .before .before .before .if2 .left), ap isForm (sym (c .before .before .read-u322 .ensures)) ∙ sym (c .before .is-form .ensures) ∙ not-true _ (c .if3 .taken))
-
-fixed-size-requires : tie.Need-fixed-size-requires
-fixed-size-requires c κs = search needs
 
 returns-4 : tie.Need-returns-4
 unfolding headAnswer order
@@ -56,11 +44,11 @@ head-answer-spec =
     tie.close
     (tie.spec
     returns
-    read-u32-requires
+    (λ c κs. search needs)
     returns-2
-    read-u32-requires-2
-    is-form-requires
+    (λ c κs. search needs)
+    (λ c κs. search needs)
     returns-3
-    fixed-size-requires
+    (λ c κs. search needs)
     returns-4
     returns-5)

@@ -14,9 +14,6 @@ use borrow.Author.Needs.{needs}
 use Rattle.references.proofs.locate.Statement.{statement}
 use Rattle.references.proofs.locate.Tie as tie
 
-tail-place-requires : tie.Need-tail-place-requires
-tail-place-requires c κs = search needs
-
 returns : tie.Need-returns
 returns c =
     let place = c .before .before .tail-place .ensures in
@@ -31,9 +28,6 @@ start c = ap (λ (x : Place). x .from) (c .before .before .tail-place .ensures) 
 inside : (c : tie.Else1) → Within (length (c .before .before .before .before .args .s .now)) (c .before .before .tail-place .result)
 inside c = rw (c .before .before .tail-place .ensures) (tail-within _)
 
-read-u32-requires : tie.Need-read-u32-requires
-read-u32-requires c κs = search needs
-
 returns-2 : tie.Need-returns-2
 returns-2 c = sym (binding-custom _ _ _ (done (c .before .before)) (sym (c .before .read-u32 .ensures) ∙ c .if2 .taken))
 
@@ -45,9 +39,6 @@ part-locate-start c = inside (c .before .before) .0
 
 part-locate-end : tie.Need-part-locate-end
 part-locate-end c = inside (c .before .before) .1
-
-locate-requires : tie.Need-locate-requires
-locate-requires c κs = search needs
 
 listed : (c : tie.After-locate) → c .locate .result ≡ bindingAt (tailOf (c .before .before .before .before .before .before .before .before .args .s .now)) (c .before .before .before .before .before .before .before .before .args .p) (c .before .before .before .before .before .before .before .before .args .k)
 listed c =
@@ -85,14 +76,14 @@ pub locate-spec : {M : Type 1} → statement M
 locate-spec =
     tie.close
     (tie.spec
-    tail-place-requires
+    (λ c κs. search needs)
     returns
-    read-u32-requires
+    (λ c κs. search needs)
     returns-2
     sub-locate
     part-locate-start
     part-locate-end
-    locate-requires
+    (λ c κs. search needs)
     returns-3
     add-t11
     add-t14

@@ -14,22 +14,10 @@ use borrow.Author.Needs.{needs}
 use Rattle.references.proofs.locate_property.Statement.{statement}
 use Rattle.references.proofs.locate_property.Tie as tie
 
-reference-answer-requires : tie.Need-reference-answer-requires
-reference-answer-requires c κs = search needs
-
-refused-place-requires : tie.Need-refused-place-requires
-refused-place-requires c κs = search needs
-
 returns : tie.Need-returns
 returns c =
     let n = c .before .before .reference-answer .ensures in
     c .refused-place .ensures ∙ ap refusal n ∙ sym (property-refused _ _ (λ z. c .before .if1 .taken (n ∙ z)))
-
-read-u32-requires : tie.Need-read-u32-requires
-read-u32-requires c κs = search needs
-
-refused-place-requires-2 : tie.Need-refused-place-requires-2
-refused-place-requires-2 c κs = search needs
 
 done : (c : tie.Else1) → referenceAnswer (c .before .before .before .args .s .now) ≡ 0
 done c = sym (c .before .reference-answer .ensures) ∙ c .if1 .left
@@ -37,15 +25,6 @@ done c = sym (c .before .reference-answer .ensures) ∙ c .if1 .left
 returns-2 : tie.Need-returns-2
 returns-2 c =
     c .refused-place2 .ensures ∙ sym (property-none _ _ (done (c .before .before .before)) (λ z. c .before .if2 .taken (c .before .before .read-u32 .ensures ∙ z)))
-
-read-guid-requires : tie.Need-read-guid-requires
-read-guid-requires c κs = search needs
-
-is-marshaler-requires : tie.Need-is-marshaler-requires
-is-marshaler-requires c κs = search needs
-
-refused-place-requires-3 : tie.Need-refused-place-requires-3
-refused-place-requires-3 c κs = search needs
 
 returns-3 : tie.Need-returns-3
 returns-3 c =
@@ -60,12 +39,6 @@ sub-locate c = fixed c
 
 part-locate-start : tie.Need-part-locate-start
 part-locate-start c = fixed c
-
-part-locate-end : tie.Need-part-locate-end
-part-locate-end c = search needs
-
-locate-requires : tie.Need-locate-requires
-locate-requires c κs = search needs
 
 found : (c : tie.After-locate) → contextPlace (c .before .before .before .before .before .before .before .before .before .before .args .s .now) (c .before .before .before .before .before .before .before .before .before .before .args .k) ≡ moved 48 (c .locate .result)
 found c =
@@ -99,20 +72,20 @@ pub locate-property-spec : {M : Type 1} → statement M
 locate-property-spec =
     tie.close
     (tie.spec
-    reference-answer-requires
-    refused-place-requires
+    (λ c κs. search needs)
+    (λ c κs. search needs)
     returns
-    read-u32-requires
-    refused-place-requires-2
+    (λ c κs. search needs)
+    (λ c κs. search needs)
     returns-2
-    read-guid-requires
-    is-marshaler-requires
-    refused-place-requires-3
+    (λ c κs. search needs)
+    (λ c κs. search needs)
+    (λ c κs. search needs)
     returns-3
     sub-locate
     part-locate-start
-    part-locate-end
-    locate-requires
+    (λ c. search needs)
+    (λ c κs. search needs)
     returns-4
     add-t10
     add-t13

@@ -24,31 +24,19 @@ module _ (s : List ℕ) where
   by-high : eqb (field s 32 8) 0 ≡ false → eqb (field s 40 8) 0 ≡ false → eqb (field s 48 8) 0 ≡ true → eqb (field s 56 8) 0 ≡ hasNil (blockAt s 24)
   by-high x o l = rw (x, o, l)
 
-is-zero-requires : tie.Need-is-zero-requires
-is-zero-requires c κs = search needs
-
 returns : tie.Need-returns
 returns c = by-oxid (c .before .before .before .args .s .now) (sym (c .before .is-zero .ensures) ∙ c .if1 .taken)
-
-is-zero-requires-2 : tie.Need-is-zero-requires-2
-is-zero-requires-2 c κs = search needs
 
 returns-2 : tie.Need-returns-2
 returns-2 c =
     let p = c .before .before in
     by-oid (p .before .before .before .args .s .now) (sym (p .before .is-zero .ensures) ∙ p .if1 .left) (sym (c .before .is-zero2 .ensures) ∙ c .if2 .taken)
 
-is-zero-requires-3 : tie.Need-is-zero-requires-3
-is-zero-requires-3 c κs = search needs
-
 returns-3 : tie.Need-returns-3
 returns-3 c =
     let q = c .before .before in
     let p = q .before .before in
     by-low (p .before .before .before .args .s .now) (sym (p .before .is-zero .ensures) ∙ p .if1 .left) (sym (q .before .is-zero2 .ensures) ∙ q .if2 .left) (sym (c .before .is-zero3 .ensures) ∙ not-true _ (c .if3 .taken))
-
-is-zero-requires-4 : tie.Need-is-zero-requires-4
-is-zero-requires-4 c κs = search needs
 
 returns-4 : tie.Need-returns-4
 returns-4 c =
@@ -61,11 +49,11 @@ pub nil-block-spec : {M : Type 1} → statement M
 nil-block-spec =
     tie.close
     (tie.spec
-    is-zero-requires
+    (λ c κs. search needs)
     returns
-    is-zero-requires-2
+    (λ c κs. search needs)
     returns-2
-    is-zero-requires-3
+    (λ c κs. search needs)
     returns-3
-    is-zero-requires-4
+    (λ c κs. search needs)
     returns-4)

@@ -4,12 +4,6 @@ use borrow.Author.Needs.{needs}
 use Rattle.references.proofs.object_answer.Statement.{statement}
 use Rattle.references.proofs.object_answer.Tie as tie
 
-is-marshaler-requires : tie.Need-is-marshaler-requires
-is-marshaler-requires c κs = search needs
-
-context-answer-requires : tie.Need-context-answer-requires
-context-answer-requires c κs = search needs
-
 returns : tie.Need-returns
 unfolding objectAnswer
 returns c = rw (sym (c .before .before .is-marshaler .ensures) ∙ c .before .if1 .taken) (c .context-answer .ensures)
@@ -20,4 +14,4 @@ returns-2 c = rw (sym (c .before .is-marshaler .ensures) ∙ c .if1 .left)
 
 pub object-answer-spec : {M : Type 1} → statement M
 object-answer-spec =
-    tie.close (tie.spec is-marshaler-requires context-answer-requires returns returns-2)
+    tie.close (tie.spec (λ c κs. search needs) (λ c κs. search needs) returns returns-2)

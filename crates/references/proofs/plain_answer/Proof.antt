@@ -11,12 +11,6 @@ use borrow.Author.Needs.{needs}
 use Rattle.references.proofs.plain_answer.Statement.{statement}
 use Rattle.references.proofs.plain_answer.Tie as tie
 
-read-u32-requires : tie.Need-read-u32-requires
-read-u32-requires c κs = search needs
-
-read-guid-requires : tie.Need-read-guid-requires
-read-guid-requires c κs = search needs
-
 sub-object-answer : tie.Need-sub-object-answer
 sub-object-answer c =
     let f = sym (c .before .before .read-u32 .ensures) ∙ c .before .if1 .taken in
@@ -31,12 +25,6 @@ part-object-answer-start c =
     let l : 48 ≤ length (c .before .before .before .before .args .s .now) = custom-room _ f h in
     omega arith
 
-part-object-answer-end : tie.Need-part-object-answer-end
-part-object-answer-end c = search needs
-
-object-answer-requires : tie.Need-object-answer-requires
-object-answer-requires c κs = search needs
-
 returns : tie.Need-returns
 unfolding plainAnswer
 returns c =
@@ -44,9 +32,6 @@ returns c =
     let f = sym (c .before .before .before .before .read-u32 .ensures) ∙ c .before .before .before .if1 .taken in
     let e = rw (c .before .before .read-guid .ensures, take-rest s 48) at (c .object-answer .ensures) in
     rw f e
-
-fixed-size-requires : tie.Need-fixed-size-requires
-fixed-size-requires c κs = search needs
 
 sub-list-answer : tie.Need-sub-list-answer
 sub-list-answer c =
@@ -59,12 +44,6 @@ part-list-answer-start c =
     let size = c .fixed-size .ensures ∙ ap fixedSize (c .before .before .read-u32 .ensures) in
     let h = headed _ (c .before .before .before .before .pre) .fixed in
     omega arith
-
-part-list-answer-end : tie.Need-part-list-answer-end
-part-list-answer-end c = search needs
-
-list-answer-requires : tie.Need-list-answer-requires
-list-answer-requires c κs = search needs
 
 returns-2 : tie.Need-returns-2
 unfolding plainAnswer
@@ -79,16 +58,16 @@ pub plain-answer-spec : {M : Type 1} → statement M
 plain-answer-spec =
     tie.close
     (tie.spec
-    read-u32-requires
-    read-guid-requires
+    (λ c κs. search needs)
+    (λ c κs. search needs)
     sub-object-answer
     part-object-answer-start
-    part-object-answer-end
-    object-answer-requires
+    (λ c. search needs)
+    (λ c κs. search needs)
     returns
-    fixed-size-requires
+    (λ c κs. search needs)
     sub-list-answer
     part-list-answer-start
-    part-list-answer-end
-    list-answer-requires
+    (λ c. search needs)
+    (λ c κs. search needs)
     returns-2)

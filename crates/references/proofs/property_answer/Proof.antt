@@ -5,11 +5,8 @@ use borrow.Author.Needs.{needs}
 use Rattle.references.proofs.property_answer.Statement.{statement}
 use Rattle.references.proofs.property_answer.Tie as tie
 
-locate-property-requires : tie.Need-locate-property-requires
-locate-property-requires c κs = search needs
-
 returns : tie.Need-returns
 returns c = ap (λ (x : Place). x .answer) (c .locate-property .ensures)
 
 pub property-answer-spec : {M : Type 1} → statement M
-property-answer-spec = tie.close (tie.spec locate-property-requires returns)
+property-answer-spec = tie.close (tie.spec (λ c κs. search needs) returns)

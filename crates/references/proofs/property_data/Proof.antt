@@ -10,9 +10,6 @@ use borrow.Author.Needs.{needs}
 use Rattle.references.proofs.property_data.Statement.{statement}
 use Rattle.references.proofs.property_data.Tie as tie
 
-locate-property-requires : tie.Need-locate-property-requires
-locate-property-requires c κs = search needs
-
 within : (c : tie.After-locate-property) → Within (length (c .before .before .args .s .now)) (c .locate-property .result)
 within c = rw (c .locate-property .ensures) (context-within _ _)
 
@@ -34,4 +31,4 @@ returns c =
 pub property-data-spec : {M : Type 1} → statement M
 property-data-spec =
     tie.close
-    (tie.spec locate-property-requires sub-result part-result-start part-result-end returns)
+    (tie.spec (λ c κs. search needs) sub-result part-result-start part-result-end returns)

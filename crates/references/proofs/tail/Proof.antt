@@ -10,9 +10,6 @@ use borrow.Author.Needs.{needs}
 use Rattle.references.proofs.tail.Statement.{statement}
 use Rattle.references.proofs.tail.Tie as tie
 
-tail-place-requires : tie.Need-tail-place-requires
-tail-place-requires c κs = search needs
-
 within : (c : tie.After-tail-place) → Within (length (c .before .before .args .s .now)) (c .tail-place .result)
 within c = rw (c .tail-place .ensures) (tail-within _)
 
@@ -33,4 +30,4 @@ returns c =
 
 pub tail-spec : {M : Type 1} → statement M
 tail-spec =
-    tie.close (tie.spec tail-place-requires sub-result part-result-start part-result-end returns)
+    tie.close (tie.spec (λ c κs. search needs) sub-result part-result-start part-result-end returns)

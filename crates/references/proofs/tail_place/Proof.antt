@@ -9,23 +9,11 @@ use borrow.Author.Needs.{needs}
 use Rattle.references.proofs.tail_place.Statement.{statement}
 use Rattle.references.proofs.tail_place.Tie as tie
 
-reference-answer-requires : tie.Need-reference-answer-requires
-reference-answer-requires c κs = search needs
-
-refused-place-requires : tie.Need-refused-place-requires
-refused-place-requires c κs = search needs
-
 returns : tie.Need-returns
 unfolding tailPlace
 returns c =
     let n = c .before .before .reference-answer .ensures in
     rw (ne-eqb _ _ (λ z. c .before .if1 .taken (n ∙ z))) (c .refused-place .ensures ∙ ap refusal n)
-
-read-u32-requires : tie.Need-read-u32-requires
-read-u32-requires c κs = search needs
-
-list-end-requires : tie.Need-list-end-requires
-list-end-requires c κs = search needs
 
 returns-2 : tie.Need-returns-2
 unfolding tailPlace fixedSize
@@ -33,9 +21,6 @@ returns-2 c =
     let n = c .before .before .before .before .reference-answer .ensures in
     let f = sym (c .before .before .read-u32 .ensures) ∙ c .before .if2 .taken in
     rw (eq-eqb _ _ (sym n ∙ c .before .before .before .if1 .left), f) (λ u. record { answer = 0; from = 68; to = c .list-end .ensures .0 u })
-
-fixed-size-requires : tie.Need-fixed-size-requires
-fixed-size-requires c κs = search needs
 
 returns-3 : tie.Need-returns-3
 unfolding tailPlace
@@ -49,11 +34,11 @@ pub tail-place-spec : {M : Type 1} → statement M
 tail-place-spec =
     tie.close
     (tie.spec
-    reference-answer-requires
-    refused-place-requires
+    (λ c κs. search needs)
+    (λ c κs. search needs)
     returns
-    read-u32-requires
-    list-end-requires
+    (λ c κs. search needs)
+    (λ c κs. search needs)
     returns-2
-    fixed-size-requires
+    (λ c κs. search needs)
     returns-3)

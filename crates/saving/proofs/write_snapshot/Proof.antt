@@ -6,21 +6,12 @@ use borrow.Author.Needs.{needs}
 use Rattle.saving.proofs.write_snapshot.Statement.{statement}
 use Rattle.saving.proofs.write_snapshot.Tie as tie
 
-sound-requires : tie.Need-sound-requires
-sound-requires c κs = search needs
-
-refused-requires : tie.Need-refused-requires
-refused-requires c κs = search needs
-
 returns : tie.Need-returns
 unfolding refusedReply results
 returns c = rw (c .refused .ensures) (unsound-call (c .before .before .sound .ensures) _ refl (c .before .if1 .taken))
 
 write-snapshot-step-requires : tie.Need-write-snapshot-step-requires
 write-snapshot-step-requires c κs = sound-table (c .before .before .sound .ensures) (c .before .if1 .left)
-
-same-length : tie.Need-same-length
-same-length c = search needs
 
 returns-2 : tie.Need-returns-2
 returns-2 c =
@@ -33,9 +24,9 @@ pub write-snapshot-spec : {M : Type 1} → statement M
 write-snapshot-spec =
     tie.close
     (tie.spec
-    sound-requires
-    refused-requires
+    (λ c κs. search needs)
+    (λ c κs. search needs)
     returns
     write-snapshot-step-requires
-    same-length
+    (λ c. search needs)
     returns-2)

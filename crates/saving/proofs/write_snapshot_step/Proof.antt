@@ -40,12 +40,6 @@ module _ (ws store buffer : List ℕ) {n : ℕ} (counted : n ≡ length (snapsho
   unfolding number refusals
   enough fits = rows-end (row-passes _ 15 [] refl (le-ltb (length buffer) (length (snapshotBytes (view (memory ws store)))) (omega arith)))
 
-snapshot-length-requires : tie.Need-snapshot-length-requires
-snapshot-length-requires c κs = search needs
-
-refused-requires : tie.Need-refused-requires
-refused-requires c κs = search needs
-
 returns : tie.Need-returns
 unfolding refusedReply results
 returns c =
@@ -55,9 +49,6 @@ returns c =
 
 put-snapshot-requires : tie.Need-put-snapshot-requires
 put-snapshot-requires c κs = let n = c .before .before .snapshot-length .ensures in (c .before .before .before .before .before .before .pre, omega arith)
-
-same-length : tie.Need-same-length
-same-length c = search needs
 
 returns-2 : tie.Need-returns-2
 unfolding next
@@ -73,9 +64,9 @@ pub write-snapshot-step-spec : {M : Type 1} → statement M
 write-snapshot-step-spec =
     tie.close
     (tie.spec
-    snapshot-length-requires
-    refused-requires
+    (λ c κs. search needs)
+    (λ c κs. search needs)
     returns
     put-snapshot-requires
-    same-length
+    (λ c. search needs)
     returns-2)

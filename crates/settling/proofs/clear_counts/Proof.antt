@@ -20,20 +20,11 @@ Inv-loop words₀ client i₀ words i = (length words ≡ 8192) × ((s : List �
 abbrev μ-loop : tie.MeasureT-loop
 μ-loop words₀ client i₀ words i = i
 
-interface-count-requires : tie.Need-interface-count-requires Inv-loop μ-loop
-interface-count-requires c κs = search needs
-
 loop-holds : tie.Need-loop-holds Inv-loop μ-loop
 loop-holds c =
     let start = c .before .before .before in
     let ws = start .args .words .now in
     (search needs, λ s. going-none (λ e. e .interfaces) (λ e. noneOf (start .args .client)) (cleared (start .args .client)) noInterface (view (memory ws s)) _ (c .interface-count .ensures .0 ∙ sym (interfaces-length ws)))
-
-sub-i : tie.Need-sub-i Inv-loop μ-loop
-sub-i c = omega arith
-
-add-put-count : tie.Need-add-put-count Inv-loop μ-loop
-add-put-count c = search needs
 
 put-count-requires : tie.Need-put-count-requires Inv-loop μ-loop
 put-count-requires c κs =
@@ -42,17 +33,11 @@ put-count-requires c κs =
     let g = l .inv .1 (l .words) .within in
     (l .inv .0, omega arith, omega arith)
 
-loop-less : tie.Need-loop-less Inv-loop μ-loop
-loop-less c = omega arith
-
 loop-again : tie.Need-loop-again Inv-loop μ-loop
 loop-again c =
     let l = c .before .before .before .before .before .loop in
     let start = c .before .before .before .before .before .before .before .before .before in
     (search needs, λ s. rw (c .before .before .put-count .ensures s, add-one (start .args .client)) (clearing-row (start .args .client) (view (memory (start .args .words .now) s)) (view (memory (l .words) s)) (l .i) (l .inv .1 s) _ (omega arith)))
-
-same-length : tie.Need-same-length Inv-loop μ-loop
-same-length c = search needs
 
 returns : tie.Need-returns Inv-loop μ-loop
 returns c s =
@@ -66,12 +51,12 @@ clear-counts-spec =
     (tie.spec
     Inv-loop
     μ-loop
-    interface-count-requires
+    (λ c κs. search needs)
     loop-holds
-    sub-i
-    add-put-count
+    (λ c. omega arith)
+    (λ c. search needs)
     put-count-requires
-    loop-less
+    (λ c. omega arith)
     loop-again
-    same-length
+    (λ c. search needs)
     returns)

@@ -25,9 +25,6 @@ Inv-loop words₀ why i₀ words i =
 abbrev μ-loop : tie.MeasureT-loop
 μ-loop words₀ why i₀ words i = i
 
-object-count-requires : tie.Need-object-count-requires Inv-loop μ-loop
-object-count-requires c κs = search needs
-
 loop-holds : tie.Need-loop-holds Inv-loop μ-loop
 loop-holds c =
     let start = c .before .before .before in
@@ -38,18 +35,12 @@ loop-holds c =
       start .pre .2,
     )
 
-sub-i : tie.Need-sub-i Inv-loop μ-loop
-sub-i c = omega arith
-
 leave-requires : tie.Need-leave-requires Inv-loop μ-loop
 leave-requires c κs =
     let l = c .before .before .loop in
     let n = objects-length (l .words) in
     let g = l .inv .1 (l .words) .within in
     (l .inv .0, omega arith, l .inv .2, l .inv .3)
-
-loop-less : tie.Need-loop-less Inv-loop μ-loop
-loop-less c = omega arith
 
 loop-again : tie.Need-loop-again Inv-loop μ-loop
 loop-again c =
@@ -61,9 +52,6 @@ loop-again c =
       b .1,
       ap (λ (f : Entries). distinct eqb (oids f)) (b .0 (l .words)) ∙ distinct-left (start .args .why) _ (view (memory (l .words) (l .words))) (l .inv .3),
     )
-
-same-length : tie.Need-same-length Inv-loop μ-loop
-same-length c = search needs
 
 returns : tie.Need-returns Inv-loop μ-loop
 returns c =
@@ -79,11 +67,11 @@ drop-objects-spec =
     (tie.spec
     Inv-loop
     μ-loop
-    object-count-requires
+    (λ c κs. search needs)
     loop-holds
-    sub-i
+    (λ c. omega arith)
     leave-requires
-    loop-less
+    (λ c. omega arith)
     loop-again
-    same-length
+    (λ c. search needs)
     returns)

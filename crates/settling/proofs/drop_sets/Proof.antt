@@ -20,17 +20,11 @@ Inv-loop words₀ time i₀ words i = (length words ≡ 8192) × ((s : List ℕ)
 abbrev μ-loop : tie.MeasureT-loop
 μ-loop words₀ time i₀ words i = i
 
-set-count-requires : tie.Need-set-count-requires Inv-loop μ-loop
-set-count-requires c κs = search needs
-
 loop-holds : tie.Need-loop-holds Inv-loop μ-loop
 loop-holds c =
     let start = c .before .before .before in
     let ws = start .args .words .now in
     (search needs, λ s. going-none (λ e. e .sets) (λ e. pingedWithin (start .args .time)) (setsLeft (start .args .time)) noSet (view (memory ws s)) _ (c .set-count .ensures .0 ∙ sym (sets-length ws)))
-
-sub-i : tie.Need-sub-i Inv-loop μ-loop
-sub-i c = omega arith
 
 leave-set-requires : tie.Need-leave-set-requires Inv-loop μ-loop
 leave-set-requires c κs =
@@ -39,17 +33,11 @@ leave-set-requires c κs =
     let g = l .inv .1 (l .words) .within in
     (l .inv .0, omega arith)
 
-loop-less : tie.Need-loop-less Inv-loop μ-loop
-loop-less c = omega arith
-
 loop-again : tie.Need-loop-again Inv-loop μ-loop
 loop-again c =
     let l = c .before .before .before .before .before .loop in
     let start = c .before .before .before .before .before .before .before .before .before in
     (search needs, λ s. rw (c .before .before .leave-set .ensures s) (sets-row (start .args .time) (view (memory (start .args .words .now) s)) (view (memory (l .words) s)) (l .i) (l .inv .1 s) _ (omega arith)))
-
-same-length : tie.Need-same-length Inv-loop μ-loop
-same-length c = search needs
 
 returns : tie.Need-returns Inv-loop μ-loop
 returns c s =
@@ -63,11 +51,11 @@ drop-sets-spec =
     (tie.spec
     Inv-loop
     μ-loop
-    set-count-requires
+    (λ c κs. search needs)
     loop-holds
-    sub-i
+    (λ c. omega arith)
     leave-set-requires
-    loop-less
+    (λ c. omega arith)
     loop-again
-    same-length
+    (λ c. search needs)
     returns)

@@ -15,27 +15,6 @@ use Rattle.settling.proofs.is_staying.Tie as tie
 differs : (r x y : ℕ) → r ≡ y → not (eqb r x) ≡ not (eqb x y)
 differs r x y e = ap not (same-comm eqb eqb-decides r x) ∙ ap (λ (k : ℕ). not (eqb x k)) e
 
-enum-known-why : tie.Need-enum-known-why
-enum-known-why c = search needs
-
-object-exporter-requires : tie.Need-object-exporter-requires
-object-exporter-requires c κs = search needs
-
-enum-told : tie.Need-enum-told
-enum-told c = search needs
-
-oid-requires : tie.Need-oid-requires
-oid-requires c κs = search needs
-
-is-served-requires : tie.Need-is-served-requires
-is-served-requires c κs = search needs
-
-enum-known-why-2 : tie.Need-enum-known-why-2
-enum-known-why-2 c = search needs
-
-is-heard-within-requires : tie.Need-is-heard-within-requires
-is-heard-within-requires c κs = search needs
-
 returns : tie.Need-returns
 returns c s =
     rw (c .before .before .before .before .why .given .1)
@@ -54,13 +33,13 @@ pub is-staying-spec : {M : Type 1} → statement M
 is-staying-spec =
     tie.close
     (tie.spec
-    enum-known-why
-    object-exporter-requires
-    enum-told
-    oid-requires
-    is-served-requires
-    enum-known-why-2
-    is-heard-within-requires
+    (λ c. search needs)
+    (λ c κs. search needs)
+    (λ c. search needs)
+    (λ c κs. search needs)
+    (λ c κs. search needs)
+    (λ c. search needs)
+    (λ c κs. search needs)
     returns
     returns-2
     returns-3)

@@ -4,22 +4,10 @@ use borrow.Author.Needs.{needs}
 use Rattle.settling.proofs.leave.Statement.{statement}
 use Rattle.settling.proofs.leave.Tie as tie
 
-is-staying-requires : tie.Need-is-staying-requires
-is-staying-requires c κs = search needs
-
-same-length : tie.Need-same-length
-same-length c = search needs
-
 returns : tie.Need-returns
 returns c =
     let start = c .before .before .before .before in
     ((λ s. rw (sym (c .before .is-staying .ensures s) ∙ c .if1 .taken)), start .pre .2)
-
-remove-object-requires : tie.Need-remove-object-requires
-remove-object-requires c κs = search needs
-
-same-length-2 : tie.Need-same-length-2
-same-length-2 c = search needs
 
 returns-2 : tie.Need-returns-2
 returns-2 c =
@@ -31,9 +19,9 @@ pub leave-spec : {M : Type 1} → statement M
 leave-spec =
     tie.close
     (tie.spec
-    is-staying-requires
-    same-length
+    (λ c κs. search needs)
+    (λ c. search needs)
     returns
-    remove-object-requires
-    same-length-2
+    (λ c κs. search needs)
+    (λ c. search needs)
     returns-2)

@@ -4,20 +4,8 @@ use borrow.Author.Needs.{needs}
 use Rattle.settling.proofs.leave_unheld.Statement.{statement}
 use Rattle.settling.proofs.leave_unheld.Tie as tie
 
-is-held-requires : tie.Need-is-held-requires
-is-held-requires c κs = search needs
-
-same-length : tie.Need-same-length
-same-length c = search needs
-
 returns : tie.Need-returns
 returns c s = let start = c .before .before .before .before in rw (sym (c .before .is-held .ensures) ∙ c .if1 .taken)
-
-remove-interface-requires : tie.Need-remove-interface-requires
-remove-interface-requires c κs = search needs
-
-same-length-2 : tie.Need-same-length-2
-same-length-2 c = search needs
 
 returns-2 : tie.Need-returns-2
 returns-2 c s = let b = c .before .before .before .before in rw (sym (b .before .is-held .ensures) ∙ b .if1 .left) (c .before .before .remove-interface .ensures s)
@@ -26,9 +14,9 @@ pub leave-unheld-spec : {M : Type 1} → statement M
 leave-unheld-spec =
     tie.close
     (tie.spec
-    is-held-requires
-    same-length
+    (λ c κs. search needs)
+    (λ c. search needs)
     returns
-    remove-interface-requires
-    same-length-2
+    (λ c κs. search needs)
+    (λ c. search needs)
     returns-2)

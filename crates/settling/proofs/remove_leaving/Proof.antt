@@ -5,18 +5,9 @@ use borrow.Author.Needs.{needs}
 use Rattle.settling.proofs.remove_leaving.Statement.{statement}
 use Rattle.settling.proofs.remove_leaving.Tie as tie
 
-drop-objects-requires : tie.Need-drop-objects-requires
-drop-objects-requires c κs = search needs
-
-drop-interfaces-requires : tie.Need-drop-interfaces-requires
-drop-interfaces-requires c κs = search needs
-
-same-length : tie.Need-same-length
-same-length c = search needs
-
 returns : tie.Need-returns
 returns c s = c .before .before .drop-interfaces .ensures s ∙ ap interfacesLeft (c .before .before .before .before .before .before .drop-objects .ensures .0 s)
 
 pub remove-leaving-spec : {M : Type 1} → statement M
 remove-leaving-spec =
-    tie.close (tie.spec drop-objects-requires drop-interfaces-requires same-length returns)
+    tie.close (tie.spec (λ c κs. search needs) (λ c κs. search needs) (λ c. search needs) returns)

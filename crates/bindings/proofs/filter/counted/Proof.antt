@@ -4,9 +4,6 @@ use borrow.Author.Needs.{needs}
 use Rattle.bindings.proofs.filter.counted.Statement.{statement}
 use Rattle.bindings.proofs.filter.counted.Tie as tie
 
-is-requested-requires : tie.Need-is-requested-requires
-is-requested-requires c κs = search needs
-
 returns : tie.Need-returns
 returns c = rw (sym (c .before .is-requested .ensures) ∙ c .if1 .taken)
 
@@ -14,4 +11,4 @@ returns-2 : tie.Need-returns-2
 returns-2 c = rw (sym (c .before .is-requested .ensures) ∙ c .if1 .left)
 
 pub counted-spec : {M : Type 1} → statement M
-counted-spec = tie.close (tie.spec is-requested-requires returns returns-2)
+counted-spec = tie.close (tie.spec (λ c κs. search needs) returns returns-2)

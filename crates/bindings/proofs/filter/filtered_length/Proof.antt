@@ -9,18 +9,6 @@ use borrow.Author.Needs.{needs}
 use Rattle.bindings.proofs.filter.filtered_length.Statement.{statement}
 use Rattle.bindings.proofs.filter.filtered_length.Tie as tie
 
-read-u16-requires : tie.Need-read-u16-requires
-read-u16-requires c κs = search needs
-
-cast-n : tie.Need-cast-n
-cast-n c = search needs
-
-read-u16-requires-2 : tie.Need-read-u16-requires-2
-read-u16-requires-2 c κs = search needs
-
-cast-k : tie.Need-cast-k
-cast-k c = search needs
-
 returns : tie.Need-returns
 returns c =
     let a = c .before .before .before .before .before .args in
@@ -32,15 +20,6 @@ requested-words-requires c κs = let h = accepted _ (c .before .before .before .
 
 sub-result : tie.Need-sub-result
 sub-result c = let h = accepted _ (c .before .before .before .before .before .before .pre) in omega arith
-
-add-result : tie.Need-add-result
-add-result c = search needs
-
-mul-result : tie.Need-mul-result
-mul-result c = search needs
-
-add-result-2 : tie.Need-add-result-2
-add-result-2 c = search needs
 
 returns-2 : tie.Need-returns-2
 returns-2 c =
@@ -54,14 +33,14 @@ pub filtered-length-spec : {M : Type 1} → statement M
 filtered-length-spec =
     tie.close
     (tie.spec
-    read-u16-requires
-    cast-n
-    read-u16-requires-2
-    cast-k
+    (λ c κs. search needs)
+    (λ c. search needs)
+    (λ c κs. search needs)
+    (λ c. search needs)
     returns
     requested-words-requires
     sub-result
-    add-result
-    mul-result
-    add-result-2
+    (λ c. search needs)
+    (λ c. search needs)
+    (λ c. search needs)
     returns-2)

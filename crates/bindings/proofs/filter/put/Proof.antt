@@ -6,15 +6,6 @@ use Rattle.fields.proofs.Fields.{written-none}
 use Rattle.bindings.proofs.filter.put.Statement.{statement}
 use Rattle.bindings.proofs.filter.put.Tie as tie
 
-copy-requires : tie.Need-copy-requires
-copy-requires c κs = search needs
-
-add-result : tie.Need-add-result
-add-result c = search needs
-
-same-length : tie.Need-same-length
-same-length c = search needs
-
 returns : tie.Need-returns
 returns c = rw (c .before .before .before .before .if1 .taken) (refl, c .before .before .copy .ensures)
 
@@ -22,4 +13,4 @@ returns-2 : tie.Need-returns-2
 returns-2 c = rw (c .if1 .left) (sym (add-zero _), sym (written-none _ _))
 
 pub put-spec : {M : Type 1} → statement M
-put-spec = tie.close (tie.spec copy-requires add-result same-length returns returns-2)
+put-spec = tie.close (tie.spec (λ c κs. search needs) (λ c. search needs) (λ c. search needs) returns returns-2)

@@ -12,24 +12,6 @@ use borrow.Author.Needs.{needs}
 use Rattle.bindings.proofs.filter.put_filtered.Statement.{statement}
 use Rattle.bindings.proofs.filter.put_filtered.Tie as tie
 
-read-u16-requires : tie.Need-read-u16-requires
-read-u16-requires c κs = search needs
-
-cast-n : tie.Need-cast-n
-cast-n c = search needs
-
-read-u16-requires-2 : tie.Need-read-u16-requires-2
-read-u16-requires-2 c κs = search needs
-
-cast-k : tie.Need-cast-k
-cast-k c = search needs
-
-copy-requires : tie.Need-copy-requires
-copy-requires c κs = search needs
-
-same-length : tie.Need-same-length
-same-length c = search needs
-
 returns : tie.Need-returns
 returns c =
     let a = c .before .before .before .before .before .before .before .before .before .before .args in
@@ -50,29 +32,14 @@ few : (c : tie.After-requested-words) → c .requested-words .result + 1 + (c .b
 few c =
     filtered-count (c .before .before .before .before .before .before .before .args .protocols .now) (c .before .before .before .before .before .before .before .args .s .now) (c .before .before .before .before .before .before .before .pre .0) (some c) (bytes c) _ _ _ (c .before .before .before .read-u16 .ensures) (c .before .before .read-u162 .ensures) (c .requested-words .ensures .0)
 
-add-write-u16 : tie.Need-add-write-u16
-add-write-u16 c = search needs
-
 sub-write-u16 : tie.Need-sub-write-u16
 sub-write-u16 c = let h = accepted _ (c .before .before .before .before .before .before .before .before .pre .0) in omega arith
-
-add-write-u16-2 : tie.Need-add-write-u16-2
-add-write-u16-2 c = search needs
 
 cast-write-u16 : tie.Need-cast-write-u16
 cast-write-u16 c = let h = few (c .before) in omega arith
 
-write-u16-requires : tie.Need-write-u16-requires
-write-u16-requires c κs = search needs
-
-add-write-u16-3 : tie.Need-add-write-u16-3
-add-write-u16-3 c = search needs
-
 cast-write-u16-2 : tie.Need-cast-write-u16-2
 cast-write-u16-2 c = let h = few (c .before .before .before .before .before) in omega arith
-
-write-u16-requires-2 : tie.Need-write-u16-requires-2
-write-u16-requires-2 c κs = search needs
 
 put-requested-requires : tie.Need-put-requested-requires
 unfolding listLength
@@ -87,18 +54,6 @@ put-requested-requires c κs =
     let l₂ = simp length-written at (ap length (c .before .before .before .write-u162 .ensures)) in
     (omega arith, omega arith)
 
-mul-rest : tie.Need-mul-rest
-mul-rest c = search needs
-
-add-rest : tie.Need-add-rest
-add-rest c = search needs
-
-mul-copy : tie.Need-mul-copy
-mul-copy c = search needs
-
-add-copy : tie.Need-add-copy
-add-copy c = search needs
-
 sub-copy : tie.Need-sub-copy
 unfolding listLength
 sub-copy c = let h = accepted _ (c .before .before .before .before .before .before .before .before .before .before .before .before .before .before .before .before .before .before .before .before .pre .0) in omega arith
@@ -106,15 +61,6 @@ sub-copy c = let h = accepted _ (c .before .before .before .before .before .befo
 part-copy-start : tie.Need-part-copy-start
 unfolding listLength
 part-copy-start c = let h = accepted _ (c .before .before .before .before .before .before .before .before .before .before .before .before .before .before .before .before .before .before .before .before .pre .0) in omega arith
-
-part-copy-end : tie.Need-part-copy-end
-part-copy-end c = search needs
-
-copy-requires-2 : tie.Need-copy-requires-2
-copy-requires-2 c κs = search needs
-
-same-length-2 : tie.Need-same-length-2
-same-length-2 c = search needs
 
 returns-2 : tie.Need-returns-2
 returns-2 c =
@@ -127,30 +73,30 @@ pub put-filtered-spec : {M : Type 1} → statement M
 put-filtered-spec =
     tie.close
     (tie.spec
-    read-u16-requires
-    cast-n
-    read-u16-requires-2
-    cast-k
-    copy-requires
-    same-length
+    (λ c κs. search needs)
+    (λ c. search needs)
+    (λ c κs. search needs)
+    (λ c. search needs)
+    (λ c κs. search needs)
+    (λ c. search needs)
     returns
     requested-words-requires
-    add-write-u16
+    (λ c. search needs)
     sub-write-u16
-    add-write-u16-2
+    (λ c. search needs)
     cast-write-u16
-    write-u16-requires
-    add-write-u16-3
+    (λ c κs. search needs)
+    (λ c. search needs)
     cast-write-u16-2
-    write-u16-requires-2
+    (λ c κs. search needs)
     put-requested-requires
-    mul-rest
-    add-rest
-    mul-copy
-    add-copy
+    (λ c. search needs)
+    (λ c. search needs)
+    (λ c. search needs)
+    (λ c. search needs)
     sub-copy
     part-copy-start
-    part-copy-end
-    copy-requires-2
-    same-length-2
+    (λ c. search needs)
+    (λ c κs. search needs)
+    (λ c. search needs)
     returns-2)

@@ -28,12 +28,6 @@ abbrev μ-loop : tie.MeasureT-loop
 loop-holds : tie.Need-loop-holds Inv-loop μ-loop
 loop-holds c = (search needs, refl, search needs, refl)
 
-word-requires : tie.Need-word-requires Inv-loop μ-loop
-word-requires c κs = omega arith
-
-same-length : tie.Need-same-length Inv-loop μ-loop
-same-length c = search needs
-
 returns : tie.Need-returns Inv-loop μ-loop
 returns c =
     let a = c .before .before .before .before .before .before .before .args in
@@ -44,27 +38,6 @@ returns c =
 -- the bytes of s
 bytes : (c : tie.After-binding-words Inv-loop μ-loop) → Bytes (c .before .before .before .before .before .before .before .before .args .s .now)
 bytes c i = omega (arith, c .before .before .before .before .before .before .before .shared-slice-known .given i)
-
-binding-words-requires : tie.Need-binding-words-requires Inv-loop μ-loop
-binding-words-requires c κs = search needs
-
-mul-end : tie.Need-mul-end Inv-loop μ-loop
-mul-end c = omega arith
-
-add-end : tie.Need-add-end Inv-loop μ-loop
-add-end c = omega arith
-
-sub-put : tie.Need-sub-put Inv-loop μ-loop
-sub-put c = omega arith
-
-part-put-start : tie.Need-part-put-start Inv-loop μ-loop
-part-put-start c = omega arith
-
-part-put-end : tie.Need-part-put-end Inv-loop μ-loop
-part-put-end c = omega arith
-
-is-requested-requires : tie.Need-is-requested-requires Inv-loop μ-loop
-is-requested-requires c κs = search needs
 
 put-requires : tie.Need-put-requires Inv-loop μ-loop
 put-requires c κs =
@@ -78,12 +51,6 @@ put-requires c κs =
     let q : c .is-requested .result ≡ among (a .protocols .now) (field (a .s .now) (l .i) 2) = c .is-requested .ensures ∙ ap (among (a .protocols .now)) r in
     let room = put-room (a .protocols .now) (a .s .now) (l .i) (l .left) (bytes w) (l .inv .0) (omega arith) (λ z. w .before .if1 .left (r ∙ z)) m (b .0) (omega arith) (l .next) (length (l .buf)) (l .inv .2) in
     rw (q, k) (omega arith)
-
-sub-left : tie.Need-sub-left Inv-loop μ-loop
-sub-left c = omega arith
-
-loop-less : tie.Need-loop-less Inv-loop μ-loop
-loop-less c = omega arith
 
 loop-again : tie.Need-loop-again Inv-loop μ-loop
 loop-again c =
@@ -103,9 +70,6 @@ loop-again c =
     let same : length (c .before .before .put .last .0) ≡ length (l .buf) = ap length (p .1) ∙ n in
     (omega arith, same ∙ l .inv .1, rw (p .0, same) room, rw (p .0, p .1) (step ∙ l .inv .3))
 
-same-length-2 : tie.Need-same-length-2 Inv-loop μ-loop
-same-length-2 c = search needs
-
 returns-2 : tie.Need-returns-2 Inv-loop μ-loop
 returns-2 c =
     let a = c .before .before .before .before .before .args in
@@ -119,19 +83,19 @@ put-requested-spec =
     Inv-loop
     μ-loop
     loop-holds
-    word-requires
-    same-length
+    (λ c κs. omega arith)
+    (λ c. search needs)
     returns
-    binding-words-requires
-    mul-end
-    add-end
-    sub-put
-    part-put-start
-    part-put-end
-    is-requested-requires
+    (λ c κs. search needs)
+    (λ c. omega arith)
+    (λ c. omega arith)
+    (λ c. omega arith)
+    (λ c. omega arith)
+    (λ c. omega arith)
+    (λ c κs. search needs)
     put-requires
-    sub-left
-    loop-less
+    (λ c. omega arith)
+    (λ c. omega arith)
     loop-again
-    same-length-2
+    (λ c. search needs)
     returns-2)

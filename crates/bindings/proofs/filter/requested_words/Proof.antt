@@ -23,9 +23,6 @@ abbrev μ-loop : tie.MeasureT-loop
 loop-holds : tie.Need-loop-holds Inv-loop μ-loop
 loop-holds c = (search needs, omega arith, zero-add _)
 
-word-requires : tie.Need-word-requires Inv-loop μ-loop
-word-requires c κs = omega arith
-
 returns : tie.Need-returns Inv-loop μ-loop
 returns c =
     let a = c .before .before .before .before .before .before .args in
@@ -34,29 +31,11 @@ returns c =
     let e = ap length (requested-end (a .protocols .now) (a .s .now) (l .i) (l .left) (omega arith) z) in
     omega arith
 
-binding-words-requires : tie.Need-binding-words-requires Inv-loop μ-loop
-binding-words-requires c κs = search needs
-
-counted-requires : tie.Need-counted-requires Inv-loop μ-loop
-counted-requires c κs = search needs
-
 add-sum : tie.Need-add-sum Inv-loop μ-loop
 add-sum c =
     let a = c .before .before .before .before .before .before .before .before .args in
     let k = counted-most (among (a .protocols .now) (c .before .before .before .word .result)) (c .before .binding-words .result) in
     omega arith
-
-mul-i : tie.Need-mul-i Inv-loop μ-loop
-mul-i c = omega arith
-
-add-i : tie.Need-add-i Inv-loop μ-loop
-add-i c = omega arith
-
-sub-left : tie.Need-sub-left Inv-loop μ-loop
-sub-left c = omega arith
-
-loop-less : tie.Need-loop-less Inv-loop μ-loop
-loop-less c = omega arith
 
 loop-again : tie.Need-loop-again Inv-loop μ-loop
 loop-again c =
@@ -84,14 +63,14 @@ requested-words-spec =
     Inv-loop
     μ-loop
     loop-holds
-    word-requires
+    (λ c κs. omega arith)
     returns
-    binding-words-requires
-    counted-requires
+    (λ c κs. search needs)
+    (λ c κs. search needs)
     add-sum
-    mul-i
-    add-i
-    sub-left
-    loop-less
+    (λ c. omega arith)
+    (λ c. omega arith)
+    (λ c. omega arith)
+    (λ c. omega arith)
     loop-again
     returns-2)

@@ -8,9 +8,6 @@ use borrow.Author.Needs.{needs}
 use Rattle.bindings.proofs.filter.write_filtered.Statement.{statement}
 use Rattle.bindings.proofs.filter.write_filtered.Tie as tie
 
-list-answer-requires : tie.Need-list-answer-requires
-list-answer-requires c κs = search needs
-
 returns : tie.Need-returns
 returns c =
     let a = c .before .before .before .before .before .args in
@@ -18,21 +15,12 @@ returns c =
     let bad = c .if1 .taken in
     (write-refused (a .protocols .now) (a .s .now) (length (a .buf .now)) _ (answer-list (a .protocols .now) (a .s .now) (length (a .buf .now)) (λ z. bad (e ∙ z)) ∙ sym e) bad, rw (ne-eqb _ 0 bad))
 
-filtered-length-requires : tie.Need-filtered-length-requires
-filtered-length-requires c κs = search needs
-
 returns-2 : tie.Need-returns-2
 returns-2 c =
     let a = c .before .before .before .before .before .before .before .args in
     let done = sym (c .before .before .before .list-answer .ensures) ∙ c .before .before .if1 .left in
     let size = c .before .filtered-length .ensures in
     (write-refused (a .protocols .now) (a .s .now) (length (a .buf .now)) 15 (answer-room (a .protocols .now) (a .s .now) (length (a .buf .now)) done (omega arith)) (λ z. omega arith), refl)
-
-put-filtered-requires : tie.Need-put-filtered-requires
-put-filtered-requires c κs = search needs
-
-same-length : tie.Need-same-length
-same-length c = search needs
 
 returns-3 : tie.Need-returns-3
 returns-3 c =
@@ -45,10 +33,10 @@ pub write-filtered-spec : {M : Type 1} → statement M
 write-filtered-spec =
     tie.close
     (tie.spec
-    list-answer-requires
+    (λ c κs. search needs)
     returns
-    filtered-length-requires
+    (λ c κs. search needs)
     returns-2
-    put-filtered-requires
-    same-length
+    (λ c κs. search needs)
+    (λ c. search needs)
     returns-3)

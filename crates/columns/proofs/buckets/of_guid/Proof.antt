@@ -16,24 +16,6 @@ high-fits x h = omega arith
 both-fit : (a b : ℕ) → a < 2 ^ 63 → b < 2 ^ 63 → a + b < 2 ^ 64
 both-fit a b h g = omega arith
 
-mul-low : tie.Need-mul-low
-mul-low c = search needs
-
-mul-low-2 : tie.Need-mul-low-2
-mul-low-2 c = search needs
-
-add-low : tie.Need-add-low
-add-low c = search needs
-
-mul-high : tie.Need-mul-high
-mul-high c = search needs
-
-mul-high-2 : tie.Need-mul-high-2
-mul-high-2 c = search needs
-
-add-high : tie.Need-add-high
-add-high c = search needs
-
 add-result : tie.Need-add-result
 add-result c = record { fits = both-fit _ _ (low-fits _ (omega arith)) (high-fits _ (omega arith)) }
 
@@ -43,4 +25,4 @@ returns c = (search needs, search needs)
 
 pub of-guid-spec : {M : Type 1} → statement M
 of-guid-spec =
-    tie.close (tie.spec mul-low mul-low-2 add-low mul-high mul-high-2 add-high add-result returns)
+    tie.close (tie.spec (λ c. search needs) (λ c. search needs) (λ c. search needs) (λ c. search needs) (λ c. search needs) (λ c. search needs) add-result returns)

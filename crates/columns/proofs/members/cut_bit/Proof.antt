@@ -13,12 +13,6 @@ use Rattle.columns.proofs.members.cut_bit.Tie as tie
 small : (c : tie.Start) → cutBit (c .args .w) (c .args .k) < 2 ^ 63
 small c = cut-lt (c .args .w) (c .args .k) (c .fits .w .fits) (c .pre)
 
-shl-unit : tie.Need-shl-unit
-shl-unit c = search needs
-
-shr-result : tie.Need-shr-result
-shr-result c = search needs
-
 mul-result : tie.Need-mul-result
 unfolding cutBit
 mul-result c = rw (unit (c .args .k) (c .pre)) (record { fits = omega (arith, small c) })
@@ -35,4 +29,4 @@ unfolding cutBit
 returns c = rw (unit (c .args .k) (c .pre)) (refl, small c)
 
 pub cut-bit-spec : {M : Type 1} → statement M
-cut-bit-spec = tie.close (tie.spec shl-unit shr-result mul-result rem-result add-result returns)
+cut-bit-spec = tie.close (tie.spec (λ c. search needs) (λ c. search needs) mul-result rem-result add-result returns)

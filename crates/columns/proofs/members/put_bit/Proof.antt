@@ -12,12 +12,6 @@ use Rattle.columns.proofs.members.put_bit.Tie as tie
 small : (c : tie.Start) → putBit (c .args .w) (c .args .k) (c .args .b) < 2 ^ 64
 small c = put-lt (c .args .w) (c .args .k) (c .args .b) (c .pre .1) (c .fits .w .fits) (c .pre .0)
 
-shl-unit : tie.Need-shl-unit
-shl-unit c = search needs
-
-shr-result : tie.Need-shr-result
-shr-result c = search needs
-
 mul-result : tie.Need-mul-result
 mul-result c = record { fits = omega (arith, shr-le (c .args .w) (c .args .k)) }
 
@@ -43,8 +37,8 @@ pub put-bit-spec : {M : Type 1} → statement M
 put-bit-spec =
     tie.close
     (tie.spec
-    shl-unit
-    shr-result
+    (λ c. search needs)
+    (λ c. search needs)
     mul-result
     add-result
     mul-result-2

@@ -25,12 +25,6 @@ room c =
 loop-holds : tie.Need-loop-holds Inv-loop μ-loop
 loop-holds c = (omega arith, omega arith, put-none _ _ _ _ (c .pre .0))
 
-mul-ws : tie.Need-mul-ws Inv-loop μ-loop
-mul-ws c = search needs
-
-shared-slice-read-ws : tie.Need-shared-slice-read-ws Inv-loop μ-loop
-shared-slice-read-ws c = search needs
-
 add-ws : tie.Need-add-ws Inv-loop μ-loop
 add-ws c = let h = room (c .before) in omega arith
 
@@ -42,12 +36,6 @@ slice-write-ws c = let h = room (c .before) in omega arith
 
 add-at : tie.Need-add-at Inv-loop μ-loop
 add-at c = let h = room (c .before .before) in omega arith
-
-add-j : tie.Need-add-j Inv-loop μ-loop
-add-j c = search needs
-
-loop-less : tie.Need-loop-less Inv-loop μ-loop
-loop-less c = search needs
 
 loop-again : tie.Need-loop-again Inv-loop μ-loop
 loop-again c =
@@ -73,14 +61,14 @@ put-row-spec =
     Inv-loop
     μ-loop
     loop-holds
-    mul-ws
-    shared-slice-read-ws
+    (λ c. search needs)
+    (λ c. search needs)
     add-ws
     mul-ws-2
     slice-write-ws
     add-at
-    add-j
-    loop-less
+    (λ c. search needs)
+    (λ c. search needs)
     loop-again
     same-length
     returns)

@@ -31,23 +31,11 @@ add-to c = let h = room (c .before) in omega arith
 mul-remove-at : tie.Need-mul-remove-at Inv-loop μ-loop
 mul-remove-at c = let h = room (c .before) in omega arith
 
-sub-remove-at : tie.Need-sub-remove-at Inv-loop μ-loop
-sub-remove-at c = search needs
-
 part-remove-at-start : tie.Need-part-remove-at-start Inv-loop μ-loop
 part-remove-at-start c = let h = room (c .before) in omega arith
 
 part-remove-at-end : tie.Need-part-remove-at-end Inv-loop μ-loop
 part-remove-at-end c = let h = room (c .before) in omega arith
-
-remove-at-requires : tie.Need-remove-at-requires Inv-loop μ-loop
-remove-at-requires c κs = search needs
-
-add-j : tie.Need-add-j Inv-loop μ-loop
-add-j c = search needs
-
-loop-less : tie.Need-loop-less Inv-loop μ-loop
-loop-less c = search needs
 
 loop-again : tie.Need-loop-again Inv-loop μ-loop
 loop-again c =
@@ -76,12 +64,12 @@ remove-row-spec =
     loop-holds
     add-to
     mul-remove-at
-    sub-remove-at
+    (λ c. search needs)
     part-remove-at-start
     part-remove-at-end
-    remove-at-requires
-    add-j
-    loop-less
+    (λ c κs. search needs)
+    (λ c. search needs)
+    (λ c. search needs)
     loop-again
     same-length
     returns)

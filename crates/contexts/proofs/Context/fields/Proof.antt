@@ -4,21 +4,6 @@ use borrow.Author.Needs.{needs}
 use Rattle.contexts.proofs.Context.fields.Statement.{statement}
 use Rattle.contexts.proofs.Context.fields.Tie as tie
 
-read-guid-requires : tie.Need-read-guid-requires
-read-guid-requires c κs = search needs
-
-read-u32-requires : tie.Need-read-u32-requires
-read-u32-requires c κs = search needs
-
-read-u32-requires-2 : tie.Need-read-u32-requires-2
-read-u32-requires-2 c κs = search needs
-
-read-u32-requires-3 : tie.Need-read-u32-requires-3
-read-u32-requires-3 c κs = search needs
-
-read-u32-requires-4 : tie.Need-read-u32-requires-4
-read-u32-requires-4 c κs = search needs
-
 returns : tie.Need-returns
 returns c =
     λ u.
@@ -34,9 +19,9 @@ pub fields-spec : {M : Type 1} → statement M
 fields-spec =
     tie.close
     (tie.spec
-    read-guid-requires
-    read-u32-requires
-    read-u32-requires-2
-    read-u32-requires-3
-    read-u32-requires-4
+    (λ c κs. search needs)
+    (λ c κs. search needs)
+    (λ c κs. search needs)
+    (λ c κs. search needs)
+    (λ c κs. search needs)
     returns)

@@ -8,17 +8,11 @@ use borrow.Author.Needs.{needs}
 use Rattle.contexts.proofs.Context.judge.Statement.{statement}
 use Rattle.contexts.proofs.Context.judge.Tie as tie
 
-properties-answer-requires : tie.Need-properties-answer-requires
-properties-answer-requires c κs = search needs
-
 returns : tie.Need-returns
 unfolding writeContextAnswer order
 returns c =
     let number = c .before .properties-answer .ensures in
     simp (ne-differ _ _ (λ z. c .if1 .taken (number ∙ z))) number
-
-add-if2 : tie.Need-add-if2
-add-if2 c = search needs
 
 returns-2 : tie.Need-returns-2
 unfolding writeContextAnswer order
@@ -33,4 +27,4 @@ returns-3 c =
     simp (eq-differ _ _ (sym number ∙ c .before .if1 .left), le-ltb _ _ (c .if2 .left))
 
 pub judge-spec : {M : Type 1} → statement M
-judge-spec = tie.close (tie.spec properties-answer-requires returns add-if2 returns-2 returns-3)
+judge-spec = tie.close (tie.spec (λ c κs. search needs) returns (λ c. search needs) returns-2 returns-3)

@@ -10,9 +10,6 @@ use borrow.Author.Needs.{needs}
 use Rattle.contexts.proofs.Context.write.Statement.{statement}
 use Rattle.contexts.proofs.Context.write.Tie as tie
 
-judge-requires : tie.Need-judge-requires
-judge-requires c κs = search needs
-
 returns : tie.Need-returns
 unfolding writeContext
 returns c =
@@ -25,15 +22,6 @@ done c = sym (c .before .judge .ensures) ∙ c .if1 .left
 
 write-head-requires : tie.Need-write-head-requires
 write-head-requires c κs = let room = context-room _ _ _ (done (c .before)) in omega (arith, room)
-
-copy-requires : tie.Need-copy-requires
-copy-requires c κs = search needs
-
-add-t12 : tie.Need-add-t12
-add-t12 c = search needs
-
-same-length : tie.Need-same-length
-same-length c = search needs
 
 returns-2 : tie.Need-returns-2
 unfolding writeContext contextBytes
@@ -50,10 +38,10 @@ pub write-spec : {M : Type 1} → statement M
 write-spec =
     tie.close
     (tie.spec
-    judge-requires
+    (λ c κs. search needs)
     returns
     write-head-requires
-    copy-requires
-    add-t12
-    same-length
+    (λ c κs. search needs)
+    (λ c. search needs)
+    (λ c. search needs)
     returns-2)

@@ -6,36 +6,6 @@ use borrow.Author.Needs.{needs}
 use Rattle.contexts.proofs.Context.write_head.Statement.{statement}
 use Rattle.contexts.proofs.Context.write_head.Tie as tie
 
-write-u16-requires : tie.Need-write-u16-requires
-write-u16-requires c κs = search needs
-
-write-u16-requires-2 : tie.Need-write-u16-requires-2
-write-u16-requires-2 c κs = search needs
-
-write-guid-requires : tie.Need-write-guid-requires
-write-guid-requires c κs = search needs
-
-write-u32-requires : tie.Need-write-u32-requires
-write-u32-requires c κs = search needs
-
-write-u32-requires-2 : tie.Need-write-u32-requires-2
-write-u32-requires-2 c κs = search needs
-
-write-u32-requires-3 : tie.Need-write-u32-requires-3
-write-u32-requires-3 c κs = search needs
-
-write-u32-requires-4 : tie.Need-write-u32-requires-4
-write-u32-requires-4 c κs = search needs
-
-write-u32-requires-5 : tie.Need-write-u32-requires-5
-write-u32-requires-5 c κs = search needs
-
-write-u32-requires-6 : tie.Need-write-u32-requires-6
-write-u32-requires-6 c κs = search needs
-
-write-u32-requires-7 : tie.Need-write-u32-requires-7
-write-u32-requires-7 c κs = search needs
-
 returns : tie.Need-returns
 unfolding headBytes
 returns c =
@@ -61,15 +31,15 @@ pub write-head-spec : {M : Type 1} → statement M
 write-head-spec =
     tie.close
     (tie.spec
-    write-u16-requires
-    write-u16-requires-2
-    write-guid-requires
-    write-u32-requires
-    write-u32-requires-2
-    write-u32-requires-3
-    write-u32-requires-4
-    write-u32-requires-5
-    write-u32-requires-6
-    write-u32-requires-7
+    (λ c κs. search needs)
+    (λ c κs. search needs)
+    (λ c κs. search needs)
+    (λ c κs. search needs)
+    (λ c κs. search needs)
+    (λ c κs. search needs)
+    (λ c κs. search needs)
+    (λ c κs. search needs)
+    (λ c κs. search needs)
+    (λ c κs. search needs)
     same-length
     returns)

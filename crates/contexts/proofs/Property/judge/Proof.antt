@@ -8,9 +8,6 @@ use borrow.Author.Needs.{needs}
 use Rattle.contexts.proofs.Property.judge.Statement.{statement}
 use Rattle.contexts.proofs.Property.judge.Tie as tie
 
-is-property-flags-requires : tie.Need-is-property-flags-requires
-is-property-flags-requires c κs = search needs
-
 returns : tie.Need-returns
 unfolding writePropertyAnswer order
 returns c =
@@ -25,9 +22,6 @@ unfolding writePropertyAnswer order
 returns-2 c =
     rw (flags (c .before), lt-ltb _ _ (c .if2 .taken))
 
-add-if3 : tie.Need-add-if3
-add-if3 c = search needs
-
 returns-3 : tie.Need-returns-3
 unfolding writePropertyAnswer order
 returns-3 c =
@@ -40,4 +34,4 @@ returns-4 c =
 
 pub judge-spec : {M : Type 1} → statement M
 judge-spec =
-    tie.close (tie.spec is-property-flags-requires returns returns-2 add-if3 returns-3 returns-4)
+    tie.close (tie.spec (λ c κs. search needs) returns returns-2 (λ c. search needs) returns-3 returns-4)

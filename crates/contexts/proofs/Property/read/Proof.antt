@@ -12,12 +12,6 @@ use borrow.Author.Needs.{needs}
 use Rattle.contexts.proofs.Property.read.Statement.{statement}
 use Rattle.contexts.proofs.Property.read.Tie as tie
 
-locate-requires : tie.Need-locate-requires
-locate-requires c κs = search needs
-
-zero-requires : tie.Need-zero-requires
-zero-requires c κs = search needs
-
 returns : tie.Need-returns
 unfolding readProperty
 returns c =
@@ -50,12 +44,6 @@ sub-fields c = inside (c .before)
 part-fields-start : tie.Need-part-fields-start
 part-fields-start c = inside (c .before)
 
-part-fields-end : tie.Need-part-fields-end
-part-fields-end c = search needs
-
-fields-requires : tie.Need-fields-requires
-fields-requires c κs = search needs
-
 returns-2 : tie.Need-returns-2
 unfolding readProperty
 returns-2 c =
@@ -70,12 +58,12 @@ pub read-spec : {M : Type 1} → statement M
 read-spec =
     tie.close
     (tie.spec
-    locate-requires
-    zero-requires
+    (λ c κs. search needs)
+    (λ c κs. search needs)
     returns
     sub-start
     sub-fields
     part-fields-start
-    part-fields-end
-    fields-requires
+    (λ c. search needs)
+    (λ c κs. search needs)
     returns-2)

@@ -11,9 +11,6 @@ use borrow.Author.Needs.{needs}
 use Rattle.contexts.proofs.Property.write.Statement.{statement}
 use Rattle.contexts.proofs.Property.write.Tie as tie
 
-judge-requires : tie.Need-judge-requires
-judge-requires c κs = search needs
-
 returns : tie.Need-returns
 unfolding writeProperty
 returns c =
@@ -27,29 +24,8 @@ done c = sym (c .before .judge .ensures) ∙ c .if1 .left
 ok : (c : tie.Else1) → PropertyWritable (c .before .before .before .before .args .self) (c .before .before .before .before .args .content .now) (length (c .before .before .before .before .args .buf .now))
 ok c = property-writable _ _ _ (done c)
 
-write-guid-requires : tie.Need-write-guid-requires
-write-guid-requires c κs = search needs
-
-write-guid-requires-2 : tie.Need-write-guid-requires-2
-write-guid-requires-2 c κs = search needs
-
-write-u32-requires : tie.Need-write-u32-requires
-write-u32-requires c κs = search needs
-
 cast-write-u32 : tie.Need-cast-write-u32
 cast-write-u32 c = let h = ok (c .before .before .before .before .before .before .before .before .before .before .before .before .before .before .before) .small in omega (arith, h)
-
-write-u32-requires-2 : tie.Need-write-u32-requires-2
-write-u32-requires-2 c κs = search needs
-
-copy-requires : tie.Need-copy-requires
-copy-requires c κs = search needs
-
-add-t21 : tie.Need-add-t21
-add-t21 c = search needs
-
-same-length : tie.Need-same-length
-same-length c = search needs
 
 returns-2 : tie.Need-returns-2
 unfolding writeProperty propertyBytes
@@ -70,14 +46,14 @@ pub write-spec : {M : Type 1} → statement M
 write-spec =
     tie.close
     (tie.spec
-    judge-requires
+    (λ c κs. search needs)
     returns
-    write-guid-requires
-    write-guid-requires-2
-    write-u32-requires
+    (λ c κs. search needs)
+    (λ c κs. search needs)
+    (λ c κs. search needs)
     cast-write-u32
-    write-u32-requires-2
-    copy-requires
-    add-t21
-    same-length
+    (λ c κs. search needs)
+    (λ c κs. search needs)
+    (λ c. search needs)
+    (λ c. search needs)
     returns-2)

@@ -6,18 +6,6 @@ use borrow.Author.Needs.{needs}
 use Rattle.extensions.proofs.Extension.found.Statement.{statement}
 use Rattle.extensions.proofs.Extension.found.Tie as tie
 
-add-start : tie.Need-add-start
-add-start c = search needs
-
-paired-requires : tie.Need-paired-requires
-paired-requires c κs = search needs
-
-mul-start : tie.Need-mul-start
-mul-start c = search needs
-
-add-start-2 : tie.Need-add-start-2
-add-start-2 c = search needs
-
 start-requires : tie.Need-start-requires
 start-requires c κs =
     let p = c .paired .ensures in
@@ -29,21 +17,6 @@ whole c = held _ _ (c .start .ensures .1)
 add-read-guid : tie.Need-add-read-guid
 add-read-guid c = let h = whole c in omega (arith, h .fixed)
 
-read-guid-requires : tie.Need-read-guid-requires
-read-guid-requires c κs = search needs
-
-add-read-u32 : tie.Need-add-read-u32
-add-read-u32 c = search needs
-
-mul-read-u32 : tie.Need-mul-read-u32
-mul-read-u32 c = search needs
-
-add-read-u32-2 : tie.Need-add-read-u32-2
-add-read-u32-2 c = search needs
-
-read-u32-requires : tie.Need-read-u32-requires
-read-u32-requires c κs = search needs
-
 add-t10 : tie.Need-add-t10
 add-t10 c = let h = whole (c .before .before) in omega (arith, h .fixed)
 
@@ -52,12 +25,6 @@ add-t9 c = let h = whole (c .before .before) in omega (arith, h .fixed)
 
 add-read-u32-3 : tie.Need-add-read-u32-3
 add-read-u32-3 c = let h = whole (c .before .before) in omega (arith, h .fixed)
-
-read-u32-requires-2 : tie.Need-read-u32-requires-2
-read-u32-requires-2 c κs = search needs
-
-cast-t16 : tie.Need-cast-t16
-cast-t16 c = search needs
 
 add-t17 : tie.Need-add-t17
 add-t17 c =
@@ -76,21 +43,21 @@ pub found-spec : {M : Type 1} → statement M
 found-spec =
     tie.close
     (tie.spec
-    add-start
-    paired-requires
-    mul-start
-    add-start-2
+    (λ c. search needs)
+    (λ c κs. search needs)
+    (λ c. search needs)
+    (λ c. search needs)
     start-requires
     add-read-guid
-    read-guid-requires
-    add-read-u32
-    mul-read-u32
-    add-read-u32-2
-    read-u32-requires
+    (λ c κs. search needs)
+    (λ c. search needs)
+    (λ c. search needs)
+    (λ c. search needs)
+    (λ c κs. search needs)
     add-t10
     add-t9
     add-read-u32-3
-    read-u32-requires-2
-    cast-t16
+    (λ c κs. search needs)
+    (λ c. search needs)
     add-t17
     returns)

@@ -9,12 +9,6 @@ use borrow.Author.Needs.{needs}
 use Rattle.extensions.proofs.Extension.locate.Statement.{statement}
 use Rattle.extensions.proofs.Extension.locate.Tie as tie
 
-judge-requires : tie.Need-judge-requires
-judge-requires c κs = search needs
-
-refused-requires : tie.Need-refused-requires
-refused-requires c κs = search needs
-
 number : (c : tie.After-judge) → c .judge .result .answer ≡ extensionsAnswer (c .before .before .args .s .now) (c .before .before .args .at)
 number c = ap (λ x. x .answer) (c .judge .ensures) ∙ walk-answer _ _
 
@@ -30,12 +24,6 @@ done c = sym (number (c .before .before)) ∙ c .if1 .left
 ok : (c : tie.Else1) → Accepted (c .before .before .before .before .args .s .now) (c .before .before .before .before .args .at)
 ok c = accepted _ _ (done c)
 
-read-u32-requires : tie.Need-read-u32-requires
-read-u32-requires c κs = search needs
-
-refused-requires-2 : tie.Need-refused-requires-2
-refused-requires-2 c κs = search needs
-
 returns-2 : tie.Need-returns-2
 unfolding extensionAt extensionsCount
 returns-2 c =
@@ -44,15 +32,6 @@ returns-2 c =
 
 add-read-u32 : tie.Need-add-read-u32
 add-read-u32 c = let h = ok (c .before .before) .front (λ z. c .if2 .left (c .before .read-u32 .ensures ∙ z)) in omega (arith, h .room)
-
-read-u32-requires-2 : tie.Need-read-u32-requires-2
-read-u32-requires-2 c κs = search needs
-
-cast-if3 : tie.Need-cast-if3
-cast-if3 c = search needs
-
-refused-requires-3 : tie.Need-refused-requires-3
-refused-requires-3 c κs = search needs
 
 returns-3 : tie.Need-returns-3
 unfolding extensionAt extensionsCount
@@ -84,16 +63,16 @@ pub locate-spec : {M : Type 1} → statement M
 locate-spec =
     tie.close
     (tie.spec
-    judge-requires
-    refused-requires
+    (λ c κs. search needs)
+    (λ c κs. search needs)
     returns
-    read-u32-requires
-    refused-requires-2
+    (λ c κs. search needs)
+    (λ c κs. search needs)
     returns-2
     add-read-u32
-    read-u32-requires-2
-    cast-if3
-    refused-requires-3
+    (λ c κs. search needs)
+    (λ c. search needs)
+    (λ c κs. search needs)
     returns-3
     found-requires
     returns-4)

@@ -10,26 +10,11 @@ use borrow.Author.Needs.{needs}
 use Rattle.fragments.proofs.Fragments.end_answer.Statement.{statement}
 use Rattle.fragments.proofs.Fragments.end_answer.Tie as tie
 
-slice-aggregate-read-end : tie.Need-slice-aggregate-read-end
-slice-aggregate-read-end c = search needs
-
-read-end-requires : tie.Need-read-end-requires
-read-end-requires c κs = search needs
-
 returns : tie.Need-returns
 unfolding endAnswer order
 returns c =
     let e = c .before .read-end .ensures in
     rw (← e, ne-eqb _ _ (c .if1 .taken))
-
-slice-aggregate-fields : tie.Need-slice-aggregate-fields
-slice-aggregate-fields c = search needs
-
-fields-requires : tie.Need-fields-requires
-fields-requires c κs = search needs
-
-is-nil-requires : tie.Need-is-nil-requires
-is-nil-requires c κs = search needs
 
 returns-2 : tie.Need-returns-2
 unfolding endAnswer order
@@ -37,9 +22,6 @@ returns-2 c =
     let e = sym (c .before .before .before .before .before .read-end .ensures) ∙ c .before .before .before .before .if1 .left in
     let nil = ap isNilReference (sym (c .before .before .fields .ensures)) ∙ sym (c .before .is-nil .ensures) ∙ c .if2 .taken in
     rw (e, nil)
-
-fits-requires : tie.Need-fits-requires
-fits-requires c κs = search needs
 
 plain : (c : tie.Else2) → isNilReference (c .before .before .fields .result) ≡ false
 plain c = sym (c .before .is-nil .ensures) ∙ c .if2 .left
@@ -66,13 +48,13 @@ pub end-answer-spec : {M : Type 1} → statement M
 end-answer-spec =
     tie.close
     (tie.spec
-    slice-aggregate-read-end
-    read-end-requires
+    (λ c. search needs)
+    (λ c κs. search needs)
     returns
-    slice-aggregate-fields
-    fields-requires
-    is-nil-requires
+    (λ c. search needs)
+    (λ c κs. search needs)
+    (λ c κs. search needs)
     returns-2
-    fits-requires
+    (λ c κs. search needs)
     returns-3
     returns-4)

@@ -9,12 +9,6 @@ use borrow.Author.Needs.{needs}
 use Rattle.fragments.proofs.Fragments.finish.Statement.{statement}
 use Rattle.fragments.proofs.Fragments.finish.Tie as tie
 
-end-answer-requires : tie.Need-end-answer-requires
-end-answer-requires c κs = search needs
-
-zero-requires : tie.Need-zero-requires
-zero-requires c κs = search needs
-
 returns : tie.Need-returns
 unfolding finished finalAfter
 returns c =
@@ -25,26 +19,8 @@ returns c =
 done : (c : tie.Else1) → endAnswer (c .before .before .before .before .args .self) (length (c .before .before .before .before .args .waiting .now)) (length (c .before .before .before .before .args .last .now)) ≡ 0
 done c = sym (c .before .end-answer .ensures) ∙ c .if1 .left
 
-sub-copy : tie.Need-sub-copy
-sub-copy c = search needs
-
-part-copy-start : tie.Need-part-copy-start
-part-copy-start c = search needs
-
 part-copy-end : tie.Need-part-copy-end
 part-copy-end c = end-room _ _ _ (done (c .before .before))
-
-copy-requires : tie.Need-copy-requires
-copy-requires c κs = search needs
-
-slice-aggregate-fields : tie.Need-slice-aggregate-fields
-slice-aggregate-fields c = search needs
-
-fields-requires : tie.Need-fields-requires
-fields-requires c κs = search needs
-
-same-length : tie.Need-same-length
-same-length c = search needs
 
 returns-2 : tie.Need-returns-2
 unfolding finished finalAfter
@@ -56,14 +32,14 @@ pub finish-spec : {M : Type 1} → statement M
 finish-spec =
     tie.close
     (tie.spec
-    end-answer-requires
-    zero-requires
+    (λ c κs. search needs)
+    (λ c κs. search needs)
     returns
-    sub-copy
-    part-copy-start
+    (λ c. search needs)
+    (λ c. search needs)
     part-copy-end
-    copy-requires
-    slice-aggregate-fields
-    fields-requires
-    same-length
+    (λ c κs. search needs)
+    (λ c. search needs)
+    (λ c κs. search needs)
+    (λ c. search needs)
     returns-2)

@@ -8,36 +8,6 @@ use borrow.Author.Needs.{needs}
 use Rattle.fragments.proofs.Fragments.push.Statement.{statement}
 use Rattle.fragments.proofs.Fragments.push.Tie as tie
 
-early-requires : tie.Need-early-requires
-early-requires c κs = search needs
-
-sub-push-each : tie.Need-sub-push-each
-sub-push-each c = search needs
-
-part-push-each-start : tie.Need-part-push-each-start
-part-push-each-start c = search needs
-
-part-push-each-end : tie.Need-part-push-each-end
-part-push-each-end c = search needs
-
-push-each-requires : tie.Need-push-each-requires
-push-each-requires c κs = search needs
-
-sub-push-late : tie.Need-sub-push-late
-sub-push-late c = search needs
-
-part-push-late-start : tie.Need-part-push-late-start
-part-push-late-start c = search needs
-
-part-push-late-end : tie.Need-part-push-late-end
-part-push-late-end c = search needs
-
-push-late-requires : tie.Need-push-late-requires
-push-late-requires c κs = search needs
-
-same-length : tie.Need-same-length
-same-length c = search needs
-
 returns : tie.Need-returns
 returns c =
     let a = c .before .before .before .before .before .before .before .before .before .before .before .before .before .args in
@@ -53,14 +23,14 @@ pub push-spec : {M : Type 1} → statement M
 push-spec =
     tie.close
     (tie.spec
-    early-requires
-    sub-push-each
-    part-push-each-start
-    part-push-each-end
-    push-each-requires
-    sub-push-late
-    part-push-late-start
-    part-push-late-end
-    push-late-requires
-    same-length
+    (λ c κs. search needs)
+    (λ c. search needs)
+    (λ c. search needs)
+    (λ c. search needs)
+    (λ c κs. search needs)
+    (λ c. search needs)
+    (λ c. search needs)
+    (λ c. search needs)
+    (λ c κs. search needs)
+    (λ c. search needs)
     returns)

@@ -6,21 +6,6 @@ use borrow.Author.Needs.{needs}
 use Rattle.fragments.proofs.Fragments.push_late.Statement.{statement}
 use Rattle.fragments.proofs.Fragments.push_late.Tie as tie
 
-push-each-requires : tie.Need-push-each-requires
-push-each-requires c κs = search needs
-
-same-length : tie.Need-same-length
-same-length c = search needs
-
-returns : tie.Need-returns
-returns c = search needs
-
-push-rest-requires : tie.Need-push-rest-requires
-push-rest-requires c κs = search needs
-
-same-length-2 : tie.Need-same-length-2
-same-length-2 c = search needs
-
 returns-2 : tie.Need-returns-2
 returns-2 c =
     let a = c .before .before .before .before .before .before .before .before .args in
@@ -32,4 +17,4 @@ returns-2 c =
 pub push-late-spec : {M : Type 1} → statement M
 push-late-spec =
     tie.close
-    (tie.spec push-each-requires same-length returns push-rest-requires same-length-2 returns-2)
+    (tie.spec (λ c κs. search needs) (λ c. search needs) (λ c. search needs) (λ c κs. search needs) (λ c. search needs) returns-2)

@@ -5,39 +5,6 @@ use borrow.Author.Needs.{needs}
 use Rattle.fragments.proofs.Fragments.step.Statement.{statement}
 use Rattle.fragments.proofs.Fragments.step.Tie as tie
 
-slice-aggregate-form-of : tie.Need-slice-aggregate-form-of
-slice-aggregate-form-of c = search needs
-
-form-of-requires : tie.Need-form-of-requires
-form-of-requires c κs = search needs
-
-slice-aggregate-walked : tie.Need-slice-aggregate-walked
-slice-aggregate-walked c = search needs
-
-walked-requires : tie.Need-walked-requires
-walked-requires c κs = search needs
-
-in-tail-requires : tie.Need-in-tail-requires
-in-tail-requires c κs = search needs
-
-keep-requires : tie.Need-keep-requires
-keep-requires c κs = search needs
-
-next-head-requires : tie.Need-next-head-requires
-next-head-requires c κs = search needs
-
-next-kept-requires : tie.Need-next-kept-requires
-next-kept-requires c κs = search needs
-
-next-seen-requires : tie.Need-next-seen-requires
-next-seen-requires c κs = search needs
-
-next-over-requires : tie.Need-next-over-requires
-next-over-requires c κs = search needs
-
-same-length : tie.Need-same-length
-same-length c = search needs
-
 returns : tie.Need-returns
 unfolding step stepIn
 returns c =
@@ -54,15 +21,15 @@ pub step-spec : {M : Type 1} → statement M
 step-spec =
     tie.close
     (tie.spec
-    slice-aggregate-form-of
-    form-of-requires
-    slice-aggregate-walked
-    walked-requires
-    in-tail-requires
-    keep-requires
-    next-head-requires
-    next-kept-requires
-    next-seen-requires
-    next-over-requires
-    same-length
+    (λ c. search needs)
+    (λ c κs. search needs)
+    (λ c. search needs)
+    (λ c κs. search needs)
+    (λ c κs. search needs)
+    (λ c κs. search needs)
+    (λ c κs. search needs)
+    (λ c κs. search needs)
+    (λ c κs. search needs)
+    (λ c κs. search needs)
+    (λ c. search needs)
     returns)

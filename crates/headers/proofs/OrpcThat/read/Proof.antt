@@ -9,26 +9,11 @@ use borrow.Author.Needs.{needs}
 use Rattle.headers.proofs.OrpcThat.read.Statement.{statement}
 use Rattle.headers.proofs.OrpcThat.read.Tie as tie
 
-judge-requires : tie.Need-judge-requires
-judge-requires c κs = search needs
-
-new-requires : tie.Need-new-requires
-new-requires c κs = search needs
-
 returns : tie.Need-returns
 unfolding readThat
 returns c =
     let number = ap (λ (x : Walked). x .answer) (c .before .before .before .judge .ensures) ∙ walk-answer _ 4 in
     simp (ne-eqb _ _ (λ z. c .before .if1 .taken (number ∙ z))) (λ u. record { answer = number u; header = c .new .ensures u; extensions = record { pointer = 0; array = 0; count = 0 }; length = 0 })
-
-read-u32-requires : tie.Need-read-u32-requires
-read-u32-requires c κs = search needs
-
-new-requires-2 : tie.Need-new-requires-2
-new-requires-2 c κs = search needs
-
-read-requires : tie.Need-read-requires
-read-requires c κs = search needs
 
 returns-2 : tie.Need-returns-2
 unfolding readThat thatAt
@@ -43,10 +28,10 @@ pub read-spec : {M : Type 1} → statement M
 read-spec =
     tie.close
     (tie.spec
-    judge-requires
-    new-requires
+    (λ c κs. search needs)
+    (λ c κs. search needs)
     returns
-    read-u32-requires
-    new-requires-2
-    read-requires
+    (λ c κs. search needs)
+    (λ c κs. search needs)
+    (λ c κs. search needs)
     returns-2)

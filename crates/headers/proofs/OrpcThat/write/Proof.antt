@@ -14,15 +14,6 @@ returns : tie.Need-returns
 unfolding order
 returns c = (sym (write-answer 0 0 [] [] 4 _ ∙ plain-answer 4 _ ∙ simp (lt-ltb _ _ (c .if1 .taken))), refl)
 
-write-u32-requires : tie.Need-write-u32-requires
-write-u32-requires c κs = search needs
-
-write-u32-requires-2 : tie.Need-write-u32-requires-2
-write-u32-requires-2 c κs = search needs
-
-same-length : tie.Need-same-length
-same-length c = search needs
-
 returns-2 : tie.Need-returns-2
 unfolding thatBytes order
 returns-2 c =
@@ -32,4 +23,4 @@ returns-2 c =
 
 pub write-spec : {M : Type 1} → statement M
 write-spec =
-    tie.close (tie.spec returns write-u32-requires write-u32-requires-2 same-length returns-2)
+    tie.close (tie.spec returns (λ c κs. search needs) (λ c κs. search needs) (λ c. search needs) returns-2)

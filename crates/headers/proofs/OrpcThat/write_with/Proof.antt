@@ -9,23 +9,11 @@ use borrow.Author.Needs.{needs}
 use Rattle.headers.proofs.OrpcThat.write_with.Statement.{statement}
 use Rattle.headers.proofs.OrpcThat.write_with.Tie as tie
 
-write-requires : tie.Need-write-requires
-write-requires c κs = search needs
-
-same-length : tie.Need-same-length
-same-length c = search needs
-
 returns : tie.Need-returns
 returns c =
     let e = c .before .before .before .before .write .ensures in
     let no = c .if1 .taken in
     (refused-walk _ _ _ _ 4 _ _ (e .0) no, rw (ne-eqb _ _ no) (rw (ne-eqb _ _ no) at (e .1)))
-
-write-u32-requires : tie.Need-write-u32-requires
-write-u32-requires c κs = search needs
-
-same-length-2 : tie.Need-same-length-2
-same-length-2 c = search needs
 
 returns-2 : tie.Need-returns-2
 unfolding thatBytes
@@ -38,4 +26,4 @@ returns-2 c =
 pub write-with-spec : {M : Type 1} → statement M
 write-with-spec =
     tie.close
-    (tie.spec write-requires same-length returns write-u32-requires same-length-2 returns-2)
+    (tie.spec (λ c κs. search needs) (λ c. search needs) returns (λ c κs. search needs) (λ c. search needs) returns-2)

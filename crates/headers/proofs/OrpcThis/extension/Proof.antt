@@ -8,20 +8,11 @@ use borrow.Author.Needs.{needs}
 use Rattle.headers.proofs.OrpcThis.extension.Statement.{statement}
 use Rattle.headers.proofs.OrpcThis.extension.Tie as tie
 
-judge-requires : tie.Need-judge-requires
-judge-requires c κs = search needs
-
-refused-requires : tie.Need-refused-requires
-refused-requires c κs = search needs
-
 returns : tie.Need-returns
 unfolding thisExtension
 returns c =
     let number = this-number _ _ (c .before .before .before .judge .ensures) in
     rw (ne-eqb _ _ (λ z. c .before .if1 .taken (number ∙ z))) (c .refused .ensures ∙ ap noExtension number)
-
-locate-requires : tie.Need-locate-requires
-locate-requires c κs = search needs
 
 returns-2 : tie.Need-returns-2
 unfolding thisExtension
@@ -31,4 +22,4 @@ returns-2 c =
 
 pub extension-spec : {M : Type 1} → statement M
 extension-spec =
-    tie.close (tie.spec judge-requires refused-requires returns locate-requires returns-2)
+    tie.close (tie.spec (λ c κs. search needs) (λ c κs. search needs) returns (λ c κs. search needs) returns-2)

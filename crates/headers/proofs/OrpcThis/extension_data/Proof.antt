@@ -11,9 +11,6 @@ use borrow.Author.Needs.{needs}
 use Rattle.headers.proofs.OrpcThis.extension_data.Statement.{statement}
 use Rattle.headers.proofs.OrpcThis.extension_data.Tie as tie
 
-extension-requires : tie.Need-extension-requires
-extension-requires c κs = search needs
-
 within : (c : tie.After-extension) → Lies (length (c .before .before .args .s .now)) (c .extension .result)
 within c = rw (c .extension .ensures) (this-lies _ _)
 
@@ -37,4 +34,4 @@ returns c =
 
 pub extension-data-spec : {M : Type 1} → statement M
 extension-data-spec =
-    tie.close (tie.spec extension-requires sub-result part-result-start part-result-end returns)
+    tie.close (tie.spec (λ c κs. search needs) sub-result part-result-start part-result-end returns)

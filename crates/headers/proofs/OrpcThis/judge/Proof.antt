@@ -16,17 +16,11 @@ returns : tie.Need-returns
 unfolding thisWalk thisAnswer order
 returns c = rw (lt-ltb _ _ (c .if1 .taken))
 
-read-u16-requires : tie.Need-read-u16-requires
-read-u16-requires c κs = search needs
-
 returns-2 : tie.Need-returns-2
 unfolding thisWalk thisAnswer order
 returns-2 c =
     let e = c .before .read-u16 .ensures in
     rw (le-ltb _ _ (c .before .before .if1 .left), ne-eqb _ _ (λ z. c .if2 .taken (e ∙ z)))
-
-read-u16-requires-2 : tie.Need-read-u16-requires-2
-read-u16-requires-2 c κs = search needs
 
 returns-3 : tie.Need-returns-3
 unfolding thisWalk thisAnswer order
@@ -36,9 +30,6 @@ returns-3 c =
     let n = c .before .read-u162 .ensures in
     let above : 7 < field s 2 2 = omega arith in
     rw (le-ltb _ _ (c .before .before .before .before .if1 .left), eq-eqb _ _ e, lt-ltb _ _ above)
-
-judge-requires : tie.Need-judge-requires
-judge-requires c κs = search needs
 
 returns-4 : tie.Need-returns-4
 unfolding thisWalk thisAnswer order walk
@@ -54,9 +45,9 @@ judge-spec =
     tie.close
     (tie.spec
     returns
-    read-u16-requires
+    (λ c κs. search needs)
     returns-2
-    read-u16-requires-2
+    (λ c κs. search needs)
     returns-3
-    judge-requires
+    (λ c κs. search needs)
     returns-4)

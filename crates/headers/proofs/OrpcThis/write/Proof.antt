@@ -17,15 +17,6 @@ returns-2 : tie.Need-returns-2
 unfolding thisWritten order
 returns-2 c = (simp (le-ltb _ _ (c .before .if1 .left), plain-answer, lt-ltb _ _ (c .if2 .taken)), refl)
 
-write-front-requires : tie.Need-write-front-requires
-write-front-requires c κs = search needs
-
-write-u32-requires : tie.Need-write-u32-requires
-write-u32-requires c κs = search needs
-
-same-length : tie.Need-same-length
-same-length c = search needs
-
 returns-3 : tie.Need-returns-3
 unfolding thisWritten thisBytes order
 returns-3 c =
@@ -37,4 +28,4 @@ returns-3 c =
 pub write-spec : {M : Type 1} → statement M
 write-spec =
     tie.close
-    (tie.spec returns returns-2 write-front-requires write-u32-requires same-length returns-3)
+    (tie.spec returns returns-2 (λ c κs. search needs) (λ c κs. search needs) (λ c. search needs) returns-3)

@@ -7,24 +7,6 @@ use borrow.Author.Needs.{needs}
 use Rattle.headers.proofs.OrpcThis.write_front.Statement.{statement}
 use Rattle.headers.proofs.OrpcThis.write_front.Tie as tie
 
-write-u16-requires : tie.Need-write-u16-requires
-write-u16-requires c κs = search needs
-
-write-u16-requires-2 : tie.Need-write-u16-requires-2
-write-u16-requires-2 c κs = search needs
-
-write-u32-requires : tie.Need-write-u32-requires
-write-u32-requires c κs = search needs
-
-write-u32-requires-2 : tie.Need-write-u32-requires-2
-write-u32-requires-2 c κs = search needs
-
-write-guid-requires : tie.Need-write-guid-requires
-write-guid-requires c κs = search needs
-
-same-length : tie.Need-same-length
-same-length c = search needs
-
 returns : tie.Need-returns
 unfolding thisFront encode
 returns c =
@@ -40,10 +22,10 @@ pub write-front-spec : {M : Type 1} → statement M
 write-front-spec =
     tie.close
     (tie.spec
-    write-u16-requires
-    write-u16-requires-2
-    write-u32-requires
-    write-u32-requires-2
-    write-guid-requires
-    same-length
+    (λ c κs. search needs)
+    (λ c κs. search needs)
+    (λ c κs. search needs)
+    (λ c κs. search needs)
+    (λ c κs. search needs)
+    (λ c. search needs)
     returns)

@@ -13,12 +13,6 @@ returns : tie.Need-returns
 unfolding thisWriting thisWritten order
 returns c = (simp (lt-ltb _ _ (c .if1 .taken)), refl)
 
-write-requires : tie.Need-write-requires
-write-requires c κs = search needs
-
-same-length : tie.Need-same-length
-same-length c = search needs
-
 returns-2 : tie.Need-returns-2
 returns-2 c =
     let e = c .before .before .before .before .write .ensures in
@@ -29,9 +23,6 @@ write-front-requires : tie.Need-write-front-requires
 write-front-requires c κs =
     let r = room _ _ _ _ 28 _ _ (c .before .before .before .before .before .write .ensures .0) (c .before .if2 .left) in
     omega arith
-
-same-length-2 : tie.Need-same-length-2
-same-length-2 c = search needs
 
 returns-3 : tie.Need-returns-3
 unfolding thisBytes
@@ -46,9 +37,9 @@ write-with-spec =
     tie.close
     (tie.spec
     returns
-    write-requires
-    same-length
+    (λ c κs. search needs)
+    (λ c. search needs)
     returns-2
     write-front-requires
-    same-length-2
+    (λ c. search needs)
     returns-3)

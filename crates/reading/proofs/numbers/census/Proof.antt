@@ -6,9 +6,6 @@ use borrow.Author.Needs.{needs}
 use Rattle.reading.proofs.numbers.census.Statement.{statement}
 use Rattle.reading.proofs.numbers.census.Tie as tie
 
-sound-requires : tie.Need-sound-requires
-sound-requires c κs = search needs
-
 returns : tie.Need-returns
 unfolding refusedReply results
 returns c = unsound-call (c .before .sound .ensures) _ refl (c .if1 .taken)
@@ -24,4 +21,4 @@ returns-2 c =
     stepped-call judged _ refl left (c .census-step .ensures) (t .words) (t .store)
 
 pub census-spec : {M : Type 1} → statement M
-census-spec = tie.close (tie.spec sound-requires returns census-step-requires returns-2)
+census-spec = tie.close (tie.spec (λ c κs. search needs) returns census-step-requires returns-2)

@@ -12,18 +12,6 @@ use borrow.Author.Needs.{needs}
 use Rattle.reading.proofs.numbers.census_step.Statement.{statement}
 use Rattle.reading.proofs.numbers.census_step.Tie as tie
 
-exporter-count-requires : tie.Need-exporter-count-requires
-exporter-count-requires c κs = search needs
-
-object-count-requires : tie.Need-object-count-requires
-object-count-requires c κs = search needs
-
-interface-count-requires : tie.Need-interface-count-requires
-interface-count-requires c κs = search needs
-
-set-count-requires : tie.Need-set-count-requires
-set-count-requires c κs = search needs
-
 returns : tie.Need-returns
 unfolding acceptedReply results number refusals order next
 returns c =
@@ -39,8 +27,8 @@ pub census-step-spec : {M : Type 1} → statement M
 census-step-spec =
     tie.close
     (tie.spec
-    exporter-count-requires
-    object-count-requires
-    interface-count-requires
-    set-count-requires
+    (λ c κs. search needs)
+    (λ c κs. search needs)
+    (λ c κs. search needs)
+    (λ c κs. search needs)
     returns)

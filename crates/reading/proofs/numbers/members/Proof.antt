@@ -6,9 +6,6 @@ use borrow.Author.Needs.{needs}
 use Rattle.reading.proofs.numbers.members.Statement.{statement}
 use Rattle.reading.proofs.numbers.members.Tie as tie
 
-sound-requires : tie.Need-sound-requires
-sound-requires c κs = search needs
-
 returns : tie.Need-returns
 unfolding refusedReply results
 returns c = unsound-call (c .before .sound .ensures) _ refl (c .if1 .taken)
@@ -24,4 +21,4 @@ returns-2 c =
     stepped-call judged _ refl left (c .members-step .ensures) (t .words) (t .store)
 
 pub members-spec : {M : Type 1} → statement M
-members-spec = tie.close (tie.spec sound-requires returns members-step-requires returns-2)
+members-spec = tie.close (tie.spec (λ c κs. search needs) returns members-step-requires returns-2)

@@ -35,23 +35,11 @@ module _ (ws s : List ℕ) (x : ℕ) {r n : ℕ} (found : r ≡ setRow (view (me
       ∙ length-map (memberRows (membersAt ws r)) _
       ∙ ap (λ (k : Members). length (memberRows k)) (sym held)
 
-set-row-requires : tie.Need-set-row-requires
-set-row-requires c κs = search needs
-
-set-count-requires : tie.Need-set-count-requires
-set-count-requires c κs = search needs
-
 returns : tie.Need-returns
 unfolding refusedReply results
 returns c =
     let a = c .before .before .before .before .before .args in
     refused-step 11 (gone (a .words .now) (a .store .now) (a .set .0) (c .before .before .set-row .ensures (a .store .now)) (c .before .set-count .ensures .0) (c .if1 .taken)) (λ z. omega arith)
-
-members-requires : tie.Need-members-requires
-members-requires c κs = search needs
-
-size-requires : tie.Need-size-requires
-size-requires c κs = search needs
 
 returns-2 : tie.Need-returns-2
 unfolding acceptedReply results next
@@ -66,4 +54,4 @@ returns-2 c =
     (accepted-step 0 (here (a .words .now) (a .store .now) (a .set .0) found counted inside) refl m refl)
 
 pub members-step-spec : {M : Type 1} → statement M
-members-step-spec = tie.close (tie.spec set-row-requires set-count-requires returns members-requires size-requires returns-2)
+members-step-spec = tie.close (tie.spec (λ c κs. search needs) (λ c κs. search needs) returns (λ c κs. search needs) (λ c κs. search needs) returns-2)

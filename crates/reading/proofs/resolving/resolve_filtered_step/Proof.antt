@@ -18,9 +18,6 @@ use borrow.Author.Needs.{needs}
 use Rattle.reading.proofs.resolving.resolve_filtered_step.Statement.{statement}
 use Rattle.reading.proofs.resolving.resolve_filtered_step.Tie as tie
 
-refused-requires : tie.Need-refused-requires
-refused-requires c κs = search needs
-
 returns : tie.Need-returns
 unfolding refusedReply results
 returns c =
@@ -35,9 +32,6 @@ exporter-row-requires c κs = c .before .before .before .before .before .pre .wo
 
 exporter-count-requires : tie.Need-exporter-count-requires
 exporter-count-requires c κs = c .before .before .before .before .before .before .pre .words
-
-refused-requires-2 : tie.Need-refused-requires-2
-refused-requires-2 c κs = search needs
 
 returns-2 : tie.Need-returns-2
 unfolding refusedReply results
@@ -69,15 +63,6 @@ good c =
     let t = c .before .before .before .before .before .before .before .before .before .pre in
     rw (c .list .ensures) (kept-list (a .words .now) (a .store .now) (c .before .before .before .exporter-row .result) (omega arith) (sound-fields _ (t .entries) .listsKept))
 
-write-filtered-requires : tie.Need-write-filtered-requires
-write-filtered-requires c κs = search needs
-
-refused-requires-3 : tie.Need-refused-requires-3
-refused-requires-3 c κs = search needs
-
-same-length : tie.Need-same-length
-same-length c = search needs
-
 returns-3 : tie.Need-returns-3
 unfolding refusedReply results
 returns-3 c =
@@ -93,9 +78,6 @@ unknown-requires : tie.Need-unknown-requires
 unknown-requires c κs =
     let l = c .before .before .before .before .before .before in
     (l .before .before .before .before .before .before .before .before .before .pre .words, omega arith)
-
-same-length-2 : tie.Need-same-length-2
-same-length-2 c = search needs
 
 returns-4 : tie.Need-returns-4
 unfolding next
@@ -114,17 +96,17 @@ pub resolve-filtered-step-spec : {M : Type 1} → statement M
 resolve-filtered-step-spec =
     tie.close
     (tie.spec
-    refused-requires
+    (λ c κs. search needs)
     returns
     exporter-row-requires
     exporter-count-requires
-    refused-requires-2
+    (λ c κs. search needs)
     returns-2
     list-requires
-    write-filtered-requires
-    refused-requires-3
-    same-length
+    (λ c κs. search needs)
+    (λ c κs. search needs)
+    (λ c. search needs)
     returns-3
     unknown-requires
-    same-length-2
+    (λ c. search needs)
     returns-4)

@@ -51,9 +51,6 @@ exporter-row-requires c κs = c .before .before .before .pre .words
 exporter-count-requires : tie.Need-exporter-count-requires
 exporter-count-requires c κs = c .before .before .before .before .pre .words
 
-refused-requires : tie.Need-refused-requires
-refused-requires c κs = search needs
-
 returns : tie.Need-returns
 unfolding refusedReply results
 returns c =
@@ -77,23 +74,14 @@ list-left c =
     length-left (a .words .now) (a .store .now) (a .buffer .now) (a .oxid .0) (c .before .before .before .exporter-row .ensures (a .store .now)) (c .before .before .exporter-count .ensures .0)
     (c .list .ensures) (c .before .if1 .left)
 
-refused-requires-2 : tie.Need-refused-requires-2
-refused-requires-2 c κs = search needs
-
 returns-2 : tie.Need-returns-2
 unfolding refusedReply results
 returns-2 c =
     rw (c .refused2 .ensures)
     (refused-step 15 (row-gives _ _ _ (list-left (c .before .before)) (lt-ltb _ _ (c .before .if2 .taken))) (λ z. omega arith))
 
-copy-requires : tie.Need-copy-requires
-copy-requires c κs = search needs
-
 unknown-requires : tie.Need-unknown-requires
 unknown-requires c κs = (c .before .before .before .before .before .before .before .before .before .before .before .before .pre .words, omega arith)
-
-same-length : tie.Need-same-length
-same-length c = search needs
 
 returns-3 : tie.Need-returns-3
 unfolding next
@@ -111,12 +99,12 @@ resolve-step-spec =
     (tie.spec
     exporter-row-requires
     exporter-count-requires
-    refused-requires
+    (λ c κs. search needs)
     returns
     list-requires
-    refused-requires-2
+    (λ c κs. search needs)
     returns-2
-    copy-requires
+    (λ c κs. search needs)
     unknown-requires
-    same-length
+    (λ c. search needs)
     returns-3)

@@ -14,9 +14,6 @@ list-start-requires c κs =
     let h = list-starts (start .args .words .now) (start .args .store .now) (start .pre .2) (start .args .i) (search needs) in
     (search needs, h)
 
-list-requires : tie.Need-list-requires
-list-requires c κs = search needs
-
 add-t7 : tie.Need-add-t7
 add-t7 c =
     let start = c .before .before .before .before in
@@ -34,4 +31,4 @@ returns : tie.Need-returns
 returns c = rw (c .list .ensures, c .before .list-start .ensures)
 
 pub in-store-spec : {M : Type 1} → statement M
-in-store-spec = tie.close (tie.spec list-start-requires list-requires add-t7 returns)
+in-store-spec = tie.close (tie.spec list-start-requires (λ c κs. search needs) add-t7 returns)

@@ -5,11 +5,8 @@ use borrow.Author.Needs.{needs}
 use Rattle.reading.proofs.routing.next_stop_answer.Statement.{statement}
 use Rattle.reading.proofs.routing.next_stop_answer.Tie as tie
 
-next-stop-place-requires : tie.Need-next-stop-place-requires
-next-stop-place-requires c κs = search needs
-
 returns : tie.Need-returns
 returns c = ap (λ (r : Reply). r .number) (c .next-stop-place .ensures .performed .answered)
 
 pub next-stop-answer-spec : {M : Type 1} → statement M
-next-stop-answer-spec = tie.close (tie.spec next-stop-place-requires returns)
+next-stop-answer-spec = tie.close (tie.spec (λ c κs. search needs) returns)

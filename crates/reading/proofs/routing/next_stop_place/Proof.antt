@@ -7,12 +7,6 @@ use borrow.Author.Needs.{needs}
 use Rattle.reading.proofs.routing.next_stop_place.Statement.{statement}
 use Rattle.reading.proofs.routing.next_stop_place.Tie as tie
 
-sound-requires : tie.Need-sound-requires
-sound-requires c κs = search needs
-
-refused-requires : tie.Need-refused-requires
-refused-requires c κs = search needs
-
 returns : tie.Need-returns
 returns c =
     rw (c .refused .ensures) (refused-stop _ _ _ 1 (λ z. omega arith) (unsound-call (c .before .before .sound .ensures) _ refl (c .before .if1 .taken)))
@@ -24,4 +18,4 @@ returns-2 : tie.Need-returns-2
 returns-2 c = c .next-stop-step .ensures
 
 pub next-stop-place-spec : {M : Type 1} → statement M
-next-stop-place-spec = tie.close (tie.spec sound-requires refused-requires returns next-stop-step-requires returns-2)
+next-stop-place-spec = tie.close (tie.spec (λ c κs. search needs) (λ c κs. search needs) returns next-stop-step-requires returns-2)

@@ -15,27 +15,15 @@ use Rattle.reading.proofs.routing.next_stop_step.Statement.{statement}
 use Rattle.reading.proofs.routing.next_stop_step.Tie as tie
 use Rattle.rules.specs.Entries.{exporterRow}
 
-tail-place-requires : tie.Need-tail-place-requires
-tail-place-requires c κs = search needs
-
-refused-requires : tie.Need-refused-requires
-refused-requires c κs = search needs
-
 returns : tie.Need-returns
 returns c =
     let bad = c .before .if1 .taken in
     rw (c .refused .ensures)
     (refused-stop _ _ _ _ bad (step-call refl (c .before .before .before .before .before .before .before .pre) (refused-step _ (reference-refused _ (c .before .before .before .tail-place .ensures) _ bad) bad)))
 
-fields-requires : tie.Need-fields-requires
-fields-requires c κs = search needs
-
 -- the form that is read, of an accepted reference
 named : (c : tie.After-fields) → c .fields .result .flags ≡ field (c .before .before .before .before .before .before .before .args .reference .now) 4 4
 named c = same-form _ (c .before .before .before .tail-place .ensures) (c .before .if1 .left) (c .fields .ensures)
-
-refused-requires-2 : tie.Need-refused-requires-2
-refused-requires-2 c κs = search needs
 
 returns-2 : tie.Need-returns-2
 returns-2 c =
@@ -88,9 +76,6 @@ returns-3 c =
     (exporter-tested _ _ _ r (c .before .before .exporter-count .ensures .0) ∙ lt-ltb _ _ (c .before .if3 .taken))
     (omega arith) (sound-fields _ (t .entries) .listsKept))
 
-in-reference-requires : tie.Need-in-reference-requires
-in-reference-requires c κs = search needs
-
 returns-4 : tie.Need-returns-4
 returns-4 c =
     let own = c .before .before .before .before .before .before .before .before .before .before .tail-place .ensures in
@@ -102,15 +87,15 @@ pub next-stop-step-spec : {M : Type 1} → statement M
 next-stop-step-spec =
     tie.close
     (tie.spec
-    tail-place-requires
-    refused-requires
+    (λ c κs. search needs)
+    (λ c κs. search needs)
     returns
-    fields-requires
-    refused-requires-2
+    (λ c κs. search needs)
+    (λ c κs. search needs)
     returns-2
     exporter-row-requires
     exporter-count-requires
     in-store-requires
     returns-3
-    in-reference-requires
+    (λ c κs. search needs)
     returns-4)

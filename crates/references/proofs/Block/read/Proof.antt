@@ -3,21 +3,6 @@ use borrow.Author.Needs.{needs}
 use Rattle.references.proofs.Block.read.Statement.{statement}
 use Rattle.references.proofs.Block.read.Tie as tie
 
-read-guid-requires : tie.Need-read-guid-requires
-read-guid-requires c κs = search needs
-
-read-u32-requires : tie.Need-read-u32-requires
-read-u32-requires c κs = search needs
-
-read-u32-requires-2 : tie.Need-read-u32-requires-2
-read-u32-requires-2 c κs = search needs
-
-read-u64-requires : tie.Need-read-u64-requires
-read-u64-requires c κs = search needs
-
-read-u64-requires-2 : tie.Need-read-u64-requires-2
-read-u64-requires-2 c κs = search needs
-
 returns : tie.Need-returns
 returns c =
     λ u.
@@ -33,9 +18,9 @@ pub read-spec : {M : Type 1} → statement M
 read-spec =
     tie.close
     (tie.spec
-    read-guid-requires
-    read-u32-requires
-    read-u32-requires-2
-    read-u64-requires
-    read-u64-requires-2
+    (λ c κs. search needs)
+    (λ c κs. search needs)
+    (λ c κs. search needs)
+    (λ c κs. search needs)
+    (λ c κs. search needs)
     returns)

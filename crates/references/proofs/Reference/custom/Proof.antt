@@ -3,11 +3,8 @@ use borrow.Author.Needs.{needs}
 use Rattle.references.proofs.Reference.custom.Statement.{statement}
 use Rattle.references.proofs.Reference.custom.Tie as tie
 
-zero-requires : tie.Need-zero-requires
-zero-requires c κs = search needs
-
 returns : tie.Need-returns
 returns c = cc (c .zero .ensures)
 
 pub custom-spec : {M : Type 1} → statement M
-custom-spec = tie.close (tie.spec zero-requires returns)
+custom-spec = tie.close (tie.spec (λ c κs. search needs) returns)

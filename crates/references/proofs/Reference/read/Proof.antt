@@ -6,20 +6,11 @@ use borrow.Author.Needs.{needs}
 use Rattle.references.proofs.Reference.read.Statement.{statement}
 use Rattle.references.proofs.Reference.read.Tie as tie
 
-reference-answer-requires : tie.Need-reference-answer-requires
-reference-answer-requires c κs = search needs
-
-zero-requires : tie.Need-zero-requires
-zero-requires c κs = search needs
-
 returns : tie.Need-returns
 unfolding readReference
 returns c =
     let number = c .before .before .reference-answer .ensures in
     simp (ne-eqb _ _ (λ z. c .before .if1 .taken (number ∙ z))) (λ u. record { answer = number u; reference = c .zero .ensures u })
-
-fields-requires : tie.Need-fields-requires
-fields-requires c κs = search needs
 
 returns-2 : tie.Need-returns-2
 unfolding readReference
@@ -29,4 +20,4 @@ returns-2 c =
 
 pub read-spec : {M : Type 1} → statement M
 read-spec =
-    tie.close (tie.spec reference-answer-requires zero-requires returns fields-requires returns-2)
+    tie.close (tie.spec (λ c κs. search needs) (λ c κs. search needs) returns (λ c κs. search needs) returns-2)

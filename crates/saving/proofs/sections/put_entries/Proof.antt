@@ -50,9 +50,6 @@ put-sorted-requires-3 c κs =
     let l₄ = part-put _ _ room l₃ (c .before .before .before .put-sorted2 .ensures) in
     (start .pre .0, start .pre .1, part-room _ _ room l₄)
 
-same-length : tie.Need-same-length
-same-length c = search needs
-
 returns : tie.Need-returns
 returns c =
     let start = c .before .before .before .before .before .before .before .before .before .before .before .before .before .before .before .before .before .before .before .before .before .before .before .before in
@@ -74,5 +71,5 @@ put-entries-spec =
     put-section-requires
     put-sorted-requires-2
     put-sorted-requires-3
-    same-length
+    (λ c. search needs)
     returns)

@@ -24,9 +24,6 @@ cast-write-u16 c =
     let n = rows-few (a .words .now) (a .store .now) (a .rows .now) (a .section) (start .pre .2) in
     omega arith
 
-write-u16-requires : tie.Need-write-u16-requires Inv-loop μ-loop
-write-u16-requires c κs = search needs
-
 add-next : tie.Need-add-next Inv-loop μ-loop
 add-next c =
     let start = c .before .before .before .before .before .before .before .before .before in
@@ -40,12 +37,6 @@ add-next c =
 loop-holds : tie.Need-loop-holds Inv-loop μ-loop
 loop-holds c = (omega arith, left-all _ _ _)
 
-mul-put-row : tie.Need-mul-put-row Inv-loop μ-loop
-mul-put-row c = search needs
-
-shared-slice-read-put-row : tie.Need-shared-slice-read-put-row Inv-loop μ-loop
-shared-slice-read-put-row c = search needs
-
 put-row-requires : tie.Need-put-row-requires Inv-loop μ-loop
 put-row-requires c κs =
     let start = c .before .before .before .before .before .before .before .before .before .before .before .before .before in
@@ -58,12 +49,6 @@ put-row-requires c κs =
     let live = rows-live (a .words .now) (a .store .now) (a .rows .now) (a .section) o in
     (start .pre .0, start .pre .1, next-live row (a .rows .now) n live (l .k) (omega arith), next-room row (a .rows .now) n live (l .k) (omega arith) (left-fits (start .pre .3) begun) (l .inv .1))
 
-add-k : tie.Need-add-k Inv-loop μ-loop
-add-k c = search needs
-
-loop-less : tie.Need-loop-less Inv-loop μ-loop
-loop-less c = search needs
-
 loop-again : tie.Need-loop-again Inv-loop μ-loop
 loop-again c =
     let start = c .before .before .before .before .before .before .before .before .before .before .before .before .before .before .before .before in
@@ -75,9 +60,6 @@ loop-again c =
     let n = rowCount (a .section) (a .words .now) in
     let live = rows-live (a .words .now) (a .store .now) (a .rows .now) (a .section) o in
     (omega arith, next-put row (a .rows .now) n live (l .k) (omega arith) (left-fits (start .pre .3) begun) (l .inv .1) (c .before .before .put-row .ensures))
-
-same-length : tie.Need-same-length Inv-loop μ-loop
-same-length c = search needs
 
 returns : tie.Need-returns Inv-loop μ-loop
 returns c =
@@ -95,14 +77,14 @@ put-section-spec =
     Inv-loop
     μ-loop
     cast-write-u16
-    write-u16-requires
+    (λ c κs. search needs)
     add-next
     loop-holds
-    mul-put-row
-    shared-slice-read-put-row
+    (λ c. search needs)
+    (λ c. search needs)
     put-row-requires
-    add-k
-    loop-less
+    (λ c. search needs)
+    (λ c. search needs)
     loop-again
-    same-length
+    (λ c. search needs)
     returns)

@@ -8,15 +8,6 @@ use borrow.Author.Needs.{needs}
 use Rattle.saving.proofs.sections.put_snapshot.Statement.{statement}
 use Rattle.saving.proofs.sections.put_snapshot.Tie as tie
 
-slice-aggregate-sort-rows : tie.Need-slice-aggregate-sort-rows
-slice-aggregate-sort-rows c = search needs
-
-sort-rows-requires : tie.Need-sort-rows-requires
-sort-rows-requires c κs = search needs
-
-array-share-prefix-rows : tie.Need-array-share-prefix-rows
-array-share-prefix-rows c = search needs
-
 slice-aggregate-put-entries : tie.Need-slice-aggregate-put-entries
 slice-aggregate-put-entries c =
     let n = c .before .before .sort-rows in
@@ -37,20 +28,14 @@ put-entries-requires c κs =
       start .pre .1,
     )
 
-same-length : tie.Need-same-length
-same-length c = search needs
-
-returns : tie.Need-returns
-returns c = search needs
-
 pub put-snapshot-spec : {M : Type 1} → statement M
 put-snapshot-spec =
     tie.close
     (tie.spec
-    slice-aggregate-sort-rows
-    sort-rows-requires
-    array-share-prefix-rows
+    (λ c. search needs)
+    (λ c κs. search needs)
+    (λ c. search needs)
     slice-aggregate-put-entries
     put-entries-requires
-    same-length
-    returns)
+    (λ c. search needs)
+    (λ c. search needs))

@@ -6,15 +6,6 @@ use borrow.Author.Needs.{needs}
 use Rattle.saving.proofs.sections.put_sorted.Statement.{statement}
 use Rattle.saving.proofs.sections.put_sorted.Tie as tie
 
-slice-aggregate-sort-rows : tie.Need-slice-aggregate-sort-rows
-slice-aggregate-sort-rows c = search needs
-
-sort-rows-requires : tie.Need-sort-rows-requires
-sort-rows-requires c κs = search needs
-
-array-share-prefix-rows : tie.Need-array-share-prefix-rows
-array-share-prefix-rows c = search needs
-
 slice-aggregate-put-section : tie.Need-slice-aggregate-put-section
 slice-aggregate-put-section c =
     let n = c .before .before .sort-rows in
@@ -26,20 +17,14 @@ put-section-requires c κs =
     let start = c .before .before .before .before .before .before .before .before .before in
     (start .pre .0, start .pre .1, c .before .before .before .sort-rows .ensures .order (start .args .store .now), start .pre .2)
 
-same-length : tie.Need-same-length
-same-length c = search needs
-
-returns : tie.Need-returns
-returns c = search needs
-
 pub put-sorted-spec : {M : Type 1} → statement M
 put-sorted-spec =
     tie.close
     (tie.spec
-    slice-aggregate-sort-rows
-    sort-rows-requires
-    array-share-prefix-rows
+    (λ c. search needs)
+    (λ c κs. search needs)
+    (λ c. search needs)
     slice-aggregate-put-section
     put-section-requires
-    same-length
-    returns)
+    (λ c. search needs)
+    (λ c. search needs))

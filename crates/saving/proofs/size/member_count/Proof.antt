@@ -22,26 +22,11 @@ Inv-loop words n total₀ i₀ total i =
 abbrev μ-loop : tie.MeasureT-loop
 μ-loop words n total₀ i₀ total i = n - i
 
-set-count-requires : tie.Need-set-count-requires Inv-loop μ-loop
-set-count-requires c κs = search needs
-
 loop-holds : tie.Need-loop-holds Inv-loop μ-loop
 loop-holds c = (omega arith, omega arith, sym (zero-add _))
 
-members-requires : tie.Need-members-requires Inv-loop μ-loop
-members-requires c κs = search needs
-
-size-requires : tie.Need-size-requires Inv-loop μ-loop
-size-requires c κs = search needs
-
 add-total : tie.Need-add-total Inv-loop μ-loop
 add-total c = let b = few-members (c .before .members .result) in omega arith
-
-add-i : tie.Need-add-i Inv-loop μ-loop
-add-i c = search needs
-
-loop-less : tie.Need-loop-less Inv-loop μ-loop
-loop-less c = search needs
 
 loop-again : tie.Need-loop-again Inv-loop μ-loop
 loop-again c =
@@ -70,12 +55,12 @@ member-count-spec =
     (tie.spec
     Inv-loop
     μ-loop
-    set-count-requires
+    (λ c κs. search needs)
     loop-holds
-    members-requires
-    size-requires
+    (λ c κs. search needs)
+    (λ c κs. search needs)
     add-total
-    add-i
-    loop-less
+    (λ c. search needs)
+    (λ c. search needs)
     loop-again
     returns)

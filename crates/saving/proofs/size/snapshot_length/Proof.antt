@@ -5,47 +5,11 @@ use borrow.Author.Needs.{needs}
 use Rattle.saving.proofs.size.snapshot_length.Statement.{statement}
 use Rattle.saving.proofs.size.snapshot_length.Tie as tie
 
-exporter-count-requires : tie.Need-exporter-count-requires
-exporter-count-requires c κs = search needs
-
 list-start-requires : tie.Need-list-start-requires
 list-start-requires c κs =
     let start = c .before .before .before in
     let h = lists-inside (start .args .words .now) (start .args .store .now) (start .pre) (c .exporter-count .ensures .0) in
     (start .pre .store, omega (arith, start .pre .store))
-
-object-count-requires : tie.Need-object-count-requires
-object-count-requires c κs = search needs
-
-mul-objects : tie.Need-mul-objects
-mul-objects c = search needs
-
-interface-count-requires : tie.Need-interface-count-requires
-interface-count-requires c κs = search needs
-
-mul-interfaces : tie.Need-mul-interfaces
-mul-interfaces c = search needs
-
-set-count-requires : tie.Need-set-count-requires
-set-count-requires c κs = search needs
-
-mul-sets : tie.Need-mul-sets
-mul-sets c = search needs
-
-member-count-requires : tie.Need-member-count-requires
-member-count-requires c κs = search needs
-
-mul-sets-2 : tie.Need-mul-sets-2
-mul-sets-2 c = search needs
-
-add-sets : tie.Need-add-sets
-add-sets c = search needs
-
-mul-result : tie.Need-mul-result
-mul-result c = search needs
-
-add-result : tie.Need-add-result
-add-result c = search needs
 
 add-result-2 : tie.Need-add-result-2
 add-result-2 c = let h = lists-inside (c .before .before .before .before .before .before .before .before .args .words .now) (c .before .before .before .before .before .before .before .before .args .store .now) (c .before .before .before .before .before .before .before .before .pre) (c .before .before .before .before .before .exporter-count .ensures .0) in let e = c .before .before .before .before .list-start .ensures in omega arith
@@ -69,19 +33,19 @@ pub snapshot-length-spec : {M : Type 1} → statement M
 snapshot-length-spec =
     tie.close
     (tie.spec
-    exporter-count-requires
+    (λ c κs. search needs)
     list-start-requires
-    object-count-requires
-    mul-objects
-    interface-count-requires
-    mul-interfaces
-    set-count-requires
-    mul-sets
-    member-count-requires
-    mul-sets-2
-    add-sets
-    mul-result
-    add-result
+    (λ c κs. search needs)
+    (λ c. search needs)
+    (λ c κs. search needs)
+    (λ c. search needs)
+    (λ c κs. search needs)
+    (λ c. search needs)
+    (λ c κs. search needs)
+    (λ c. search needs)
+    (λ c. search needs)
+    (λ c. search needs)
+    (λ c. search needs)
     add-result-2
     add-result-3
     add-result-4

@@ -19,19 +19,10 @@ Inv-loop words s n count members₀ k₀ j₀ members k j = (j ≤ count) × Wal
 abbrev μ-loop : tie.MeasureT-loop
 μ-loop words s n count members₀ k₀ j₀ members k j = count - j
 
-object-count-requires : tie.Need-object-count-requires Inv-loop μ-loop
-object-count-requires c κs = search needs
-
 loop-holds : tie.Need-loop-holds Inv-loop μ-loop
 loop-holds c =
     let a = c .before .before .before .args in
     (omega arith, walk-begun (oidsOf (a .words .now)) (membersIn (a .s .now) (a .n)) _ refl refl)
-
-is-member-requires : tie.Need-is-member-requires Inv-loop μ-loop
-is-member-requires c κs = search needs
-
-put-requires : tie.Need-put-requires Inv-loop μ-loop
-put-requires c κs = search needs
 
 counted-requires : tie.Need-counted-requires Inv-loop μ-loop
 counted-requires c κs =
@@ -39,12 +30,6 @@ counted-requires c κs =
     let st = c .before .before .before .before .before .before .before in
     let l = length-tabulate (st .args .n) (λ k. field (st .args .s .now) (20 + 8 * k) 8) in
     omega arith
-
-add-j : tie.Need-add-j Inv-loop μ-loop
-add-j c = omega arith
-
-loop-less : tie.Need-loop-less Inv-loop μ-loop
-loop-less c = omega arith
 
 loop-again : tie.Need-loop-again Inv-loop μ-loop
 loop-again c =
@@ -79,12 +64,12 @@ find-members-spec =
     (tie.spec
     Inv-loop
     μ-loop
-    object-count-requires
+    (λ c κs. search needs)
     loop-holds
-    is-member-requires
-    put-requires
+    (λ c κs. search needs)
+    (λ c κs. search needs)
     counted-requires
-    add-j
-    loop-less
+    (λ c. omega arith)
+    (λ c. omega arith)
     loop-again
     returns)

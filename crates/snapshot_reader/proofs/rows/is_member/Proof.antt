@@ -14,18 +14,6 @@ use Rattle.snapshot_reader.proofs.rows.is_member.Tie as tie
 returns : tie.Need-returns
 returns c = rw (le-ltb _ _ (c .if1 .taken))
 
-oid-requires : tie.Need-oid-requires
-oid-requires c κs = search needs
-
-mul-read-u64 : tie.Need-mul-read-u64
-mul-read-u64 c = search needs
-
-add-read-u64 : tie.Need-add-read-u64
-add-read-u64 c = search needs
-
-read-u64-requires : tie.Need-read-u64-requires
-read-u64-requires c κs = search needs
-
 returns-2 : tie.Need-returns-2
 returns-2 c =
     let st = c .before .before .before .before .before .before in
@@ -36,4 +24,4 @@ returns-2 c =
 
 pub is-member-spec : {M : Type 1} → statement M
 is-member-spec =
-    tie.close (tie.spec returns oid-requires mul-read-u64 add-read-u64 read-u64-requires returns-2)
+    tie.close (tie.spec returns (λ c κs. search needs) (λ c. search needs) (λ c. search needs) (λ c κs. search needs) returns-2)

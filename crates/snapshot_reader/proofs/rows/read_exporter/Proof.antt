@@ -12,42 +12,6 @@ use borrow.Author.Needs.{needs}
 use Rattle.snapshot_reader.proofs.rows.read_exporter.Statement.{statement}
 use Rattle.snapshot_reader.proofs.rows.read_exporter.Tie as tie
 
-read-u16-requires : tie.Need-read-u16-requires
-read-u16-requires c κs = search needs
-
-cast-size : tie.Need-cast-size
-cast-size c = search needs
-
-within-requires : tie.Need-within-requires
-within-requires c κs = search needs
-
-add-within : tie.Need-add-within
-add-within c = search needs
-
-within-requires-2 : tie.Need-within-requires-2
-within-requires-2 c κs = search needs
-
-sub-list : tie.Need-sub-list
-sub-list c = search needs
-
-part-list-start : tie.Need-part-list-start
-part-list-start c = search needs
-
-part-list-end : tie.Need-part-list-end
-part-list-end c = search needs
-
-has-room-requires : tie.Need-has-room-requires
-has-room-requires c κs = search needs
-
-no-row-requires : tie.Need-no-row-requires
-no-row-requires c κs = search needs
-
-same-length : tie.Need-same-length
-same-length c = search needs
-
-same-length-2 : tie.Need-same-length-2
-same-length-2 c = search needs
-
 returns : tie.Need-returns
 unfolding readExporter
 returns c =
@@ -58,24 +22,12 @@ returns c =
     row-refused Exporters s (view (memory (a .words .now) (a .store .now))) (c .no-row .result) (c .no-row .ensures)
     (rw l at (sym (c .before .before .has-room .ensures (field s 0 8) (guidAt s 8)) ∙ not-true _ (c .before .if1 .taken)))
 
-read-u64-requires : tie.Need-read-u64-requires
-read-u64-requires c κs = search needs
-
-read-guid-requires : tie.Need-read-guid-requires
-read-guid-requires c κs = search needs
-
 put-exporter-requires : tie.Need-put-exporter-requires
 put-exporter-requires c κs =
     let st = c .before .before .before .before .before .before .before .before .before .before .before .before .before .before .before in
     let a = st .args in
     let r = room-made (a .words .now) (a .store .now) (st .pre .2) _ (sym (c .before .before .before .before .before .has-room .ensures 0 (record { low = 0; high = 0 })) ∙ not-false _ (c .before .before .before .before .if1 .left)) in
     (st .pre .0, st .pre .1, r .0, r .1, r .2)
-
-same-length-3 : tie.Need-same-length-3
-same-length-3 c = search needs
-
-same-length-4 : tie.Need-same-length-4
-same-length-4 c = search needs
 
 returns-2 : tie.Need-returns-2
 unfolding readExporter
@@ -97,22 +49,22 @@ pub read-exporter-spec : {M : Type 1} → statement M
 read-exporter-spec =
     tie.close
     (tie.spec
-    read-u16-requires
-    cast-size
-    within-requires
-    add-within
-    within-requires-2
-    sub-list
-    part-list-start
-    part-list-end
-    has-room-requires
-    no-row-requires
-    same-length
-    same-length-2
+    (λ c κs. search needs)
+    (λ c. search needs)
+    (λ c κs. search needs)
+    (λ c. search needs)
+    (λ c κs. search needs)
+    (λ c. search needs)
+    (λ c. search needs)
+    (λ c. search needs)
+    (λ c κs. search needs)
+    (λ c κs. search needs)
+    (λ c. search needs)
+    (λ c. search needs)
     returns
-    read-u64-requires
-    read-guid-requires
+    (λ c κs. search needs)
+    (λ c κs. search needs)
     put-exporter-requires
-    same-length-3
-    same-length-4
+    (λ c. search needs)
+    (λ c. search needs)
     returns-2)

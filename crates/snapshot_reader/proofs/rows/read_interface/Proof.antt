@@ -14,15 +14,6 @@ use borrow.Author.Needs.{needs}
 use Rattle.snapshot_reader.proofs.rows.read_interface.Statement.{statement}
 use Rattle.snapshot_reader.proofs.rows.read_interface.Tie as tie
 
-interface-count-requires : tie.Need-interface-count-requires
-interface-count-requires c κs = search needs
-
-no-row-requires : tie.Need-no-row-requires
-no-row-requires c κs = search needs
-
-same-length : tie.Need-same-length
-same-length c = search needs
-
 returns : tie.Need-returns
 unfolding readInterface
 returns c t =
@@ -31,54 +22,6 @@ returns c t =
     let n = c .before .before .interface-count in
     row-refused Interfaces (st .args .s .now) (view (memory ws t)) (c .no-row .result) (c .no-row .ensures)
     (interface-fits _ (view (memory ws t)) ∙ rw (interfaces-length ws, ← n .ensures .0) (le-ltb (n .result) interfacePlaces (c .before .if1 .taken)))
-
-read-guid-requires : tie.Need-read-guid-requires
-read-guid-requires c κs = search needs
-
-read-guid-requires-2 : tie.Need-read-guid-requires-2
-read-guid-requires-2 c κs = search needs
-
-read-u64-requires : tie.Need-read-u64-requires
-read-u64-requires c κs = search needs
-
-read-u32-requires : tie.Need-read-u32-requires
-read-u32-requires c κs = search needs
-
-read-u32-requires-2 : tie.Need-read-u32-requires-2
-read-u32-requires-2 c κs = search needs
-
-read-u32-requires-3 : tie.Need-read-u32-requires-3
-read-u32-requires-3 c κs = search needs
-
-read-u32-requires-4 : tie.Need-read-u32-requires-4
-read-u32-requires-4 c κs = search needs
-
-read-u32-requires-5 : tie.Need-read-u32-requires-5
-read-u32-requires-5 c κs = search needs
-
-read-u32-requires-6 : tie.Need-read-u32-requires-6
-read-u32-requires-6 c κs = search needs
-
-read-u32-requires-7 : tie.Need-read-u32-requires-7
-read-u32-requires-7 c κs = search needs
-
-read-u32-requires-8 : tie.Need-read-u32-requires-8
-read-u32-requires-8 c κs = search needs
-
-read-u32-requires-9 : tie.Need-read-u32-requires-9
-read-u32-requires-9 c κs = search needs
-
-slice-aggregate-add-interface : tie.Need-slice-aggregate-add-interface
-slice-aggregate-add-interface c = search needs
-
-add-interface-requires : tie.Need-add-interface-requires
-add-interface-requires c κs = search needs
-
-within-requires : tie.Need-within-requires
-within-requires c κs = search needs
-
-same-length-2 : tie.Need-same-length-2
-same-length-2 c = search needs
 
 returns-2 : tie.Need-returns-2
 unfolding readInterface tabulate
@@ -99,24 +42,24 @@ pub read-interface-spec : {M : Type 1} → statement M
 read-interface-spec =
     tie.close
     (tie.spec
-    interface-count-requires
-    no-row-requires
-    same-length
+    (λ c κs. search needs)
+    (λ c κs. search needs)
+    (λ c. search needs)
     returns
-    read-guid-requires
-    read-guid-requires-2
-    read-u64-requires
-    read-u32-requires
-    read-u32-requires-2
-    read-u32-requires-3
-    read-u32-requires-4
-    read-u32-requires-5
-    read-u32-requires-6
-    read-u32-requires-7
-    read-u32-requires-8
-    read-u32-requires-9
-    slice-aggregate-add-interface
-    add-interface-requires
-    within-requires
-    same-length-2
+    (λ c κs. search needs)
+    (λ c κs. search needs)
+    (λ c κs. search needs)
+    (λ c κs. search needs)
+    (λ c κs. search needs)
+    (λ c κs. search needs)
+    (λ c κs. search needs)
+    (λ c κs. search needs)
+    (λ c κs. search needs)
+    (λ c κs. search needs)
+    (λ c κs. search needs)
+    (λ c κs. search needs)
+    (λ c. search needs)
+    (λ c κs. search needs)
+    (λ c κs. search needs)
+    (λ c. search needs)
     returns-2)

@@ -15,15 +15,6 @@ use borrow.Author.Needs.{needs}
 use Rattle.snapshot_reader.proofs.rows.read_object.Statement.{statement}
 use Rattle.snapshot_reader.proofs.rows.read_object.Tie as tie
 
-object-count-requires : tie.Need-object-count-requires
-object-count-requires c κs = search needs
-
-no-row-requires : tie.Need-no-row-requires
-no-row-requires c κs = search needs
-
-same-length : tie.Need-same-length
-same-length c = search needs
-
 returns : tie.Need-returns
 unfolding readObject
 returns c t =
@@ -33,28 +24,10 @@ returns c t =
     row-refused Objects (st .args .s .now) (view (memory ws t)) (c .no-row .result) (c .no-row .ensures)
     (object-fits _ (view (memory ws t)) (st .pre .1 t) ∙ rw (objects-length ws, ← n .ensures .0) (le-ltb (n .result) objectPlaces (c .before .if1 .taken)))
 
-read-u64-requires : tie.Need-read-u64-requires
-read-u64-requires c κs = search needs
-
-read-u64-requires-2 : tie.Need-read-u64-requires-2
-read-u64-requires-2 c κs = search needs
-
-is-zero-requires : tie.Need-is-zero-requires
-is-zero-requires c κs = search needs
-
-read-u64-requires-3 : tie.Need-read-u64-requires-3
-read-u64-requires-3 c κs = search needs
-
 add-object-requires : tie.Need-add-object-requires
 add-object-requires c κs =
     let st = c .before .before .before .before .before .before .before .before .before .before in
     (st .pre .0, omega arith, before-sets (st .args .words .now) (st .pre .1 []))
-
-within-requires : tie.Need-within-requires
-within-requires c κs = search needs
-
-same-length-2 : tie.Need-same-length-2
-same-length-2 c = search needs
 
 returns-2 : tie.Need-returns-2
 unfolding readObject
@@ -74,15 +47,15 @@ pub read-object-spec : {M : Type 1} → statement M
 read-object-spec =
     tie.close
     (tie.spec
-    object-count-requires
-    no-row-requires
-    same-length
+    (λ c κs. search needs)
+    (λ c κs. search needs)
+    (λ c. search needs)
     returns
-    read-u64-requires
-    read-u64-requires-2
-    is-zero-requires
-    read-u64-requires-3
+    (λ c κs. search needs)
+    (λ c κs. search needs)
+    (λ c κs. search needs)
+    (λ c κs. search needs)
     add-object-requires
-    within-requires
-    same-length-2
+    (λ c κs. search needs)
+    (λ c. search needs)
     returns-2)

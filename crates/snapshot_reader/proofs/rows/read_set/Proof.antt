@@ -10,15 +10,6 @@ use borrow.Author.Needs.{needs}
 use Rattle.snapshot_reader.proofs.rows.read_set.Statement.{statement}
 use Rattle.snapshot_reader.proofs.rows.read_set.Tie as tie
 
-set-count-requires : tie.Need-set-count-requires
-set-count-requires c κs = search needs
-
-no-row-requires : tie.Need-no-row-requires
-no-row-requires c κs = search needs
-
-same-length : tie.Need-same-length
-same-length c = search needs
-
 returns : tie.Need-returns
 returns c t =
     let st = c .before .before .before .before .before .before in
@@ -27,21 +18,6 @@ returns c t =
     let n = c .before .before .set-count in
     row-refused Sets s (view (memory ws t)) (c .no-row .result) (c .no-row .ensures)
     (set-full ws s t (st .pre .1 t) (n .result) (n .ensures .0) (c .before .if1 .taken))
-
-read-u16-requires : tie.Need-read-u16-requires
-read-u16-requires c κs = search needs
-
-cast-n : tie.Need-cast-n
-cast-n c = search needs
-
-find-members-requires : tie.Need-find-members-requires
-find-members-requires c κs = search needs
-
-no-row-requires-2 : tie.Need-no-row-requires-2
-no-row-requires-2 c κs = search needs
-
-same-length-2 : tie.Need-same-length-2
-same-length-2 c = search needs
 
 returns-2 : tie.Need-returns-2
 returns-2 c t =
@@ -53,30 +29,6 @@ returns-2 c t =
     row-refused Sets s (view (memory ws t)) (c .no-row2 .result) (c .no-row2 .ensures)
     (set-judged ws s t (st .pre .1 t) (n .result) (n .ensures .0) (c .before .before .before .before .before .before .if1 .left) (found .result) _ (c .before .before .before .before .before .read-u16 .ensures) (found .ensures)
     ∙ not-true _ (c .before .if2 .taken))
-
-read-u64-requires : tie.Need-read-u64-requires
-read-u64-requires c κs = search needs
-
-read-u16-requires-2 : tie.Need-read-u16-requires-2
-read-u16-requires-2 c κs = search needs
-
-read-u64-requires-2 : tie.Need-read-u64-requires-2
-read-u64-requires-2 c κs = search needs
-
-add-set-requires : tie.Need-add-set-requires
-add-set-requires c κs = search needs
-
-mul-within : tie.Need-mul-within
-mul-within c = search needs
-
-add-within : tie.Need-add-within
-add-within c = search needs
-
-within-requires : tie.Need-within-requires
-within-requires c κs = search needs
-
-same-length-3 : tie.Need-same-length-3
-same-length-3 c = search needs
 
 returns-3 : tie.Need-returns-3
 returns-3 c t =
@@ -99,22 +51,22 @@ pub read-set-spec : {M : Type 1} → statement M
 read-set-spec =
     tie.close
     (tie.spec
-    set-count-requires
-    no-row-requires
-    same-length
+    (λ c κs. search needs)
+    (λ c κs. search needs)
+    (λ c. search needs)
     returns
-    read-u16-requires
-    cast-n
-    find-members-requires
-    no-row-requires-2
-    same-length-2
+    (λ c κs. search needs)
+    (λ c. search needs)
+    (λ c κs. search needs)
+    (λ c κs. search needs)
+    (λ c. search needs)
     returns-2
-    read-u64-requires
-    read-u16-requires-2
-    read-u64-requires-2
-    add-set-requires
-    mul-within
-    add-within
-    within-requires
-    same-length-3
+    (λ c κs. search needs)
+    (λ c κs. search needs)
+    (λ c κs. search needs)
+    (λ c κs. search needs)
+    (λ c. search needs)
+    (λ c. search needs)
+    (λ c κs. search needs)
+    (λ c. search needs)
     returns-3)

@@ -18,18 +18,6 @@ Inv-loop words₀ store₀ section s at n next₀ i₀ words store next i = Whol
 abbrev μ-loop : tie.MeasureT-loop
 μ-loop words₀ store₀ section s at n next₀ i₀ words store next i = n - i
 
-read-u16-requires : tie.Need-read-u16-requires Inv-loop μ-loop
-read-u16-requires c κs = search needs
-
-cast-n : tie.Need-cast-n Inv-loop μ-loop
-cast-n c = omega arith
-
-add-within : tie.Need-add-within Inv-loop μ-loop
-add-within c = omega arith
-
-within-requires : tie.Need-within-requires Inv-loop μ-loop
-within-requires c κs = search needs
-
 loop-holds : tie.Need-loop-holds Inv-loop μ-loop
 loop-holds c =
     let st = c .before .before .before .before .before in
@@ -45,17 +33,8 @@ sub-read-row c = let p = c .before .before .before .loop .inv .2 .inside in omeg
 part-read-row-start : tie.Need-part-read-row-start Inv-loop μ-loop
 part-read-row-start c = let p = c .before .before .before .loop .inv .2 .inside in omega arith
 
-part-read-row-end : tie.Need-part-read-row-end Inv-loop μ-loop
-part-read-row-end c = omega arith
-
 read-row-requires : tie.Need-read-row-requires Inv-loop μ-loop
 read-row-requires c κs = let i = c .before .before .before .before .loop .inv in (i .0, i .1, i .2 .fit)
-
-same-length : tie.Need-same-length Inv-loop μ-loop
-same-length c = omega arith
-
-same-length-2 : tie.Need-same-length-2 Inv-loop μ-loop
-same-length-2 c = omega arith
 
 returns : tie.Need-returns Inv-loop μ-loop
 returns c =
@@ -77,12 +56,6 @@ add-next c =
     let z = st .pre .3 in
     omega arith
 
-add-i : tie.Need-add-i Inv-loop μ-loop
-add-i c = omega arith
-
-loop-less : tie.Need-loop-less Inv-loop μ-loop
-loop-less c = omega arith
-
 loop-again : tie.Need-loop-again Inv-loop μ-loop
 loop-again c =
     let st = c .before .before .before .before .before .before .before .before .before .before .before .before .before .before .before .before .before .before in
@@ -91,12 +64,6 @@ loop-again c =
     let w = l .inv .0 in
     let b = l .inv .1 in
     (omega arith, omega arith, row-off (l .inv .2) (omega arith) h (not-false _ (c .before .if1 .left)))
-
-same-length-3 : tie.Need-same-length-3 Inv-loop μ-loop
-same-length-3 c = omega arith
-
-same-length-4 : tie.Need-same-length-4 Inv-loop μ-loop
-same-length-4 c = omega arith
 
 returns-2 : tie.Need-returns-2 Inv-loop μ-loop
 returns-2 c =
@@ -111,22 +78,22 @@ read-section-spec =
     (tie.spec
     Inv-loop
     μ-loop
-    read-u16-requires
-    cast-n
-    add-within
-    within-requires
+    (λ c κs. search needs)
+    (λ c. omega arith)
+    (λ c. omega arith)
+    (λ c κs. search needs)
     loop-holds
     sub-read-row
     part-read-row-start
-    part-read-row-end
+    (λ c. omega arith)
     read-row-requires
-    same-length
-    same-length-2
+    (λ c. omega arith)
+    (λ c. omega arith)
     returns
     add-next
-    add-i
-    loop-less
+    (λ c. omega arith)
+    (λ c. omega arith)
     loop-again
-    same-length-3
-    same-length-4
+    (λ c. omega arith)
+    (λ c. omega arith)
     returns-2)

@@ -17,12 +17,6 @@ read-section-requires c κs =
     let r0 = reached-begun s _ _ (st .pre .5) (st .pre .3) in
     (st .pre .0, st .pre .1, r0 .inside, st .pre .2, ap (fits Exporters) (r0 .entries) ∙ exporters-none s)
 
-same-length : tie.Need-same-length
-same-length c = search needs
-
-same-length-2 : tie.Need-same-length-2
-same-length-2 c = search needs
-
 returns : tie.Need-returns
 returns c =
     let st = c .before .before .before .before .before .before .before .before .before .before .before .before in
@@ -37,12 +31,6 @@ read-section-requires-2 c κs =
     let r0 = reached-begun s _ _ (st .pre .5) (st .pre .3) in
     let r1 = reached-next Exporters r0 (c .before .before .before .before .before .before .before .before .read-section .ensures) (exporters-section s) (not-false _ (c .before .before .if1 .left)) in
     (omega arith, omega arith, r1 .inside, st .pre .2, ap (fits Objects) (r1 .entries) ∙ objects-none s)
-
-same-length-3 : tie.Need-same-length-3
-same-length-3 c = search needs
-
-same-length-4 : tie.Need-same-length-4
-same-length-4 c = search needs
 
 returns-2 : tie.Need-returns-2
 returns-2 c =
@@ -60,12 +48,6 @@ read-section-requires-3 c κs =
     let r1 = reached-next Exporters r0 (c .before .before .before .before .before .before .before .before .before .before .before .before .before .before .before .before .before .read-section .ensures) (exporters-section s) (not-false _ (c .before .before .before .before .before .before .before .before .before .before .before .if1 .left)) in
     let r2 = reached-next Objects r1 (c .before .before .before .before .before .before .before .before .read-section2 .ensures) (objects-section s) (not-false _ (c .before .before .if2 .left)) in
     (omega arith, omega arith, r2 .inside, st .pre .2, ap (fits Interfaces) (r2 .entries) ∙ interfaces-none s)
-
-same-length-5 : tie.Need-same-length-5
-same-length-5 c = search needs
-
-same-length-6 : tie.Need-same-length-6
-same-length-6 c = search needs
 
 returns-3 : tie.Need-returns-3
 returns-3 c =
@@ -89,9 +71,6 @@ read-section-requires-4 c κs =
 same-length-7 : tie.Need-same-length-7
 same-length-7 c = omega (arith, c .before .before .before .before .before .before .before .before .before .before .before .before .before .before .before .before .before .before .before .before .before .before .before .before .before .before .before .before .before .before .words .given, c .before .before .before .before .before .before .before .before .before .before .before .before .before .before .before .before .before .before .before .before .before .words2 .given, c .before .before .before .before .before .before .before .before .before .before .before .before .words3 .given, c .before .before .before .words4 .given)
 
-same-length-8 : tie.Need-same-length-8
-same-length-8 c = search needs
-
 returns-4 : tie.Need-returns-4
 returns-4 c =
     let st = c .before .before .before .before .before .before .before .before .before .before .before .before .before .before .before .before .before .before .before .before .before .before .before .before .before .before .before .before .before .before .before .before .before .before .before .before .before in
@@ -111,18 +90,18 @@ read-sections-spec =
     tie.close
     (tie.spec
     read-section-requires
-    same-length
-    same-length-2
+    (λ c. search needs)
+    (λ c. search needs)
     returns
     read-section-requires-2
-    same-length-3
-    same-length-4
+    (λ c. search needs)
+    (λ c. search needs)
     returns-2
     read-section-requires-3
-    same-length-5
-    same-length-6
+    (λ c. search needs)
+    (λ c. search needs)
     returns-3
     read-section-requires-4
     same-length-7
-    same-length-8
+    (λ c. search needs)
     returns-4)

@@ -10,26 +10,8 @@ use Rattle.snapshot_reader.proofs.sections.read_table.Tie as tie
 returns : tie.Need-returns
 returns c = let s = c .before .before .before .before .args .s .now in table-refused s _ (too-long s (c .if1 .taken))
 
-read-u16-requires : tie.Need-read-u16-requires
-read-u16-requires c κs = search needs
-
 returns-2 : tie.Need-returns-2
 returns-2 c = let s = c .before .before .before .before .before .before .args .s .now in table-refused s _ (other-count s (λ z. c .if2 .taken (c .before .read-u16 .ensures ∙ z)))
-
-read-u64-requires : tie.Need-read-u64-requires
-read-u64-requires c κs = search needs
-
-clear-requires : tie.Need-clear-requires
-clear-requires c κs = search needs
-
-read-u64-requires-2 : tie.Need-read-u64-requires-2
-read-u64-requires-2 c κs = search needs
-
-set-next-requires : tie.Need-set-next-requires
-set-next-requires c κs = search needs
-
-within-requires : tie.Need-within-requires
-within-requires c κs = search needs
 
 read-sections-requires : tie.Need-read-sections-requires
 read-sections-requires c κs =
@@ -47,12 +29,6 @@ read-sections-requires c κs =
           ∙ (λ u. withNext (n .ensures u) (fresh (t .ensures u))),
     )
 
-same-length : tie.Need-same-length
-same-length c = search needs
-
-same-length-2 : tie.Need-same-length-2
-same-length-2 c = search needs
-
 returns-3 : tie.Need-returns-3
 returns-3 c = c .before .before .before .before .read-sections .ensures
 
@@ -61,14 +37,14 @@ read-table-spec =
     tie.close
     (tie.spec
     returns
-    read-u16-requires
+    (λ c κs. search needs)
     returns-2
-    read-u64-requires
-    clear-requires
-    read-u64-requires-2
-    set-next-requires
-    within-requires
+    (λ c κs. search needs)
+    (λ c κs. search needs)
+    (λ c κs. search needs)
+    (λ c κs. search needs)
+    (λ c κs. search needs)
     read-sections-requires
-    same-length
-    same-length-2
+    (λ c. search needs)
+    (λ c. search needs)
     returns-3)

@@ -26,12 +26,6 @@ abbrev μ-loop : tie.MeasureT-loop
 loop-holds : tie.Need-loop-holds Inv-loop μ-loop
 loop-holds c = (omega arith, left-all _ _ _)
 
-count-requires : tie.Need-count-requires Inv-loop μ-loop
-count-requires c κs = search needs
-
-write-u32-requires : tie.Need-write-u32-requires Inv-loop μ-loop
-write-u32-requires c κs = search needs
-
 add-next : tie.Need-add-next Inv-loop μ-loop
 add-next c =
     let start = c .before .before .before .before .before .before .before .before .before in
@@ -42,12 +36,6 @@ add-next c =
     let n = length-encode 4 (countOf (l .k) (getD (interfacesOf (start .args .words .now)) (start .args .i) noInterface)) in
     omega arith
 
-add-k : tie.Need-add-k Inv-loop μ-loop
-add-k c = search needs
-
-loop-less : tie.Need-loop-less Inv-loop μ-loop
-loop-less c = search needs
-
 loop-again : tie.Need-loop-again Inv-loop μ-loop
 loop-again c =
     let start = c .before .before .before .before .before .before .before .before .before in
@@ -55,9 +43,6 @@ loop-again c =
     let row = countBytesAt (start .args .words .now) (start .args .i) in
     let left = left-same (numbered-next row 9 (l .k) (omega arith)) (l .inv .1) in
     (omega arith, left-step (row (l .k)) _ (start .pre .2) left (wrote-number 4 (c .before .before .before .count .ensures) (c .before .before .write-u32 .ensures) refl))
-
-same-length : tie.Need-same-length Inv-loop μ-loop
-same-length c = search needs
 
 returns : tie.Need-returns Inv-loop μ-loop
 returns c =
@@ -71,11 +56,11 @@ put-counts-spec =
     Inv-loop
     μ-loop
     loop-holds
-    count-requires
-    write-u32-requires
+    (λ c κs. search needs)
+    (λ c κs. search needs)
     add-next
-    add-k
-    loop-less
+    (λ c. search needs)
+    (λ c. search needs)
     loop-again
-    same-length
+    (λ c. search needs)
     returns)

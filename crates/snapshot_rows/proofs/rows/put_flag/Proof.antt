@@ -5,20 +5,8 @@ use borrow.Author.Needs.{needs}
 use Rattle.snapshot_rows.proofs.rows.put_flag.Statement.{statement}
 use Rattle.snapshot_rows.proofs.rows.put_flag.Tie as tie
 
-slice-write-buffer : tie.Need-slice-write-buffer
-slice-write-buffer c = search needs
-
-slice-write-buffer-2 : tie.Need-slice-write-buffer-2
-slice-write-buffer-2 c = search needs
-
-same-length : tie.Need-same-length
-same-length c = search needs
-
 returns : tie.Need-returns
 returns c = rw (c .if1 .taken) (flag-put (c .before .args .buffer .now) (c .before .args .at) true (c .before .pre))
-
-same-length-2 : tie.Need-same-length-2
-same-length-2 c = search needs
 
 returns-2 : tie.Need-returns-2
 returns-2 c = rw (c .if1 .left) (flag-put (c .before .args .buffer .now) (c .before .args .at) false (c .before .pre))
@@ -26,4 +14,4 @@ returns-2 c = rw (c .if1 .left) (flag-put (c .before .args .buffer .now) (c .bef
 pub put-flag-spec : {M : Type 1} → statement M
 put-flag-spec =
     tie.close
-    (tie.spec slice-write-buffer slice-write-buffer-2 same-length returns same-length-2 returns-2)
+    (tie.spec (λ c. search needs) (λ c. search needs) (λ c. search needs) returns (λ c. search needs) returns-2)

@@ -6,23 +6,8 @@ use borrow.Author.Needs.{needs}
 use Rattle.snapshot_rows.proofs.rows.put_member.Statement.{statement}
 use Rattle.snapshot_rows.proofs.rows.put_member.Tie as tie
 
-has-requires : tie.Need-has-requires
-has-requires c κs = search needs
-
 returns : tie.Need-returns
 returns c = member-none (sym (c .before .has .ensures) ∙ not-true _ (c .if1 .taken)) _ _ _
-
-oid-requires : tie.Need-oid-requires
-oid-requires c κs = search needs
-
-write-u64-requires : tie.Need-write-u64-requires
-write-u64-requires c κs = search needs
-
-add-result : tie.Need-add-result
-add-result c = search needs
-
-same-length : tie.Need-same-length
-same-length c = search needs
 
 returns-2 : tie.Need-returns-2
 returns-2 c = member-put (sym (c .before .before .before .before .before .before .has .ensures) ∙ not-false _ (c .before .before .before .before .before .if1 .left)) (wrote-number 8 (c .before .before .before .before .oid .ensures) (c .before .before .write-u64 .ensures) refl)
@@ -31,10 +16,10 @@ pub put-member-spec : {M : Type 1} → statement M
 put-member-spec =
     tie.close
     (tie.spec
-    has-requires
+    (λ c κs. search needs)
     returns
-    oid-requires
-    write-u64-requires
-    add-result
-    same-length
+    (λ c κs. search needs)
+    (λ c κs. search needs)
+    (λ c. search needs)
+    (λ c. search needs)
     returns-2)

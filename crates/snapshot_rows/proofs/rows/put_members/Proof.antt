@@ -19,12 +19,6 @@ abbrev μ-loop : tie.MeasureT-loop
 loop-holds : tie.Need-loop-holds Inv-loop μ-loop
 loop-holds c = (omega arith, left-all _ _ _)
 
-mul-put-member : tie.Need-mul-put-member Inv-loop μ-loop
-mul-put-member c = search needs
-
-shared-slice-read-put-member : tie.Need-shared-slice-read-put-member Inv-loop μ-loop
-shared-slice-read-put-member c = search needs
-
 put-member-requires : tie.Need-put-member-requires Inv-loop μ-loop
 put-member-requires c κs =
     let start = c .before .before .before .before .before .before .before in
@@ -33,12 +27,6 @@ put-member-requires c κs =
     let row = memberBytesAt (start .args .words .now) (start .args .members) in
     (start .pre .0, next-live row rows (objectCount (start .args .words .now)) (start .pre .1) (l .k) (omega arith), next-room row rows (objectCount (start .args .words .now)) (start .pre .1) (l .k) (omega arith) (start .pre .2) (l .inv .1))
 
-add-k : tie.Need-add-k Inv-loop μ-loop
-add-k c = search needs
-
-loop-less : tie.Need-loop-less Inv-loop μ-loop
-loop-less c = search needs
-
 loop-again : tie.Need-loop-again Inv-loop μ-loop
 loop-again c =
     let start = c .before .before .before .before .before .before .before .before .before .before in
@@ -46,9 +34,6 @@ loop-again c =
     let rows = start .args .rows .now in
     let row = memberBytesAt (start .args .words .now) (start .args .members) in
     (omega arith, next-put row rows (objectCount (start .args .words .now)) (start .pre .1) (l .k) (omega arith) (start .pre .2) (l .inv .1) (c .before .before .put-member .ensures))
-
-same-length : tie.Need-same-length Inv-loop μ-loop
-same-length c = search needs
 
 returns : tie.Need-returns Inv-loop μ-loop
 returns c =
@@ -62,11 +47,11 @@ put-members-spec =
     Inv-loop
     μ-loop
     loop-holds
-    mul-put-member
-    shared-slice-read-put-member
+    (λ c. search needs)
+    (λ c. search needs)
     put-member-requires
-    add-k
-    loop-less
+    (λ c. search needs)
+    (λ c. search needs)
     loop-again
-    same-length
+    (λ c. search needs)
     returns)

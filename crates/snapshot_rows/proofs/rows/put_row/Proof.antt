@@ -3,17 +3,11 @@ use borrow.Author.Needs.{needs}
 use Rattle.snapshot_rows.proofs.rows.put_row.Statement.{statement}
 use Rattle.snapshot_rows.proofs.rows.put_row.Tie as tie
 
-enum-told : tie.Need-enum-told
-enum-told c = search needs
-
 put-exporter-requires : tie.Need-put-exporter-requires
 put-exporter-requires c κs =
     let start = c .before .before .before .before .before .before .before in
     let e = c .before .enum-told .given .1 in
     (start .pre .0, rw e at (start .pre .2), rw e at (start .pre .3))
-
-enum-told-2 : tie.Need-enum-told-2
-enum-told-2 c = search needs
 
 put-object-requires : tie.Need-put-object-requires
 put-object-requires c κs =
@@ -21,17 +15,11 @@ put-object-requires c κs =
     let e = c .before .enum-told2 .given .1 in
     (start .pre .0 .words, rw e at (start .pre .2), rw e at (start .pre .3))
 
-enum-told-3 : tie.Need-enum-told-3
-enum-told-3 c = search needs
-
 put-interface-requires : tie.Need-put-interface-requires
 put-interface-requires c κs =
     let start = c .before .before .before .before .before .before .before in
     let e = c .before .enum-told3 .given .1 in
     (start .pre .0 .words, rw e at (start .pre .2), rw e at (start .pre .3))
-
-enum-told-4 : tie.Need-enum-told-4
-enum-told-4 c = search needs
 
 put-set-requires : tie.Need-put-set-requires
 put-set-requires c κs =
@@ -39,26 +27,14 @@ put-set-requires c κs =
     let e = c .before .enum-told4 .given .1 in
     (start .pre .1, rw e at (start .pre .2), rw e at (start .pre .3))
 
-same-length : tie.Need-same-length
-same-length c = search needs
-
 returns : tie.Need-returns
 returns c = rw (c .before .before .before .before .enum-told .given .1) (c .before .before .put-exporter .ensures)
-
-same-length-2 : tie.Need-same-length-2
-same-length-2 c = search needs
 
 returns-2 : tie.Need-returns-2
 returns-2 c = rw (c .before .before .before .before .enum-told2 .given .1) (c .before .before .put-object .ensures)
 
-same-length-3 : tie.Need-same-length-3
-same-length-3 c = search needs
-
 returns-3 : tie.Need-returns-3
 returns-3 c = rw (c .before .before .before .before .enum-told3 .given .1) (c .before .before .put-interface .ensures)
-
-same-length-4 : tie.Need-same-length-4
-same-length-4 c = search needs
 
 returns-4 : tie.Need-returns-4
 returns-4 c = rw (c .before .before .before .before .enum-told4 .given .1) (c .before .before .put-set .ensures)
@@ -67,19 +43,19 @@ pub put-row-spec : {M : Type 1} → statement M
 put-row-spec =
     tie.close
     (tie.spec
-    enum-told
+    (λ c. search needs)
     put-exporter-requires
-    enum-told-2
+    (λ c. search needs)
     put-object-requires
-    enum-told-3
+    (λ c. search needs)
     put-interface-requires
-    enum-told-4
+    (λ c. search needs)
     put-set-requires
-    same-length
+    (λ c. search needs)
     returns
-    same-length-2
+    (λ c. search needs)
     returns-2
-    same-length-3
+    (λ c. search needs)
     returns-3
-    same-length-4
+    (λ c. search needs)
     returns-4)

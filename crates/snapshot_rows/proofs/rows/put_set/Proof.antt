@@ -16,44 +16,8 @@ use borrow.Author.Needs.{needs}
 use Rattle.snapshot_rows.proofs.rows.put_set.Statement.{statement}
 use Rattle.snapshot_rows.proofs.rows.put_set.Tie as tie
 
-set-number-requires : tie.Need-set-number-requires
-set-number-requires c κs = search needs
-
-members-requires : tie.Need-members-requires
-members-requires c κs = search needs
-
-write-u64-requires : tie.Need-write-u64-requires
-write-u64-requires c κs = search needs
-
-add-write-u16 : tie.Need-add-write-u16
-add-write-u16 c = search needs
-
-sequence-requires : tie.Need-sequence-requires
-sequence-requires c κs = search needs
-
-write-u16-requires : tie.Need-write-u16-requires
-write-u16-requires c κs = search needs
-
-add-write-u64 : tie.Need-add-write-u64
-add-write-u64 c = search needs
-
-pinged-requires : tie.Need-pinged-requires
-pinged-requires c κs = search needs
-
-write-u64-requires-2 : tie.Need-write-u64-requires-2
-write-u64-requires-2 c κs = search needs
-
-add-write-u16-2 : tie.Need-add-write-u16-2
-add-write-u16-2 c = search needs
-
-size-requires : tie.Need-size-requires
-size-requires c κs = search needs
-
 cast-write-u16 : tie.Need-cast-write-u16
 cast-write-u16 c = let b = few-members (c .before .before .before .before .before .before .before .before .before .before .before .before .before .before .before .before .members .result) in let e = c .size .ensures in omega arith
-
-write-u16-requires-2 : tie.Need-write-u16-requires-2
-write-u16-requires-2 c κs = search needs
 
 add-put-members : tie.Need-add-put-members
 add-put-members c =
@@ -78,9 +42,6 @@ put-members-requires c κs =
       (rw (c .before .before .before .before .before .before .before .before .before .before .before .before .before .before .before .before .before .before .before .before .members .ensures, members-row ws rows (start .pre .0) i (start .pre .1)) (members-room x (start .args .buffer .now) (c .before .before .before .write-u162 .last .0) (start .args .at) (start .pre .2) (omega arith))),
     )
 
-same-length : tie.Need-same-length
-same-length c = search needs
-
 returns : tie.Need-returns
 returns c =
     let start = c .before .before .before .before .before .before .before .before .before .before .before .before .before .before .before .before .before .before .before .before .before .before .before .before .before .before .before .before in
@@ -97,20 +58,20 @@ pub put-set-spec : {M : Type 1} → statement M
 put-set-spec =
     tie.close
     (tie.spec
-    set-number-requires
-    members-requires
-    write-u64-requires
-    add-write-u16
-    sequence-requires
-    write-u16-requires
-    add-write-u64
-    pinged-requires
-    write-u64-requires-2
-    add-write-u16-2
-    size-requires
+    (λ c κs. search needs)
+    (λ c κs. search needs)
+    (λ c κs. search needs)
+    (λ c. search needs)
+    (λ c κs. search needs)
+    (λ c κs. search needs)
+    (λ c. search needs)
+    (λ c κs. search needs)
+    (λ c κs. search needs)
+    (λ c. search needs)
+    (λ c κs. search needs)
     cast-write-u16
-    write-u16-requires-2
+    (λ c κs. search needs)
     add-put-members
     put-members-requires
-    same-length
+    (λ c. search needs)
     returns)

@@ -7,14 +7,8 @@ use borrow.Author.Needs.{needs}
 use Rattle.table.proofs.find.are_live.Statement.{statement}
 use Rattle.table.proofs.find.are_live.Tie as tie
 
-oids-requires : tie.Need-oids-requires
-oids-requires c κs = search needs
-
-all-in-requires : tie.Need-all-in-requires
-all-in-requires c κs = search needs
-
 returns : tie.Need-returns
 returns c s = c .all-in .ensures ∙ ap (λ (ids : List ℕ). every (among ids) (c .before .before .before .before .args .ids .now)) (c .before .oids .ensures)
 
 pub are-live-spec : {M : Type 1} → statement M
-are-live-spec = tie.close (tie.spec oids-requires all-in-requires returns)
+are-live-spec = tie.close (tie.spec (λ c κs. search needs) (λ c κs. search needs) returns)

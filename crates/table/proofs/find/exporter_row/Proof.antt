@@ -6,14 +6,8 @@ use borrow.Author.Needs.{needs}
 use Rattle.table.proofs.find.exporter_row.Statement.{statement}
 use Rattle.table.proofs.find.exporter_row.Tie as tie
 
-oxids-requires : tie.Need-oxids-requires
-oxids-requires c κs = search needs
-
-index-of-requires : tie.Need-index-of-requires
-index-of-requires c κs = search needs
-
 returns : tie.Need-returns
 returns c s = c .index-of .ensures ∙ ap (firstIndex (eqb (c .before .before .before .args .oxid .0))) (c .before .oxids .ensures s)
 
 pub exporter-row-spec : {M : Type 1} → statement M
-exporter-row-spec = tie.close (tie.spec oxids-requires index-of-requires returns)
+exporter-row-spec = tie.close (tie.spec (λ c κs. search needs) (λ c κs. search needs) returns)

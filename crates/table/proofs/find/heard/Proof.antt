@@ -10,15 +10,6 @@ use borrow.Author.Needs.{needs}
 use Rattle.table.proofs.find.heard.Statement.{statement}
 use Rattle.table.proofs.find.heard.Tie as tie
 
-add-result : tie.Need-add-result
-add-result c = search needs
-
-mul-result : tie.Need-mul-result
-mul-result c = search needs
-
-shared-slice-read-result : tie.Need-shared-slice-read-result
-shared-slice-read-result c = search needs
-
 returns : tie.Need-returns
 returns c =
     let start = c .before in
@@ -27,4 +18,4 @@ returns c =
     sym (ap (λ (r : Object). r .heard) (object-at ws i noObject (start .pre .1)) ∙ rowAt-getD objectKind ws i 3 (omega arith))
 
 pub heard-spec : {M : Type 1} → statement M
-heard-spec = tie.close (tie.spec add-result mul-result shared-slice-read-result returns)
+heard-spec = tie.close (tie.spec (λ c. search needs) (λ c. search needs) (λ c. search needs) returns)

@@ -10,18 +10,6 @@ use borrow.Author.Needs.{needs}
 use Rattle.table.proofs.find.interface_counts.Statement.{statement}
 use Rattle.table.proofs.find.interface_counts.Tie as tie
 
-interface-object-requires : tie.Need-interface-object-requires
-interface-object-requires c κs = search needs
-
-count-requires : tie.Need-count-requires
-count-requires c κs = search needs
-
-add-count : tie.Need-add-count
-add-count c = search needs
-
-count-requires-2 : tie.Need-count-requires-2
-count-requires-2 c κs = search needs
-
 returns : tie.Need-returns
 returns c =
     let s = c .before .before .before .before in
@@ -35,4 +23,4 @@ returns c =
     }
 
 pub interface-counts-spec : {M : Type 1} → statement M
-interface-counts-spec = tie.close (tie.spec interface-object-requires count-requires add-count count-requires-2 returns)
+interface-counts-spec = tie.close (tie.spec (λ c κs. search needs) (λ c κs. search needs) (λ c. search needs) (λ c κs. search needs) returns)

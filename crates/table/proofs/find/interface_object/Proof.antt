@@ -10,15 +10,6 @@ use borrow.Author.Needs.{needs}
 use Rattle.table.proofs.find.interface_object.Statement.{statement}
 use Rattle.table.proofs.find.interface_object.Tie as tie
 
-add-t3 : tie.Need-add-t3
-add-t3 c = search needs
-
-mul-t4 : tie.Need-mul-t4
-mul-t4 c = search needs
-
-shared-slice-read-t6 : tie.Need-shared-slice-read-t6
-shared-slice-read-t6 c = search needs
-
 returns : tie.Need-returns
 returns c =
     let s = c .before in
@@ -27,4 +18,4 @@ returns c =
     sym (ap (λ (r : Interface). r .object) (interface-at ws i noInterface (s .pre .1)) ∙ rowAt-getD interfaceKind ws i 4 (omega arith))
 
 pub interface-object-spec : {M : Type 1} → statement M
-interface-object-spec = tie.close (tie.spec add-t3 mul-t4 shared-slice-read-t6 returns)
+interface-object-spec = tie.close (tie.spec (λ c. search needs) (λ c. search needs) (λ c. search needs) returns)

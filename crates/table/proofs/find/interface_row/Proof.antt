@@ -7,18 +7,6 @@ use borrow.Author.Needs.{needs}
 use Rattle.table.proofs.find.interface_row.Statement.{statement}
 use Rattle.table.proofs.find.interface_row.Tie as tie
 
-interface-count-requires : tie.Need-interface-count-requires
-interface-count-requires c κs = search needs
-
-column-requires : tie.Need-column-requires
-column-requires c κs = search needs
-
-column-requires-2 : tie.Need-column-requires-2
-column-requires-2 c κs = search needs
-
-guid-index-of-requires : tie.Need-guid-index-of-requires
-guid-index-of-requires c κs = search needs
-
 returns : tie.Need-returns
 returns c s =
     let start = c .before .before .before .before .before in
@@ -30,8 +18,8 @@ pub interface-row-spec : {M : Type 1} → statement M
 interface-row-spec =
     tie.close
     (tie.spec
-    interface-count-requires
-    column-requires
-    column-requires-2
-    guid-index-of-requires
+    (λ c κs. search needs)
+    (λ c κs. search needs)
+    (λ c κs. search needs)
+    (λ c κs. search needs)
     returns)

@@ -12,26 +12,8 @@ use borrow.Author.Needs.{needs}
 use Rattle.table.proofs.find.ipid_taken.Statement.{statement}
 use Rattle.table.proofs.find.ipid_taken.Tie as tie
 
-exporter-count-requires : tie.Need-exporter-count-requires
-exporter-count-requires c κs = search needs
-
-interface-count-requires : tie.Need-interface-count-requires
-interface-count-requires c κs = search needs
-
-is-nil-requires : tie.Need-is-nil-requires
-is-nil-requires c κs = search needs
-
 returns : tie.Need-returns
 returns c s = rw (sym (c .before .is-nil .ensures) ∙ c .if1 .taken)
-
-column-requires : tie.Need-column-requires
-column-requires c κs = search needs
-
-column-requires-2 : tie.Need-column-requires-2
-column-requires-2 c κs = search needs
-
-has-guid-requires : tie.Need-has-guid-requires
-has-guid-requires c κs = search needs
 
 returns-2 : tie.Need-returns-2
 returns-2 c s =
@@ -42,15 +24,6 @@ returns-2 c s =
     let unknowns = guids-read ws 32 48 (k .column .ensures) (c .before .before .column2 .ensures) (k .before .before .before .before .exporter-count .ensures .0) (unknowns-columns ws (start .pre) s) in
     let here : some (sameGuid g) (map (λ (x : Exporter). x .unknown) (exportersOf ws s)) ≡ true = sym (ap (some (sameGuid g)) unknowns) ∙ sym (c .before .has-guid .ensures) ∙ c .if2 .taken in
     rw (sym (k .before .before .is-nil .ensures) ∙ k .before .if1 .left, some-append, here)
-
-column-requires-3 : tie.Need-column-requires-3
-column-requires-3 c κs = search needs
-
-column-requires-4 : tie.Need-column-requires-4
-column-requires-4 c κs = search needs
-
-has-guid-requires-2 : tie.Need-has-guid-requires-2
-has-guid-requires-2 c κs = search needs
 
 returns-3 : tie.Need-returns-3
 returns-3 c s =
@@ -68,15 +41,15 @@ pub ipid-taken-spec : {M : Type 1} → statement M
 ipid-taken-spec =
     tie.close
     (tie.spec
-    exporter-count-requires
-    interface-count-requires
-    is-nil-requires
+    (λ c κs. search needs)
+    (λ c κs. search needs)
+    (λ c κs. search needs)
     returns
-    column-requires
-    column-requires-2
-    has-guid-requires
+    (λ c κs. search needs)
+    (λ c κs. search needs)
+    (λ c κs. search needs)
     returns-2
-    column-requires-3
-    column-requires-4
-    has-guid-requires-2
+    (λ c κs. search needs)
+    (λ c κs. search needs)
+    (λ c κs. search needs)
     returns-3)

@@ -9,33 +9,12 @@ use borrow.Author.Needs.{needs}
 use Rattle.table.proofs.find.is_heard_within.Statement.{statement}
 use Rattle.table.proofs.find.is_heard_within.Tie as tie
 
-add-if1 : tie.Need-add-if1
-add-if1 c = search needs
-
-mul-if1 : tie.Need-mul-if1
-mul-if1 c = search needs
-
-shared-slice-read-if1 : tie.Need-shared-slice-read-if1
-shared-slice-read-if1 c = search needs
-
 returns : tie.Need-returns
 returns c =
     let s = c .before .before .before in
     let ws = s .args .words .now in
     let i = s .args .i in
     rw (object-at ws i noObject (s .pre .1), rowAt-getD objectKind ws i 2 (omega arith), ne-eqb _ 0 (c .if1 .taken))
-
-add-is-within : tie.Need-add-is-within
-add-is-within c = search needs
-
-mul-is-within : tie.Need-mul-is-within
-mul-is-within c = search needs
-
-shared-slice-read-is-within : tie.Need-shared-slice-read-is-within
-shared-slice-read-is-within c = search needs
-
-is-within-requires : tie.Need-is-within-requires
-is-within-requires c κs = search needs
 
 returns-2 : tie.Need-returns-2
 returns-2 c =
@@ -48,12 +27,12 @@ pub is-heard-within-spec : {M : Type 1} → statement M
 is-heard-within-spec =
     tie.close
     (tie.spec
-    add-if1
-    mul-if1
-    shared-slice-read-if1
+    (λ c. search needs)
+    (λ c. search needs)
+    (λ c. search needs)
     returns
-    add-is-within
-    mul-is-within
-    shared-slice-read-is-within
-    is-within-requires
+    (λ c. search needs)
+    (λ c. search needs)
+    (λ c. search needs)
+    (λ c κs. search needs)
     returns-2)

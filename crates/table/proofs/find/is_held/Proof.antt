@@ -38,12 +38,6 @@ returns c =
     let s = c .before .before .before .before .before in
     sym (not-false _ (sym (check-fails _ _ (l .k) (l .inv .1) (omega arith) (c .before .is-zero .ensures) (c .if1 .taken) ∙ zero-counts (s .args .words .now) (s .args .i) (s .pre .1))))
 
-add-k : tie.Need-add-k Inv-loop μ-loop
-add-k c = search needs
-
-loop-less : tie.Need-loop-less Inv-loop μ-loop
-loop-less c = search needs
-
 loop-again : tie.Need-loop-again Inv-loop μ-loop
 loop-again c =
     let l = c .before .before .before .loop in
@@ -56,4 +50,4 @@ returns-2 c =
     sym (not-true _ (sym (checks-done _ _ (l .k) (l .inv .1) (omega arith) ∙ zero-counts (s .args .words .now) (s .args .i) (s .pre .1))))
 
 pub is-held-spec : {M : Type 1} → statement M
-is-held-spec = tie.close (tie.spec Inv-loop μ-loop loop-holds is-zero-requires returns add-k loop-less loop-again returns-2)
+is-held-spec = tie.close (tie.spec Inv-loop μ-loop loop-holds is-zero-requires returns (λ c. search needs) (λ c. search needs) loop-again returns-2)

@@ -8,18 +8,6 @@ use borrow.Author.Needs.{needs}
 use Rattle.table.proofs.find.is_pinged_within.Statement.{statement}
 use Rattle.table.proofs.find.is_pinged_within.Tie as tie
 
-add-is-within : tie.Need-add-is-within
-add-is-within c = search needs
-
-mul-is-within : tie.Need-mul-is-within
-mul-is-within c = search needs
-
-shared-slice-read-is-within : tie.Need-shared-slice-read-is-within
-shared-slice-read-is-within c = search needs
-
-is-within-requires : tie.Need-is-within-requires
-is-within-requires c κs = search needs
-
 returns : tie.Need-returns
 returns c =
     let s = c .before .before .before in
@@ -30,4 +18,4 @@ returns c =
 pub is-pinged-within-spec : {M : Type 1} → statement M
 is-pinged-within-spec =
     tie.close
-    (tie.spec add-is-within mul-is-within shared-slice-read-is-within is-within-requires returns)
+    (tie.spec (λ c. search needs) (λ c. search needs) (λ c. search needs) (λ c κs. search needs) returns)

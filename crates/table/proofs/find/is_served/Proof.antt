@@ -12,15 +12,6 @@ use borrow.Author.Needs.{needs}
 use Rattle.table.proofs.find.is_served.Statement.{statement}
 use Rattle.table.proofs.find.is_served.Tie as tie
 
-interface-count-requires : tie.Need-interface-count-requires
-interface-count-requires c κs = search needs
-
-column-requires : tie.Need-column-requires
-column-requires c κs = search needs
-
-has-requires : tie.Need-has-requires
-has-requires c κs = search needs
-
 returns : tie.Need-returns
 returns c s =
     let start = c .before .before .before .before in
@@ -31,4 +22,4 @@ returns c s =
     ∙ some-map (eqb oid) (λ (i : Interface). i .object) (interfacesOf ws)
 
 pub is-served-spec : {M : Type 1} → statement M
-is-served-spec = tie.close (tie.spec interface-count-requires column-requires has-requires returns)
+is-served-spec = tie.close (tie.spec (λ c κs. search needs) (λ c κs. search needs) (λ c κs. search needs) returns)

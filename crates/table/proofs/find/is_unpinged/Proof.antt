@@ -8,15 +8,6 @@ use borrow.Author.Needs.{needs}
 use Rattle.table.proofs.find.is_unpinged.Statement.{statement}
 use Rattle.table.proofs.find.is_unpinged.Tie as tie
 
-add-result : tie.Need-add-result
-add-result c = search needs
-
-mul-result : tie.Need-mul-result
-mul-result c = search needs
-
-shared-slice-read-result : tie.Need-shared-slice-read-result
-shared-slice-read-result c = search needs
-
 returns : tie.Need-returns
 returns c =
     let start = c .before in
@@ -25,4 +16,4 @@ returns c =
     rw (object-at ws i noObject (start .pre .1), rowAt-getD objectKind ws i 2 (omega arith))
 
 pub is-unpinged-spec : {M : Type 1} → statement M
-is-unpinged-spec = tie.close (tie.spec add-result mul-result shared-slice-read-result returns)
+is-unpinged-spec = tie.close (tie.spec (λ c. search needs) (λ c. search needs) (λ c. search needs) returns)

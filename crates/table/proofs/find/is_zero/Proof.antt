@@ -6,11 +6,8 @@ use borrow.Author.Needs.{needs}
 use Rattle.table.proofs.find.is_zero.Statement.{statement}
 use Rattle.table.proofs.find.is_zero.Tie as tie
 
-count-requires : tie.Need-count-requires
-count-requires c κs = search needs
-
 returns : tie.Need-returns
 returns c = ap (λ (n : ℕ). eqb n 0) (c .count .ensures)
 
 pub is-zero-spec : {M : Type 1} → statement M
-is-zero-spec = tie.close (tie.spec count-requires returns)
+is-zero-spec = tie.close (tie.spec (λ c κs. search needs) returns)

@@ -42,20 +42,8 @@ sub-stated-length c = let h = begins (c .before .before .before) in let e = c .l
 part-stated-length-start : tie.Need-part-stated-length-start
 part-stated-length-start c = let h = begins (c .before .before .before) in let e = c .list-start .ensures in omega arith
 
-part-stated-length-end : tie.Need-part-stated-length-end
-part-stated-length-end c = search needs
-
-stated-length-requires : tie.Need-stated-length-requires
-stated-length-requires c κs = search needs
-
 add-to : tie.Need-add-to
 add-to c = let h = ends c in omega arith
-
-sub-result : tie.Need-sub-result
-sub-result c = search needs
-
-part-result-start : tie.Need-part-result-start
-part-result-start c = search needs
 
 part-result-end : tie.Need-part-result-end
 part-result-end c = ends c
@@ -76,10 +64,10 @@ list-spec =
     list-start-requires
     sub-stated-length
     part-stated-length-start
-    part-stated-length-end
-    stated-length-requires
+    (λ c. search needs)
+    (λ c κs. search needs)
     add-to
-    sub-result
-    part-result-start
+    (λ c. search needs)
+    (λ c. search needs)
     part-result-end
     returns)

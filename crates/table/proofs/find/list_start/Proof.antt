@@ -21,18 +21,6 @@ abbrev μ-loop : tie.MeasureT-loop
 loop-holds : tie.Need-loop-holds Inv-loop μ-loop
 loop-holds c = (search needs, sym (start-first _), search needs)
 
-sub-stated-length : tie.Need-sub-stated-length Inv-loop μ-loop
-sub-stated-length c = search needs
-
-part-stated-length-start : tie.Need-part-stated-length-start Inv-loop μ-loop
-part-stated-length-start c = search needs
-
-part-stated-length-end : tie.Need-part-stated-length-end Inv-loop μ-loop
-part-stated-length-end c = search needs
-
-stated-length-requires : tie.Need-stated-length-requires Inv-loop μ-loop
-stated-length-requires c κs = search needs
-
 -- list j ends where the next one begins, which is not behind list i's start
 told : (c : tie.After-stated-length Inv-loop μ-loop)
     → c .before .before .before .loop .at + c .stated-length .result ≡ listStart (c .before .before .before .before .before .args .store .now) (c .before .before .before .loop .j + 1)
@@ -55,12 +43,6 @@ inside c =
 add-at : tie.Need-add-at Inv-loop μ-loop
 add-at c = let h = inside c in omega arith
 
-add-j : tie.Need-add-j Inv-loop μ-loop
-add-j c = search needs
-
-loop-less : tie.Need-loop-less Inv-loop μ-loop
-loop-less c = search needs
-
 loop-again : tie.Need-loop-again Inv-loop μ-loop
 loop-again c = (search needs, told c, inside c)
 
@@ -77,12 +59,12 @@ list-start-spec =
     Inv-loop
     μ-loop
     loop-holds
-    sub-stated-length
-    part-stated-length-start
-    part-stated-length-end
-    stated-length-requires
+    (λ c. search needs)
+    (λ c. search needs)
+    (λ c. search needs)
+    (λ c κs. search needs)
     add-at
-    add-j
-    loop-less
+    (λ c. search needs)
+    (λ c. search needs)
     loop-again
     returns)

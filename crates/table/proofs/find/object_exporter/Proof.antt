@@ -10,15 +10,6 @@ use borrow.Author.Needs.{needs}
 use Rattle.table.proofs.find.object_exporter.Statement.{statement}
 use Rattle.table.proofs.find.object_exporter.Tie as tie
 
-add-t3 : tie.Need-add-t3
-add-t3 c = search needs
-
-mul-t4 : tie.Need-mul-t4
-mul-t4 c = search needs
-
-shared-slice-read-t6 : tie.Need-shared-slice-read-t6
-shared-slice-read-t6 c = search needs
-
 returns : tie.Need-returns
 returns c =
     let s = c .before in
@@ -27,4 +18,4 @@ returns c =
     sym (ap (λ (r : Object). r .exporter) (object-at ws i noObject (s .pre .1)) ∙ rowAt-getD objectKind ws i 1 (omega arith))
 
 pub object-exporter-spec : {M : Type 1} → statement M
-object-exporter-spec = tie.close (tie.spec add-t3 mul-t4 shared-slice-read-t6 returns)
+object-exporter-spec = tie.close (tie.spec (λ c. search needs) (λ c. search needs) (λ c. search needs) returns)

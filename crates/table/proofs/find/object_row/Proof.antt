@@ -6,14 +6,8 @@ use borrow.Author.Needs.{needs}
 use Rattle.table.proofs.find.object_row.Statement.{statement}
 use Rattle.table.proofs.find.object_row.Tie as tie
 
-oids-requires : tie.Need-oids-requires
-oids-requires c κs = search needs
-
-index-of-requires : tie.Need-index-of-requires
-index-of-requires c κs = search needs
-
 returns : tie.Need-returns
 returns c s = c .index-of .ensures ∙ ap (firstIndex (eqb (c .before .before .before .args .oid .0))) (c .before .oids .ensures)
 
 pub object-row-spec : {M : Type 1} → statement M
-object-row-spec = tie.close (tie.spec oids-requires index-of-requires returns)
+object-row-spec = tie.close (tie.spec (λ c κs. search needs) (λ c κs. search needs) returns)

@@ -4,12 +4,6 @@ use borrow.Author.Needs.{needs}
 use Rattle.table.proofs.find.oxids.Statement.{statement}
 use Rattle.table.proofs.find.oxids.Tie as tie
 
-exporter-count-requires : tie.Need-exporter-count-requires
-exporter-count-requires c κs = search needs
-
-column-requires : tie.Need-column-requires
-column-requires c κs = search needs
-
 returns : tie.Need-returns
 returns c s =
     let start = c .before .before .before in
@@ -17,4 +11,4 @@ returns c s =
     column-read ws 16 (c .column .ensures) (c .before .exporter-count .ensures .0) (oxids-column ws (start .pre) s)
 
 pub oxids-spec : {M : Type 1} → statement M
-oxids-spec = tie.close (tie.spec exporter-count-requires column-requires returns)
+oxids-spec = tie.close (tie.spec (λ c κs. search needs) (λ c κs. search needs) returns)

@@ -8,18 +8,6 @@ use borrow.Author.Needs.{needs}
 use Rattle.table.proofs.find.sequence.Statement.{statement}
 use Rattle.table.proofs.find.sequence.Tie as tie
 
-add-result : tie.Need-add-result
-add-result c = search needs
-
-mul-result : tie.Need-mul-result
-mul-result c = search needs
-
-shared-slice-read-result : tie.Need-shared-slice-read-result
-shared-slice-read-result c = search needs
-
-cast-result : tie.Need-cast-result
-cast-result c = search needs
-
 returns : tie.Need-returns
 returns c =
     let start = c .before in
@@ -29,4 +17,4 @@ returns c =
 
 pub sequence-spec : {M : Type 1} → statement M
 sequence-spec =
-    tie.close (tie.spec add-result mul-result shared-slice-read-result cast-result returns)
+    tie.close (tie.spec (λ c. search needs) (λ c. search needs) (λ c. search needs) (λ c. search needs) returns)

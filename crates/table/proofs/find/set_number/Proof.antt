@@ -10,15 +10,6 @@ use borrow.Author.Needs.{needs}
 use Rattle.table.proofs.find.set_number.Statement.{statement}
 use Rattle.table.proofs.find.set_number.Tie as tie
 
-add-t3 : tie.Need-add-t3
-add-t3 c = search needs
-
-mul-t4 : tie.Need-mul-t4
-mul-t4 c = search needs
-
-shared-slice-read-t6 : tie.Need-shared-slice-read-t6
-shared-slice-read-t6 c = search needs
-
 returns : tie.Need-returns
 returns c =
     let start = c .before in
@@ -27,4 +18,4 @@ returns c =
     sym (ap (λ (r : PingSet). r .number) (set-at ws i noSet (start .pre .1)) ∙ rowAt-getD setKind ws i 0 (omega arith))
 
 pub set-number-spec : {M : Type 1} → statement M
-set-number-spec = tie.close (tie.spec add-t3 mul-t4 shared-slice-read-t6 returns)
+set-number-spec = tie.close (tie.spec (λ c. search needs) (λ c. search needs) (λ c. search needs) returns)

@@ -4,12 +4,6 @@ use borrow.Author.Needs.{needs}
 use Rattle.table.proofs.find.set_numbers.Statement.{statement}
 use Rattle.table.proofs.find.set_numbers.Tie as tie
 
-set-count-requires : tie.Need-set-count-requires
-set-count-requires c κs = search needs
-
-column-requires : tie.Need-column-requires
-column-requires c κs = search needs
-
 returns : tie.Need-returns
 returns c =
     let start = c .before .before .before in
@@ -17,4 +11,4 @@ returns c =
     column-read ws 64 (c .column .ensures) (c .before .set-count .ensures .0) (set-numbers-column ws (start .pre))
 
 pub set-numbers-spec : {M : Type 1} → statement M
-set-numbers-spec = tie.close (tie.spec set-count-requires column-requires returns)
+set-numbers-spec = tie.close (tie.spec (λ c κs. search needs) (λ c κs. search needs) returns)

@@ -6,14 +6,8 @@ use borrow.Author.Needs.{needs}
 use Rattle.table.proofs.find.set_row.Statement.{statement}
 use Rattle.table.proofs.find.set_row.Tie as tie
 
-set-numbers-requires : tie.Need-set-numbers-requires
-set-numbers-requires c κs = search needs
-
-index-of-requires : tie.Need-index-of-requires
-index-of-requires c κs = search needs
-
 returns : tie.Need-returns
 returns c s = c .index-of .ensures ∙ ap (firstIndex (eqb (c .before .before .before .args .set .0))) (c .before .set-numbers .ensures)
 
 pub set-row-spec : {M : Type 1} → statement M
-set-row-spec = tie.close (tie.spec set-numbers-requires index-of-requires returns)
+set-row-spec = tie.close (tie.spec (λ c κs. search needs) (λ c κs. search needs) returns)

@@ -7,23 +7,11 @@ use borrow.Author.Needs.{needs}
 use Rattle.columns.proofs.members.Members.cut.Statement.{statement}
 use Rattle.columns.proofs.members.Members.cut.Tie as tie
 
-mul-t5 : tie.Need-mul-t5
-mul-t5 c = search needs
-
-cut-bit-requires : tie.Need-cut-bit-requires
-cut-bit-requires c κs = search needs
-
-add-t7 : tie.Need-add-t7
-add-t7 c = search needs
-
 returns : tie.Need-returns
 returns c =
     let s = c .before .before .before .before in
     let g = s .good in
     cut-made-low _ _ _ (omega arith, omega arith) (c .before .before .before .if1 .taken) (ap (λ (w : ℕ). s .args .self .high % 2 * 2 ^ 63 + w) (c .before .cut-bit .ensures .0)) refl
-
-cut-bit-requires-2 : tie.Need-cut-bit-requires-2
-cut-bit-requires-2 c κs = search needs
 
 returns-2 : tie.Need-returns-2
 returns-2 c =
@@ -38,4 +26,4 @@ returns-3 c =
 pub cut-spec : {M : Type 1} → statement M
 cut-spec =
     tie.close
-    (tie.spec mul-t5 cut-bit-requires add-t7 returns cut-bit-requires-2 returns-2 returns-3)
+    (tie.spec (λ c. search needs) (λ c κs. search needs) (λ c. search needs) returns (λ c κs. search needs) returns-2 returns-3)

@@ -6,15 +6,9 @@ use borrow.Author.Needs.{needs}
 use Rattle.columns.proofs.members.Members.has.Statement.{statement}
 use Rattle.columns.proofs.members.Members.has.Tie as tie
 
-shr-result : tie.Need-shr-result
-shr-result c = search needs
-
 returns : tie.Need-returns
 unfolding bitOf
 returns c = sym (member-low _ _ (c .before .if1 .taken))
-
-shr-result-2 : tie.Need-shr-result-2
-shr-result-2 c = search needs
 
 returns-2 : tie.Need-returns-2
 unfolding bitOf
@@ -24,4 +18,4 @@ returns-3 : tie.Need-returns-3
 returns-3 c = sym (member-past _ _ (c .if2 .left))
 
 pub has-spec : {M : Type 1} → statement M
-has-spec = tie.close (tie.spec shr-result returns shr-result-2 returns-2 returns-3)
+has-spec = tie.close (tie.spec (λ c. search needs) returns (λ c. search needs) returns-2 returns-3)

@@ -6,20 +6,11 @@ use borrow.Author.Needs.{needs}
 use Rattle.columns.proofs.members.Members.put.Statement.{statement}
 use Rattle.columns.proofs.members.Members.put.Tie as tie
 
-bit-requires : tie.Need-bit-requires
-bit-requires c κs = search needs
-
-put-bit-requires : tie.Need-put-bit-requires
-put-bit-requires c κs = search needs
-
 returns : tie.Need-returns
 returns c =
     let b = c .before .before in
     let g = b .before .good in
     put-low _ _ _ (b .bit .ensures) _ _ (omega arith, omega arith) (c .before .if1 .taken) (c .put-bit .ensures) refl
-
-put-bit-requires-2 : tie.Need-put-bit-requires-2
-put-bit-requires-2 c κs = search needs
 
 returns-2 : tie.Need-returns-2
 returns-2 c =
@@ -33,4 +24,4 @@ returns-3 c =
     put-none _ _ _ (omega arith, omega arith) (c .if2 .left)
 
 pub put-spec : {M : Type 1} → statement M
-put-spec = tie.close (tie.spec bit-requires put-bit-requires returns put-bit-requires-2 returns-2 returns-3)
+put-spec = tie.close (tie.spec (λ c κs. search needs) (λ c κs. search needs) returns (λ c κs. search needs) returns-2 returns-3)

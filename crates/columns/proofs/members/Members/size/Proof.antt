@@ -7,15 +7,6 @@ use Rattle.columns.proofs.members.Ones.{members-ones}
 use Rattle.columns.proofs.members.Members.size.Statement.{statement}
 use Rattle.columns.proofs.members.Members.size.Tie as tie
 
-ones-in-requires : tie.Need-ones-in-requires
-ones-in-requires c κs = search needs
-
-ones-in-requires-2 : tie.Need-ones-in-requires-2
-ones-in-requires-2 c κs = search needs
-
-add-result : tie.Need-add-result
-add-result c = search needs
-
 returns : tie.Need-returns
 returns c =
     let s = c .before .before in
@@ -23,4 +14,4 @@ returns c =
     (λ u. c .before .ones-in .ensures .0 u + c .ones-in2 .ensures .0 u) ∙ sym (members-ones (s .args .self) (omega arith, omega arith))
 
 pub size-spec : {M : Type 1} → statement M
-size-spec = tie.close (tie.spec ones-in-requires ones-in-requires-2 add-result returns)
+size-spec = tie.close (tie.spec (λ c κs. search needs) (λ c κs. search needs) (λ c. search needs) returns)
