@@ -23,9 +23,7 @@ remaining-at (suc n) (a ∷ xs) = remaining-at n xs
 -- no count is left exactly if each account is used up
 pub none-left : (xs : List Account) → some (λ (n : ℕ). not (eqb n 0)) (map remaining xs) ≡ not (every (λ (a : Account). leb (a .granted) (a .taken)) xs)
 none-left xs =
-    some-map (λ (n : ℕ). not (eqb n 0)) remaining xs
-    ∙ some-not (λ (a : Account). not (eqb (remaining a) 0)) xs
-    ∙ ap not (every-ext (λ (a : Account). not (not (eqb (remaining a) 0))) (λ (a : Account). leb (a .granted) (a .taken)) (λ a. twice (eqb (remaining a) 0) ∙ less (a .granted) (a .taken)) xs)
+    cc (some-map (λ (n : ℕ). not (eqb n 0)) remaining xs, some-not (λ (a : Account). not (eqb (remaining a) 0)) xs, every-ext (λ (a : Account). not (not (eqb (remaining a) 0))) (λ (a : Account). leb (a .granted) (a .taken)) (λ a. twice (eqb (remaining a) 0) ∙ less (a .granted) (a .taken)) xs)
   where
     twice : (b : Bool) → not (not b) ≡ b
     twice true = refl
@@ -47,9 +45,7 @@ pub record Moves (f : Account → Account) (g : ℕ → ℕ) : Type 0 where
 pub moved-counts : {f : Account → Account} {g : ℕ → ℕ} → Moves f g → (k : ℕ) (xs : List Account) → every covered xs ≡ true
     → map remaining (set xs k (f (getD xs k noAccount))) ≡ set (map remaining xs) k (g (getD (map remaining xs) k 0))
 moved-counts {f} {g} m k xs b =
-    map-set remaining xs k (f (getD xs k noAccount))
-    ∙ ap (set (map remaining xs) k)
-    (m .left (getD xs k noAccount) (every-at-or covered xs noAccount k refl b) ∙ ap g (sym (remaining-at k xs)))
+    cc (map-set remaining xs k (f (getD xs k noAccount)), m .left (getD xs k noAccount) (every-at-or covered xs noAccount k refl b), remaining-at k xs)
 
 pub moved-bounds : {f : Account → Account} {g : ℕ → ℕ} → Moves f g → (k : ℕ) (xs : List Account) → every covered xs ≡ true → every covered (set xs k (f (getD xs k noAccount))) ≡ true
 moved-bounds {f} m k xs b = every-set covered xs k (f (getD xs k noAccount)) b (m .bounds (getD xs k noAccount) (every-at-or covered xs noAccount k refl b))

@@ -172,7 +172,7 @@ module _ (e : Entries) (s : sound e ≡ true) where
       (true-or-false (interfacesAtZero (begin e) (objectAt e k)))
     where
       both : (p q : ℕ) (z : Bool) → p ≡ q → z ≡ false → (not (eqb p q) || z) ≡ false
-      both p q z a c = ap (λ (b : Bool). not b || z) (eq-eqb p q a) ∙ c
+      both p q z a c = cc (eq-eqb p q a, c)
 
   -- each is heard
   none-unheard : (k : ℕ) → k < length (e .objects) → unheard (begin e) (objectAt e k) ≡ false
@@ -205,10 +205,7 @@ module _ (e : Entries) (s : sound e ≡ true) where
   begin-objects : map (objectEntry (begin e)) (liveObjects (begin e)) ≡ e .objects
   unfolding exporter-named
   begin-objects =
-      ap (map (objectEntry (begin e))) all-live
-      ∙ map-tabulate (objectEntry (begin e)) (length (e .objects)) (objectAt e)
-      ∙ tabulate-ext (length (e .objects)) (λ k. objectEntry (begin e) (objectAt e k)) (λ k. getD (e .objects) k noObject) entry
-      ∙ tabulate-getD (e .objects) noObject
+      cc (all-live, map-tabulate (objectEntry (begin e)) (length (e .objects)) (objectAt e), tabulate-ext (length (e .objects)) (λ k. objectEntry (begin e) (objectAt e k)) (λ k. getD (e .objects) k noObject) entry, tabulate-getD (e .objects) noObject)
     where
       entry : (k : ℕ) → k < length (e .objects) → objectEntry (begin e) (objectAt e k) ≡ getD (e .objects) k noObject
       entry k b u =
@@ -251,27 +248,12 @@ module _ (e : Entries) (s : sound e ≡ true) where
   begin-interfaces : map (interfaceEntry (begin e)) (keep (liveInterface (begin e)) (begin e .interfaces)) ≡ e .interfaces
   unfolding begin
   begin-interfaces =
-      ap (map (interfaceEntry (begin e)))
-      (keep-all (liveInterface (begin e)) (map (interfaceHeld e) (e .interfaces))
-      (in-every (liveInterface (begin e)) (map (interfaceHeld e) (e .interfaces))
-      (λ l m. let r = map-in (interfaceHeld e) (e .interfaces) m in ap (liveInterface (begin e)) (r .2) ∙ begin-live (r .0) (r .1))))
-      ∙ map-map (interfaceEntry (begin e)) (interfaceHeld e) (e .interfaces)
-      ∙ map-ext-in (λ i. interfaceEntry (begin e) (interfaceHeld e i)) (λ i. i) (e .interfaces) begin-interface
-      ∙ map-id (e .interfaces)
+      cc (keep-all (liveInterface (begin e)) (map (interfaceHeld e) (e .interfaces)) (in-every (liveInterface (begin e)) (map (interfaceHeld e) (e .interfaces)) (λ l m. let r = map-in (interfaceHeld e) (e .interfaces) m in ap (liveInterface (begin e)) (r .2) ∙ begin-live (r .0) (r .1))), map-map (interfaceEntry (begin e)) (interfaceHeld e) (e .interfaces), map-ext-in (λ i. interfaceEntry (begin e) (interfaceHeld e i)) (λ i. i) (e .interfaces) begin-interface, map-id (e .interfaces))
 
   -- the members of a set, in the order of the objects
   begin-members : (p : PingSet) → In p (e .sets) → setEntry (begin e) (setHeld e p) .members ≡ keep (among (p .members)) (oids e)
   begin-members p m =
-      ap (λ (os : List ObjectLife). map (λ (o : ObjectLife). o .oid) (keep (λ (o : ObjectLife). among (setHeld e p .members) (o .serial)) os)) all-live
-      ∙ ap (map (λ (o : ObjectLife). o .oid))
-      (keep-ext-in (λ (o : ObjectLife). among (setHeld e p .members) (o .serial)) (λ (o : ObjectLife). among (p .members) (o .oid)) (tabulate (length (e .objects)) (objectAt e))
-      (λ o n. let r = tabulate-in (length (e .objects)) (objectAt e) n in
-      ap (λ (q : ObjectLife). among (setHeld e p .members) (q .serial)) (r .2) ∙ member (r .0) (r .1) ∙ ap (λ (q : ObjectLife). among (p .members) (q .oid)) (sym (r .2))))
-      ∙ sym (keep-map (among (p .members)) (λ (o : ObjectLife). o .oid) (tabulate (length (e .objects)) (objectAt e)))
-      ∙ ap (keep (among (p .members)))
-      (map-tabulate (λ (o : ObjectLife). o .oid) (length (e .objects)) (objectAt e)
-      ∙ sym (map-tabulate (λ (o : Object). o .oid) (length (e .objects)) (λ k. getD (e .objects) k noObject))
-      ∙ ap (map (λ (o : Object). o .oid)) (tabulate-getD (e .objects) noObject))
+      cc (all-live, keep-ext-in (λ (o : ObjectLife). among (setHeld e p .members) (o .serial)) (λ (o : ObjectLife). among (p .members) (o .oid)) (tabulate (length (e .objects)) (objectAt e)) (λ o n. let r = tabulate-in (length (e .objects)) (objectAt e) n in ap (λ (q : ObjectLife). among (setHeld e p .members) (q .serial)) (r .2) ∙ member (r .0) (r .1) ∙ ap (λ (q : ObjectLife). among (p .members) (q .oid)) (sym (r .2))), keep-map (among (p .members)) (λ (o : ObjectLife). o .oid) (tabulate (length (e .objects)) (objectAt e)), map-tabulate (λ (o : ObjectLife). o .oid) (length (e .objects)) (objectAt e), map-tabulate (λ (o : Object). o .oid) (length (e .objects)) (λ k. getD (e .objects) k noObject), tabulate-getD (e .objects) noObject)
     where
       -- of one member
       one : (k : ℕ) → k < length (e .objects) → (q : ℕ) → In q (p .members) → eqb k (placeOf (oids e) q) ≡ eqb (objectAt e k .oid) q
@@ -283,10 +265,7 @@ module _ (e : Entries) (s : sound e ≡ true) where
       -- of all
       member : (k : ℕ) → k < length (e .objects) → among (setHeld e p .members) k ≡ among (p .members) (objectAt e k .oid)
       member k b =
-          some-map (eqb k) (placeOf (oids e)) (p .members)
-          ∙ same-test (some (λ q. eqb k (placeOf (oids e) q)) (p .members)) (among (p .members) (objectAt e k .oid))
-          (λ t. let r = some-in (λ q. eqb k (placeOf (oids e) q)) (p .members) t in in-some (eqb (objectAt e k .oid)) (r .1) (sym (one k b (r .0) (r .1)) ∙ r .2))
-          (λ t. let r = some-in (eqb (objectAt e k .oid)) (p .members) t in in-some (λ q. eqb k (placeOf (oids e) q)) (r .1) (one k b (r .0) (r .1) ∙ r .2))
+          cc (some-map (eqb k) (placeOf (oids e)) (p .members), same-test (some (λ q. eqb k (placeOf (oids e) q)) (p .members)) (among (p .members) (objectAt e k .oid)) (λ t. let r = some-in (λ q. eqb k (placeOf (oids e) q)) (p .members) t in in-some (eqb (objectAt e k .oid)) (r .1) (sym (one k b (r .0) (r .1)) ∙ r .2)) (λ t. let r = some-in (eqb (objectAt e k .oid)) (p .members) t in in-some (λ q. eqb k (placeOf (oids e) q)) (r .1) (one k b (r .0) (r .1) ∙ r .2)))
 
   module _ (ordered : Ordered e) where
     begin-set : (p : PingSet) → In p (e .sets) → setEntry (begin e) (setHeld e p) ≡ p
@@ -301,13 +280,7 @@ module _ (e : Entries) (s : sound e ≡ true) where
     begin-sets : map (setEntry (begin e)) (keep (liveSet (begin e)) (begin e .sets)) ≡ e .sets
     unfolding begin
     begin-sets =
-        ap (map (setEntry (begin e)))
-        (keep-all (liveSet (begin e)) (map (setHeld e) (e .sets))
-        (in-every (liveSet (begin e)) (map (setHeld e) (e .sets))
-        (λ l m. let r = map-in (setHeld e) (e .sets) m in ap (liveSet (begin e)) (r .2) ∙ every-in (pingedWithin (e .clock)) (r .1) (sound-clauses .pingedRecently))))
-        ∙ map-map (setEntry (begin e)) (setHeld e) (e .sets)
-        ∙ map-ext-in (λ p. setEntry (begin e) (setHeld e p)) (λ p. p) (e .sets) begin-set
-        ∙ map-id (e .sets)
+        cc (keep-all (liveSet (begin e)) (map (setHeld e) (e .sets)) (in-every (liveSet (begin e)) (map (setHeld e) (e .sets)) (λ l m. let r = map-in (setHeld e) (e .sets) m in ap (liveSet (begin e)) (r .2) ∙ every-in (pingedWithin (e .clock)) (r .1) (sound-clauses .pingedRecently))), map-map (setEntry (begin e)) (setHeld e) (e .sets), map-ext-in (λ p. setEntry (begin e) (setHeld e p)) (λ p. p) (e .sets) begin-set, map-id (e .sets))
 
 -- a history that begins at sound entries has exactly these for its live entries
 pub live-begin : BeginsAt

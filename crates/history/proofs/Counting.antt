@@ -59,7 +59,7 @@ module _ (h : History) (k : Kept h) (meant : Guid → Bool) (f : InterfaceLife �
 
   -- one that is not live stays
   change-dead : (l : InterfaceLife) → liveInterface h l ≡ false → change l ≡ l
-  change-dead l t = ap (λ (b : Bool). cond (meant (l .ipid) && b) (f l) l) t ∙ ap (λ (b : Bool). cond b (f l) l) (and-false (meant (l .ipid)))
+  change-dead l t = cc (t, and-false (meant (l .ipid)))
 
   -- the entry of a live one changes along
   change-entry : (l : InterfaceLife) → In l (h .interfaces) → liveInterface h l ≡ true → interfaceEntry h (change l) ≡ changeEntry (interfaceEntry h l)
@@ -147,12 +147,7 @@ module _ (h : History) (k : Kept h) (meant : Guid → Bool) (f : InterfaceLife �
   -- the objects that have an interface left
   change-objects : liveObjects (atLiveInterfaces meant f h) ≡ keep (λ o. hasInterface leftEntries (objectEntry h o)) (liveObjects h)
   change-objects =
-      keep-ext-in (λ o. not (objectGone (atLiveInterfaces meant f h) o)) (λ o. not (objectGone h o) && hasInterface leftEntries (objectEntry h o)) (h .objects)
-      (λ o m.
-      dropped (interfacesAtZero h o) (interfacesAtZero (atLiveInterfaces meant f h) o) (exporterRemoved h o) (unheard h o) (hasInterface leftEntries (objectEntry h o))
-      (λ t. change-zero o ∙ every-mono (λ (l : InterfaceLife). not (eqb (l .object) (o .serial)) || atZero l) (λ l. not (eqb (l .object) (o .serial)) || atZero (change l)) (λ l. zero-stays o l) (h .interfaces) t)
-      (λ t. change-served o (in-keep (λ p. not (objectGone h p)) m (ap not t))))
-      ∙ sym (keep-keep (λ o. hasInterface leftEntries (objectEntry h o)) (λ o. not (objectGone h o)) (h .objects))
+      cc (keep-ext-in (λ o. not (objectGone (atLiveInterfaces meant f h) o)) (λ o. not (objectGone h o) && hasInterface leftEntries (objectEntry h o)) (h .objects) (λ o m. dropped (interfacesAtZero h o) (interfacesAtZero (atLiveInterfaces meant f h) o) (exporterRemoved h o) (unheard h o) (hasInterface leftEntries (objectEntry h o)) (λ t. change-zero o ∙ every-mono (λ (l : InterfaceLife). not (eqb (l .object) (o .serial)) || atZero l) (λ l. not (eqb (l .object) (o .serial)) || atZero (change l)) (λ l. zero-stays o l) (h .interfaces) t) (λ t. change-served o (in-keep (λ p. not (objectGone h p)) m (ap not t)))), keep-keep (λ o. hasInterface leftEntries (objectEntry h o)) (λ o. not (objectGone h o)) (h .objects))
     where
       dropped : (z z′ r u s : Bool) → (z ≡ true → z′ ≡ true) → ((z || r || u) ≡ false → not z′ ≡ s) → not (z′ || r || u) ≡ (not (z || r || u) && s)
       dropped true z′ r u s a b = ap (λ (c : Bool). not (c || r || u)) (a refl)

@@ -50,17 +50,7 @@ module _ (h : History) (k : Kept h) (n : ExporterLife) (s : n .serial ≡ length
   -- each names the exporter that it named
   exporter-entries : map (objectEntry withExporter) (liveObjects withExporter) ≡ map (objectEntry h) (liveObjects h)
   exporter-entries =
-      ap (map (objectEntry withExporter)) exporter-objects
-      ∙ map-ext-in (objectEntry withExporter) (objectEntry h) (liveObjects h)
-      (λ o m u.
-      record {
-        oid = o .oid;
-        exporter =
-            (ap (λ (p : ExporterLife). p .oxid)
-            (life-found-snoc serialOfExporter noExporterLife (h .exporters) n (o .exporter) (k .exporters) s (k .exported o (live-object h m .0)))) u;
-        noping = o .noping;
-        heard = o .heard;
-      })
+      cc (exporter-objects, map-ext-in (objectEntry withExporter) (objectEntry h) (liveObjects h) (λ o m u. record { oid = o .oid; exporter = (ap (λ (p : ExporterLife). p .oxid) (life-found-snoc serialOfExporter noExporterLife (h .exporters) n (o .exporter) (k .exporters) s (k .exported o (live-object h m .0)))) u; noping = o .noping; heard = o .heard }))
 
   -- the live entries with the exporter
   pub exporter-entered : live withExporter ≡ withExporters (live h .exporters ++ (exporterEntry n ∷ [])) (live h)

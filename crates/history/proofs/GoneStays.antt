@@ -154,7 +154,7 @@ module _ (h h′ : History) (w : Later h h′) where
         (true-or-false (eqb (l .object) (o′ .serial))))
       where
         own : (a b : ℕ) (z : Bool) → a ≡ b → (not (eqb a b) || z) ≡ true → z ≡ true
-        own a b z e t = ap (λ (c : Bool). not c || z) (sym (eq-eqb a b e)) ∙ t
+        own a b z e t = cc (eq-eqb a b e, t)
 
     -- its exporter stays removed
     removed-later : exporterRemoved h o ≡ true → exporterRemoved h′ o′ ≡ true
@@ -211,9 +211,7 @@ module _ (h h′ : History) (w : Later h h′) where
 
   -- a set that is live was live
   set-later : (s s′ : SetLife) → SameSet h s s′ → liveSet h s ≡ false → liveSet h′ s′ ≡ false
-  set-later s s′ r f =
-      ap (λ (t : ℕ). not (unheardSince h′ t)) (sym (r .pinged f))
-      ∙ ap not (late-later (h .clock) (h′ .clock) (s .pinged) (w .clock) (not-false-true (unheardSince h (s .pinged)) f))
+  set-later s s′ r f = cc (r .pinged f, late-later (h .clock) (h′ .clock) (s .pinged) (w .clock) (not-false-true (unheardSince h (s .pinged)) f))
     where
       not-false-true : (b : Bool) → not b ≡ false → b ≡ true
       not-false-true true t = refl

@@ -24,8 +24,7 @@ live-object h {o} m = let r = keep-in (λ p. not (objectGone h p)) (h .objects) 
 pub among-oids : (h : History) → distinct eqb (map (λ (o : ObjectLife). o .oid) (liveObjects h)) ≡ true → (r : ObjectLife → Bool) (o : ObjectLife) → In o (liveObjects h)
     → among (map (λ (p : ObjectLife). p .oid) (keep r (liveObjects h))) (o .oid) ≡ r o
 among-oids h u r o m =
-    some-map (eqb (o .oid)) (λ (p : ObjectLife). p .oid) (keep r (liveObjects h))
-    ∙ kept-sole (λ (p : ObjectLife). eqb (o .oid) (p .oid)) (sole-key eqb eqb-decides (λ (p : ObjectLife). p .oid) (o .oid) u m refl) r
+    cc (some-map (eqb (o .oid)) (λ (p : ObjectLife). p .oid) (keep r (liveObjects h)), kept-sole (λ (p : ObjectLife). eqb (o .oid) (p .oid)) (sole-key eqb eqb-decides (λ (p : ObjectLife). p .oid) (o .oid) u m refl) r)
 
 module _ (h : History) (k : Kept h) where
   -- ---- the life of a live identifier
@@ -48,16 +47,14 @@ module _ (h : History) (k : Kept h) where
   -- IPIDs of live interfaces are distinct
   pub one-ipid : distinct sameGuid (map (λ (l : InterfaceLife). l .ipid) (keep (liveInterface h) (h .interfaces))) ≡ true
   unfolding live
-  one-ipid =
-      ap (distinct sameGuid) (sym (map-map (λ (i : Interface). i .ipid) (interfaceEntry h) (keep (liveInterface h) (h .interfaces))))
-      ∙ interfaces-distinct (live h) (k .sound)
+  one-ipid = cc (map-map (λ (i : Interface). i .ipid) (interfaceEntry h) (keep (liveInterface h) (h .interfaces)), interfaces-distinct (live h) (k .sound))
 
   -- ---- live objects by OID and by serial
 
   -- OIDs of live objects are distinct
   pub one-oid : distinct eqb (map (λ (o : ObjectLife). o .oid) (liveObjects h)) ≡ true
   unfolding live
-  one-oid = ap (distinct eqb) (sym (map-map (λ (o : Object). o .oid) (objectEntry h) (liveObjects h))) ∙ oids-distinct (live h) (k .sound)
+  one-oid = cc (map-map (λ (o : Object). o .oid) (objectEntry h) (liveObjects h), oids-distinct (live h) (k .sound))
 
   -- so are their serials
   one-serial : distinct eqb (map serialOfObject (liveObjects h)) ≡ true
@@ -74,5 +71,4 @@ module _ (h : History) (k : Kept h) where
   -- of the live objects with one of these OIDs: a serial is one where its object's OID is one of these
   pub among-serials : (ids : List ℕ) (o : ObjectLife) → In o (liveObjects h) → among (objectSerials h ids) (o .serial) ≡ among ids (o .oid)
   among-serials ids o m =
-      some-map (eqb (o .serial)) serialOfObject (keep (λ (p : ObjectLife). among ids (p .oid)) (liveObjects h))
-      ∙ kept-sole (λ (p : ObjectLife). eqb (o .serial) (p .serial)) (sole-key eqb eqb-decides serialOfObject (o .serial) one-serial m refl) (λ p. among ids (p .oid))
+      cc (some-map (eqb (o .serial)) serialOfObject (keep (λ (p : ObjectLife). among ids (p .oid)) (liveObjects h)), kept-sole (λ (p : ObjectLife). eqb (o .serial) (p .serial)) (sole-key eqb eqb-decides serialOfObject (o .serial) one-serial m refl) (λ p. among ids (p .oid)))

@@ -32,7 +32,7 @@ item-fed w c t h = ap (λ (g : History). cond (eqb (number (itemCall w c t) (liv
 pub items-fed : (w : Counting) (c : ℕ) (ts : List Item) (h : History) → itemsFed w c ts h ≡ feedAll h (map (itemCall w c) ts)
 unfolding itemsFed feedAll
 items-fed w c [] h = refl
-items-fed w c (t ∷ ts) h = ap (itemsFed w c ts) (item-fed w c t h) ∙ items-fed w c ts (feed h (itemCall w c t))
+items-fed w c (t ∷ ts) h = cc (item-fed w c t h, items-fed w c ts (feed h (itemCall w c t)))
 
 -- what items do to a history
 record Fed (w : Counting) (c : ℕ) (ts : List Item) (h : History) : Type 0 where

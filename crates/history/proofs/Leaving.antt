@@ -44,9 +44,7 @@ module _ (h : History) (k : Kept h) (stays : Object → Bool) where
 
   -- the OID of a live object is left where the object stays
   left-oid : (o : ObjectLife) → In o (liveObjects h) → among leftOids (o .oid) ≡ stays (objectEntry h o)
-  left-oid o m =
-      ap (λ (os : List ℕ). among os (o .oid)) (ap (map (λ (p : Object). p .oid)) left-entries ∙ map-map (λ (p : Object). p .oid) (objectEntry h) stayed)
-      ∙ among-oids h (one-oid h k) (λ p. stays (objectEntry h p)) o m
+  left-oid o m = cc (left-entries, map-map (λ (p : Object). p .oid) (objectEntry h) stayed, among-oids h (one-oid h k) (λ p. stays (objectEntry h p)) o m)
 
   -- an interface that is not at zero is left where its object stays
   left-interface : (l : InterfaceLife)
@@ -131,20 +129,12 @@ module _ (h : History) (k : Kept h) (t : ℕ) (later : h .clock ≤ t) where
   -- the objects that are in time
   clock-objects : liveObjects (atClock t h) ≡ keep (λ o. heardWithin t (objectEntry h o)) (liveObjects h)
   clock-objects =
-      keep-ext (λ o. not (objectGone (atClock t h) o)) (λ o. not (objectGone h o) && heardWithin t (objectEntry h o))
-      (λ o. later-gone (interfacesAtZero h o) (exporterRemoved h o) (o .noping) (leb 360 (h .clock - o .heard)) (leb 360 (t - o .heard)) (overdue-later (h .clock) t (o .heard) later))
-      (h .objects)
-      ∙ sym (keep-keep (λ o. heardWithin t (objectEntry h o)) (λ o. not (objectGone h o)) (h .objects))
+      cc (keep-ext (λ o. not (objectGone (atClock t h) o)) (λ o. not (objectGone h o) && heardWithin t (objectEntry h o)) (λ o. later-gone (interfacesAtZero h o) (exporterRemoved h o) (o .noping) (leb 360 (h .clock - o .heard)) (leb 360 (t - o .heard)) (overdue-later (h .clock) t (o .heard) later)) (h .objects), keep-keep (λ o. heardWithin t (objectEntry h o)) (λ o. not (objectGone h o)) (h .objects))
 
   -- the sets that are
   clock-sets : keep (pingedWithin t) (setsOver (h .clock) (liveObjects h) (h .sets)) ≡ setsOver t (liveObjects h) (h .sets)
   clock-sets =
-      keep-map (pingedWithin t) (setEntry h) (keep (liveSet h) (h .sets))
-      ∙ ap (map (setEntry h))
-      (keep-keep (λ s. pingedWithin t (setEntry h s)) (liveSet h) (h .sets)
-      ∙ keep-ext (λ s. liveSet h s && pingedWithin t (setEntry h s)) (λ s. pingedWithin t (setEntry h s))
-      (λ s. both-later (leb 360 (h .clock - s .pinged)) (leb 360 (t - s .pinged)) (overdue-later (h .clock) t (s .pinged) later))
-      (h .sets))
+      cc (keep-map (pingedWithin t) (setEntry h) (keep (liveSet h) (h .sets)), keep-keep (λ s. pingedWithin t (setEntry h s)) (liveSet h) (h .sets), keep-ext (λ s. liveSet h s && pingedWithin t (setEntry h s)) (λ s. pingedWithin t (setEntry h s)) (λ s. both-later (leb 360 (h .clock - s .pinged)) (leb 360 (t - s .pinged)) (overdue-later (h .clock) t (s .pinged) later)) (h .sets))
 
   -- the live entries at the later time
   clock-entries : live (atClock t h) ≡ withoutObjects (heardWithin t) (withClock t (withSets (keep (pingedWithin t) (live h .sets)) (live h)))
@@ -230,17 +220,13 @@ module _ (h : History) (k : Kept h) (x : ℕ) where
   -- the objects of other exporters
   removal-objects : liveObjects withoutExporter ≡ keep (λ o. otherExporter (objectEntry h o)) (liveObjects h)
   removal-objects =
-      keep-ext-in (λ o. not (objectGone withoutExporter o)) (λ o. not (objectGone h o) && otherExporter (objectEntry h o)) (h .objects) removal-gone
-      ∙ sym (keep-keep (λ o. otherExporter (objectEntry h o)) (λ o. not (objectGone h o)) (h .objects))
+      cc (keep-ext-in (λ o. not (objectGone withoutExporter o)) (λ o. not (objectGone h o) && otherExporter (objectEntry h o)) (h .objects) removal-gone, keep-keep (λ o. otherExporter (objectEntry h o)) (λ o. not (objectGone h o)) (h .objects))
 
   -- the other exporters
   removal-exporters : map exporterEntry (liveExporters withoutExporter) ≡ keep (λ (p : Exporter). not (eqb x (p .oxid))) (live h .exporters)
   unfolding live
   removal-exporters =
-      kept-changed removal (λ p. not (p .removed)) (λ p. not (p .removed)) exporterEntry exporterEntry (λ p. not (eqb x (p .oxid))) (λ p. p) (h .exporters)
-      (λ p m. ap not (removal-removed p) ∙ nor (eqb x (p .oxid)) (p .removed))
-      (λ p m a b. ap exporterEntry (ap (λ (c : Bool). cond c (removedLife p) p) (not-true (eqb x (p .oxid)) b)))
-      ∙ map-id (keep (λ (p : Exporter). not (eqb x (p .oxid))) (map exporterEntry (liveExporters h)))
+      cc (kept-changed removal (λ p. not (p .removed)) (λ p. not (p .removed)) exporterEntry exporterEntry (λ p. not (eqb x (p .oxid))) (λ p. p) (h .exporters) (λ p m. ap not (removal-removed p) ∙ nor (eqb x (p .oxid)) (p .removed)) (λ p m a b. ap exporterEntry (ap (λ (c : Bool). cond c (removedLife p) p) (not-true (eqb x (p .oxid)) b))), map-id (keep (λ (p : Exporter). not (eqb x (p .oxid))) (map exporterEntry (liveExporters h))))
     where
       nor : (a b : Bool) → not (a || b) ≡ (not b && not a)
       nor true b = sym (and-false (not b))

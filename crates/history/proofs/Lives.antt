@@ -73,8 +73,7 @@ module _ {A : Type 0} (f : A → ℕ) where
   pub life-found-snoc : (d : A) (xs : List A) (x : A) (n : ℕ) → Serials f xs → f x ≡ length xs → Named f xs n
       → firstOr d (λ y. eqb (f y) n) (xs ++ (x ∷ [])) ≡ firstOr d (λ y. eqb (f y) n) xs
   life-found-snoc d xs x n s e r =
-      first-sole (λ y. eqb (f y) n) d (sole-by eqb eqb-decides f n (serials-snoc xs x s e .differ) (Memᴰ·append-left (x ∷ []) (r .here)) (r .named))
-      ∙ sym (life-found d s r)
+      cc (first-sole (λ y. eqb (f y) n) d (sole-by eqb eqb-decides f n (serials-snoc xs x s e .differ) (Memᴰ·append-left (x ∷ []) (r .here)) (r .named)), life-found d s r)
 
 -- ---- what holds of every history
 
@@ -148,4 +147,4 @@ kept-from h h′ k a b c bounded members alive s =
     lengths = sym (length-map (h′ .objects) still) ∙ ap length b ∙ length-map (h .objects) still
 
     ids : map serialOfObject (h′ .objects) ≡ map serialOfObject (h .objects)
-    ids = sym (map-map serialOfObject still (h′ .objects)) ∙ ap (map serialOfObject) b ∙ map-map serialOfObject still (h .objects)
+    ids = cc (map-map serialOfObject still (h′ .objects), b, map-map serialOfObject still (h .objects))

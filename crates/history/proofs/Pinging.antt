@@ -77,9 +77,7 @@ module _ (h : History) (u : distinct eqb (map (λ (p : ObjectLife). p .oid) (liv
   member-same : (o : ObjectLife) → In o (liveObjects h) → isMember h s o ≡ among (setOf (live h) s .members) (o .oid)
   unfolding live
   member-same o m =
-      some-sole (λ (q : SetLife). eqb s (q .number) && liveSet h q) (sole-keep (λ (q : SetLife). eqb s (q .number)) (liveSet h) w) (λ q. among (q .members) (o .serial))
-      ∙ sym (among-oids h u (λ (q : ObjectLife). among (p .members) (q .serial)) o m)
-      ∙ ap (λ (q : PingSet). among (q .members) (o .oid)) (sym (first-sole (λ (q : PingSet). eqb s (q .number)) noSet (sole-map (λ (q : PingSet). eqb s (q .number)) (setEntry h) w)))
+      cc (some-sole (λ (q : SetLife). eqb s (q .number) && liveSet h q) (sole-keep (λ (q : SetLife). eqb s (q .number)) (liveSet h) w) (λ q. among (q .members) (o .serial)), among-oids h u (λ (q : ObjectLife). among (p .members) (q .serial)) o m, first-sole (λ (q : PingSet). eqb s (q .number)) noSet (sole-map (λ (q : PingSet). eqb s (q .number)) (setEntry h) w))
 
   -- a live member is heard now
   abbrev hearing : ObjectLife → ObjectLife
@@ -107,8 +105,7 @@ module _ (h : History) (u : distinct eqb (map (λ (p : ObjectLife). p .oid) (liv
   -- the live objects are the same, some heard now
   heard-objects : liveObjects withHeard ≡ map hearing (liveObjects h)
   heard-objects =
-      keep-map (λ o. not (objectGone withHeard o)) hearing (h .objects)
-      ∙ ap (map hearing) (keep-ext (λ o. not (objectGone withHeard (hearing o))) (λ o. not (objectGone h o)) (λ o. ap not (hearing-gone o)) (h .objects))
+      cc (keep-map (λ o. not (objectGone withHeard o)) hearing (h .objects), keep-ext (λ o. not (objectGone withHeard (hearing o))) (λ o. not (objectGone h o)) (λ o. ap not (hearing-gone o)) (h .objects))
 
   -- the interfaces are the same
   heard-interfaces : interfacesOver (map hearing (liveObjects h)) (map hearing (h .objects)) (h .interfaces) ≡ interfacesOver (liveObjects h) (h .objects) (h .interfaces)
@@ -174,9 +171,7 @@ module _ (h : History) (u : distinct eqb (map (λ (p : ObjectLife). p .oid) (liv
   -- the ping of the set
   pub ping-entries : live (pingLives s h) ≡ ping s (live h)
   unfolding live
-  ping-entries =
-      set-entries withHeard s (pingedLife (h .clock)) (pingedAt (h .clock)) (pinged-change withHeard)
-      ∙ ap (atSet s (pingedAt (h .clock))) heard-entries
+  ping-entries = cc (set-entries withHeard s (pingedLife (h .clock)) (pingedAt (h .clock)) (pinged-change withHeard), heard-entries)
 
 -- ---- a set's members changed
 
@@ -340,12 +335,10 @@ complex-step h k s n adds dels a = stepped (complexPing s n adds dels) h k a (en
         ping j (atSet j (λ (p : PingSet). withSequence n (withMembers (newMembers (live h) adds dels (p .members)) p)) (cond b (makeSet (live h)) (live h)))
 
     alive : isLiveSet (live (startSet h)) (h .next) ≡ true
-    alive = ap (λ (e : Entries). isLiveSet e (h .next)) (start-entries h) ∙ made-live (live h)
+    alive = cc (start-entries h, made-live (live h))
 
     entries : (b : Bool) → eqb s 0 ≡ b → live (lives b) ≡ after b
-    entries true z =
-        complex-entries (startSet h) (start-kept h k) n adds dels (h .next) alive
-        ∙ ap (complexEntries (startSet h) (start-kept h k) n adds dels (h .next) alive) (start-entries h)
+    entries true z = cc (complex-entries (startSet h) (start-kept h k) n adds dels (h .next) alive, start-entries h)
     entries false z = complex-entries h k n adds dels s (complex-accepted (live h) s n adds dels z a)
 
     kept : (b : Bool) → eqb s 0 ≡ b → sound (live (lives b)) ≡ true → Kept (lives b)

@@ -175,7 +175,7 @@ full-places places n h =
 
 -- the live lists and a new one have so many bytes
 together-bytes : (xs : List Exporter) (new : List ℕ) → length (together xs new) ≡ listsLength xs + length new
-together-bytes xs new = length-append (joined (map (λ (x : Exporter). x .bindings) xs)) new ∙ ap (λ (n : ℕ). n + length new) (bytes-joined xs)
+together-bytes xs new = cc (length-append (joined (map (λ (x : Exporter). x .bindings) xs)) new, bytes-joined xs)
 
 -- of every call
 rows : (c : Call) (e : Entries) → Placed e → Rows (refusals c e) (needsFullKind c e)

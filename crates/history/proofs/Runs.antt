@@ -68,11 +68,11 @@ pub record Follows (m : Memory) (h : History) : Type 0 where
 module _ (c : Call) (m m′ : Memory) (r : Reply) (h : History) (p : Performed c m r m′) (f : Follows m h) where
   -- the reply is the history's
   call-reply : r ≡ reply c (live h)
-  call-reply = p .answered ∙ replied c m (f .sound) ∙ ap (reply c) (f .entries)
+  call-reply = cc (p .answered, replied c m (f .sound), f .entries)
 
   -- so is its number
   call-number : r .number ≡ number c (live h)
-  call-number = ap (λ (q : Reply). q .number) call-reply ∙ reply-number c (live h)
+  call-number = cc (call-reply, reply-number c (live h))
 
   -- the memory that is left holds the entries of the history that is fed the call
   follows : Follows m′ (feed h c)

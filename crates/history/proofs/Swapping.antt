@@ -35,9 +35,7 @@ load-number s e = ⊎-elim (λ t. rw t refl) (λ f. rw f refl) (true-or-false (i
 module _ (s : List ℕ) (m m′ : Memory) (r : Reply) (w : Whole (m .words)) (b : Whole (m .store)) (p : Performed (loadSnapshot s) m r m′) where
   answered-number : r .number ≡ numberBy (isSnapshot s)
   answered-number =
-      ap (λ (q : Reply). q .number) (p .answered ∙ fit-reply (loadSnapshot s) m (fit-lengths view (loadSnapshot s) m refl w b))
-      ∙ reply-number (loadSnapshot s) (view m)
-      ∙ load-number s (view m)
+      cc (p .answered, fit-reply (loadSnapshot s) m (fit-lengths view (loadSnapshot s) m refl w b), reply-number (loadSnapshot s) (view m), load-number s (view m))
 
   -- the entries that an accepted load leaves
   left : r .number ≡ 0 → view m′ ≡ entriesOf s

@@ -103,13 +103,12 @@ module _ {A : Type 0} (same : A → A → Bool) where
 -- of the images of the kept elements
 pub distinct-map-keep : {A B : Type 0} (same : A → A → Bool) (f : B → A) (p : B → Bool) (xs : List B)
     → distinct same (map f xs) ≡ true → distinct same (map f (keep p xs)) ≡ true
-distinct-map-keep same f p xs h =
-    distinct-map same f (keep p xs) ∙ distinct-keep (λ x y. same (f x) (f y)) p xs (sym (distinct-map same f xs) ∙ h)
+distinct-map-keep same f p xs h = cc (distinct-map same f (keep p xs), distinct-keep (λ x y. same (f x) (f y)) p xs (sym (distinct-map same f xs) ∙ h))
 
 module _ {A : Type 0} (same : A → A → Bool) (dec : Decides same) where
   -- equal elements are the same
   pub same-eq : (x y : A) → x ≡ y → same x y ≡ true
-  same-eq x y e = ap (same x) (sym e) ∙ dec .self x
+  same-eq x y e = cc (e, dec .self x)
 
   -- elements that are not equal are not the same
   pub same-ne : (x y : A) → (x ≡ y → ⊥) → same x y ≡ false
@@ -137,8 +136,7 @@ module _ {A : Type 0} (same : A → A → Bool) (dec : Decides same) where
   distinct-snoc xs x h n =
       distinct-append same xs (x ∷ [])
       ∙ rw (h, distinct-one same x)
-      (every-ext (λ y. not (some (same y) (x ∷ []))) (λ y. not (same x y)) (λ y. ap not (some-one (same y) x ∙ same-comm y x)) xs
-      ∙ some-none (same x) xs n)
+      (cc (every-ext (λ y. not (some (same y) (x ∷ []))) (λ y. not (same x y)) (λ y. ap not (some-one (same y) x ∙ same-comm y x)) xs, some-none (same x) xs n))
 
   -- equal elements stand at one index
   pub distinct-at : (xs : List A) (d : A) → distinct same xs ≡ true → (j k : ℕ) → j < length xs → k < length xs → getD xs j d ≡ getD xs k d → j ≡ k
@@ -226,26 +224,24 @@ sublist-append {A} {zs} {xs} {ws} {ys} s t =
 pub some-same-keep : {A : Type 0} (same : A → A → Bool) → Decides same → (p : A → Bool) (x : A) (xs : List A) → some (same x) (keep p xs) ≡ (p x && some (same x) xs)
 some-same-keep same dec p x xs =
     ⊎-elim
-    (λ t. some-kept (same x) p (λ y v. ap p (sym (dec .sound x y v)) ∙ t) xs ∙ sym (rw t))
+    (λ t. some-kept (same x) p (λ y v. cc (dec .sound x y v, t)) xs ∙ sym (rw t))
     (λ f.
     none-some (same x) (keep p xs)
-    (every-mono p (λ y. not (same x y)) (λ y v. ap not (same-ne same dec x y (λ e. true≢false (sym v ∙ ap p (sym e) ∙ f)))) (keep p xs) (keep-passes p xs))
+    (every-mono p (λ y. not (same x y)) (λ y v. ap not (same-ne same dec x y (λ e. true≢false (cc (v, e, f))))) (keep p xs) (keep-passes p xs))
     ∙ sym (rw f))
     (true-or-false (p x))
 
 -- the same of images, where the test is one of the images
 pub some-same-keep-map : {A B : Type 0} (same : B → B → Bool) → Decides same → (p : B → Bool) (f : A → B) (y : B) (xs : List A)
     → some (same y) (map f (keep (λ x. p (f x)) xs)) ≡ (p y && some (same y) (map f xs))
-some-same-keep-map same dec p f y xs = ap (some (same y)) (sym (keep-map p f xs)) ∙ some-same-keep same dec p y (map f xs)
+some-same-keep-map same dec p f y xs = cc (keep-map p f xs, some-same-keep same dec p y (map f xs))
 
 -- ---- the entry of an identifier, among entries whose identifiers, by f, are distinct
 
 module _ {A B : Type 0} (same : B → B → Bool) (dec : Decides same) (f : A → B) (d : A) (x : B) (xs : List A) (h : firstIndex (same x) (map f xs) < length xs) where
   -- it has the identifier
   pub entry-here : same x (f (getD xs (firstIndex (same x) (map f xs)) d)) ≡ true
-  entry-here =
-      ap (same x) (sym (getD-map f xs d (f d) (firstIndex (same x) (map f xs)) h))
-      ∙ first-at (same x) (f d) (map f xs) (rw (length-map xs f) h)
+  entry-here = cc (getD-map f xs d (f d) (firstIndex (same x) (map f xs)) h, first-at (same x) (f d) (map f xs) (rw (length-map xs f) h))
 
   module _ (u : distinct same (map f xs) ≡ true) where
     -- no other has
@@ -254,8 +250,7 @@ module _ {A B : Type 0} (same : B → B → Bool) (dec : Decides same) (f : A �
         same-ne same dec x (f (getD xs j d))
         (λ e. n
         (distinct-at same dec (map f xs) (f d) u j (firstIndex (same x) (map f xs)) (rw (length-map xs f) b) (rw (length-map xs f) h)
-        (getD-map f xs d (f d) j b ∙ sym e ∙ dec .sound x (f (getD xs (firstIndex (same x) (map f xs)) d)) entry-here
-        ∙ sym (getD-map f xs d (f d) (firstIndex (same x) (map f xs)) h))))
+        (cc (getD-map f xs d (f d) j b, e, dec .sound x (f (getD xs (firstIndex (same x) (map f xs)) d)) entry-here, getD-map f xs d (f d) (firstIndex (same x) (map f xs)) h))))
 
     -- a change of it alone
     pub entry-change : (g : A → A) → map (λ y. cond (same x (f y)) (g y) y) xs ≡ set xs (firstIndex (same x) (map f xs)) (g (getD xs (firstIndex (same x) (map f xs)) d))

@@ -142,8 +142,7 @@ pub changed-kept : {A B : Type 0} (c : A → A) (p p′ : A → Bool) (f f′ : 
     → ((x : A) → In x xs → p′ (c x) ≡ p x) → ((x : A) → In x xs → p x ≡ true → f′ (c x) ≡ g (f x))
     → map f′ (keep p′ (map c xs)) ≡ map g (map f (keep p xs))
 changed-kept {A} {B} c p p′ f f′ g xs s t =
-    kept-changed c p p′ f f′ (λ y. true) g xs (λ x m. s x m ∙ sym (and-true (p x))) (λ x m a b. t x m a)
-    ∙ ap (map g) (keep-all (λ (y : B). true) (map f (keep p xs)) (in-every (λ (y : B). true) (map f (keep p xs)) (λ y m. refl)))
+    cc (kept-changed c p p′ f f′ (λ y. true) g xs (λ x m. s x m ∙ sym (and-true (p x))) (λ x m a b. t x m a), keep-all (λ (y : B). true) (map f (keep p xs)) (in-every (λ (y : B). true) (map f (keep p xs)) (λ y m. refl)))
 
 -- what is read of the first that passes, where a change leaves both
 pub first-unread : {A B : Type 0} (d : A) (p : A → Bool) (f : A → B) (c : A → A) → ((x : A) → p (c x) ≡ p x) → ((x : A) → f (c x) ≡ f x)
@@ -172,7 +171,7 @@ module _ {A : Type 0} (p : A → Bool) {x : A} where
       (true-or-false (p y))
     where
       past : p y ≡ false → In x (y ∷ ys) → In x ys
-      past a (List·Memᴰ·head e) = absurd (true≢false (sym t ∙ ap p e ∙ a))
+      past a (List·Memᴰ·head e) = absurd (true≢false (cc (t, e, a)))
       past a (List·Memᴰ·tail n) = n
 
   -- it is the first
@@ -183,8 +182,7 @@ module _ {A : Type 0} (p : A → Bool) {x : A} where
   pub some-sole : {xs : List A} → Sole p xs x → (r : A → Bool) → some (λ y. p y && r y) xs ≡ r x
   some-sole {xs} s r =
       same-test (some (λ y. p y && r y) xs) (r x)
-      (λ t. let w = some-in (λ y. p y && r y) xs t in
-      ap r (sym (s .only (w .0) (w .1) (and-left (p (w .0)) (r (w .0)) (w .2)))) ∙ and-right (p (w .0)) (r (w .0)) (w .2))
+      (λ t. let w = some-in (λ y. p y && r y) xs t in cc (s .only (w .0) (w .1) (and-left (p (w .0)) (r (w .0)) (w .2)), and-right (p (w .0)) (r (w .0)) (w .2)))
       (λ t. in-some (λ y. p y && r y) (s .here) (and-intro (p x) (r x) (s .passes) t))
 
   -- it is among the kept where it is kept
@@ -210,7 +208,7 @@ sole-map p f {x} {xs} s =
     record {
       here = Memᴰ·map f (s .here);
       passes = s .passes;
-      only = λ y m t. let r = map-in f xs m in r .2 ∙ ap f (s .only (r .0) (r .1) (ap p (sym (r .2)) ∙ t));
+      only = λ y m t. let r = map-in f xs m in r .2 ∙ ap f (s .only (r .0) (r .1) (cc (r .2, t)));
     }
 
 module _ {A B : Type 0} (same : B → B → Bool) (dec : Decides same) (f : A → B) where
@@ -223,8 +221,8 @@ module _ {A B : Type 0} (same : B → B → Bool) (dec : Decides same) (f : A �
   pub one-in : {x y : A} (xs : List A) → distinct same (map f xs) ≡ true → In x xs → In y xs → f x ≡ f y → x ≡ y
   one-in [] u m n e = absurd (List·Memᴰ·not-nil m)
   one-in (z ∷ zs) u (List·Memᴰ·head a) (List·Memᴰ·head b) e = a ∙ sym b
-  one-in (z ∷ zs) u (List·Memᴰ·head a) (List·Memᴰ·tail n) e = absurd (head-key zs u n (ap f (sym a) ∙ e))
-  one-in (z ∷ zs) u (List·Memᴰ·tail m) (List·Memᴰ·head b) e = absurd (head-key zs u m (ap f (sym b) ∙ sym e))
+  one-in (z ∷ zs) u (List·Memᴰ·head a) (List·Memᴰ·tail n) e = absurd (head-key zs u n (cc (a, e)))
+  one-in (z ∷ zs) u (List·Memᴰ·tail m) (List·Memᴰ·head b) e = absurd (head-key zs u m (cc (b, e)))
   one-in (z ∷ zs) u (List·Memᴰ·tail m) (List·Memᴰ·tail n) e = one-in zs (distinct-tail same (f z) (map f zs) u) m n e
 
   -- an element is the only one with its key
@@ -260,4 +258,4 @@ module _ {A B : Type 0} (same : B → B → Bool) (dec : Decides same) (f : A �
 pub sole-image : {A B C : Type 0} (same : C → C → Bool) → Decides same → (g : B → C) (f : A → B) (k : C) (xs : List A)
     → distinct same (map g (map f xs)) ≡ true → some (same k) (map g (map f xs)) ≡ true → (x : A) × Sole (λ y. same k (g (f y))) xs x
 sole-image same dec g f k xs u h =
-    sole-found same dec (λ x. g (f x)) k xs (ap (distinct same) (sym (map-map g f xs)) ∙ u) (ap (some (same k)) (sym (map-map g f xs)) ∙ h)
+    sole-found same dec (λ x. g (f x)) k xs (cc (map-map g f xs, u)) (cc (map-map g f xs, h))

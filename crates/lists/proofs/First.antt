@@ -116,7 +116,7 @@ module _ {A : Type 0} (p : A → Bool) where
 
 module _ {A B : Type 0} (p : B → Bool) (f : A → B) where
   pub some-index : (xs : List A) → some p (map f xs) ≡ ltb (firstIndex p (map f xs)) (length xs)
-  some-index xs = sym (some-first p (map f xs)) ∙ ap (ltb (firstIndex p (map f xs))) (length-map xs f)
+  some-index xs = cc (some-first p (map f xs), length-map xs f)
 
   pub entry-index : (d : A) (xs : List A) → firstOr d (λ x. p (f x)) xs ≡ getD xs (firstIndex p (map f xs)) d
-  entry-index d xs = first-or (λ x. p (f x)) d xs ∙ ap (λ (n : ℕ). getD xs n d) (sym (first-map p f xs))
+  entry-index d xs = cc (first-or (λ x. p (f x)) d xs, first-map p f xs)

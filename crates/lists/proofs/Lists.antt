@@ -33,7 +33,7 @@ module _ {A : Type 0} (p : A → Bool) where
 
   -- of a list with a last element
   pub every-snoc : (xs : List A) (x : A) → every p (xs ++ (x ∷ [])) ≡ (every p xs && p x)
-  every-snoc xs x = every-append xs (x ∷ []) ∙ ap (λ (b : Bool). every p xs && b) (every-one x)
+  every-snoc xs x = cc (every-append xs (x ∷ []), every-one x)
 
   -- of the images
   pub every-map : {B : Type 0} (g : B → A) (xs : List B) → every p (map g xs) ≡ every (λ x. p (g x)) xs
@@ -145,9 +145,7 @@ module _ {A : Type 0} (p q : A → Bool) where
 
   -- what holds of every element holds of every kept one
   pub every-kept : (xs : List A) → every p xs ≡ true → every p (keep q xs) ≡ true
-  every-kept xs h =
-      every-keep p q xs
-      ∙ every-mono-on p p (λ x. not (q x) || p x) (λ x t u. rw t (or-true (not (q x)))) xs h h
+  every-kept xs h = cc (every-keep p q xs, every-mono-on p p (λ x. not (q x) || p x) (λ x t u. rw t (or-true (not (q x)))) xs h h)
 
 -- of two tests, of which the first passes only what the second does, the first decides
 implied : {A : Type 0} (p q : A → Bool) → ((x : A) → p x ≡ true → q x ≡ true) → (x : A) → (q x && p x) ≡ p x
@@ -174,7 +172,7 @@ module _ {A : Type 0} (p : A → Bool) where
 
   -- of a list with a last element
   pub some-snoc : (xs : List A) (x : A) → some p (xs ++ (x ∷ [])) ≡ (some p xs || p x)
-  some-snoc xs x = some-append xs (x ∷ []) ∙ ap (λ (b : Bool). some p xs || b) (some-one x)
+  some-snoc xs x = cc (some-append xs (x ∷ []), some-one x)
 
   -- of the images
   pub some-map : {B : Type 0} (g : B → A) (xs : List B) → some p (map g xs) ≡ some (λ x. p (g x)) xs
@@ -319,9 +317,7 @@ keep-comm p q xs = keep-keep p q xs ∙ keep-ext (λ x. q x && p x) (λ x. p x &
 
 -- a test that passes only what p passes
 pub keep-within : {A : Type 0} (p q : A → Bool) → ((x : A) → q x ≡ true → p x ≡ true) → (xs : List A) → keep q (keep p xs) ≡ keep q xs
-keep-within p q h xs =
-    keep-keep q p xs
-    ∙ keep-ext (λ x. p x && q x) q (implied q p h) xs
+keep-within p q h xs = cc (keep-keep q p xs, keep-ext (λ x. p x && q x) q (implied q p h) xs)
 
 -- ---- map
 
@@ -354,8 +350,7 @@ module _ {A : Type 0} (t : A → Bool) (g : A → A) where
   -- it keeps what passes p
   pub every-changed-at : (p : A → Bool) → ((x : A) → p x ≡ true → p (g x) ≡ true) → (xs : List A) → every p xs ≡ true → every p (map (λ x. cond (t x) (g x) x) xs) ≡ true
   every-changed-at p h xs e =
-      every-map p (λ x. cond (t x) (g x) x) xs
-      ∙ every-mono p (λ x. p (cond (t x) (g x) x)) (λ x v. by-test (λ (y : A). p y ≡ true) (t x) (g x) x (λ u. h x v) (λ u. v)) xs e
+      cc (every-map p (λ x. cond (t x) (g x) x) xs, every-mono p (λ x. p (cond (t x) (g x) x)) (λ x v. by-test (λ (y : A). p y ≡ true) (t x) (g x) x (λ u. h x v) (λ u. v)) xs e)
 
 -- a change that leaves each element that r passes
 pub map-id-on : {A : Type 0} (r : A → Bool) (g : A → A) → ((x : A) → r x ≡ true → g x ≡ x) → (xs : List A) → every r xs ≡ true → map g xs ≡ xs
@@ -463,8 +458,7 @@ module _ {A : Type 0} where
 
   -- every element passes, so each index does
   pub every-tabulate-at : (p : A → Bool) (n : ℕ) (f : ℕ → A) (i : ℕ) → i < n → every p (tabulate n f) ≡ true → p (f i) ≡ true
-  every-tabulate-at p n f i h e =
-      ap p (sym (getD-tabulate n f (f i) i h)) ∙ every-at p (tabulate n f) (f i) i (rw length-tabulate h) e
+  every-tabulate-at p n f i h e = cc (getD-tabulate n f (f i) i h, every-at p (tabulate n f) (f i) i (rw length-tabulate h) e)
 
   -- an index passes, so some element does
   pub some-tabulate : (p : A → Bool) (n : ℕ) (f : ℕ → A) (i : ℕ) → i < n → p (f i) ≡ true → some p (tabulate n f) ≡ true
@@ -532,7 +526,7 @@ module _ {A : Type 0} where
   getD-delete k [] d j = refl
   getD-delete zero (x ∷ xs) d j = ap (λ (i : ℕ). getD (x ∷ xs) i d) (sym (skip-from zero j (omega arith)))
   getD-delete (suc k) (x ∷ xs) d zero = ap (λ (i : ℕ). getD (x ∷ xs) i d) (sym (skip-below (suc k) zero (omega arith)))
-  getD-delete (suc k) (x ∷ xs) d (suc j) = getD-delete k xs d j ∙ ap (λ (i : ℕ). getD (x ∷ xs) i d) (skip-suc k j)
+  getD-delete (suc k) (x ∷ xs) d (suc j) = cc (getD-delete k xs d j, skip-suc k j)
 
   -- a table without index k
   pub delete-tabulate : (n k : ℕ) (f : ℕ → A) → k ≤ n → deleteAt k (tabulate (suc n) f) ≡ tabulate n (λ j. f (skip k j))
@@ -570,7 +564,7 @@ module _ {A : Type 0} where
   some-delete p d k i xs h g n t =
       let l = length-delete k xs h in
       let r = skip-find k i (length (deleteAt k xs)) n (omega arith) (omega arith) in
-      some-at p (deleteAt k xs) d (r .0) (r .1) (ap p (getD-delete k xs d (r .0) ∙ ap (λ (j : ℕ). getD xs j d) (r .2)) ∙ t)
+      some-at p (deleteAt k xs) d (r .0) (r .1) (cc (getD-delete k xs d (r .0), r .2, t))
 
   -- where the test fails at k alone
   pub delete-keep : (p : A → Bool) (d : A) (k : ℕ) (xs : List A) → k < length xs → p (getD xs k d) ≡ false
@@ -580,14 +574,11 @@ module _ {A : Type 0} where
   delete-keep p d zero (x ∷ xs) h f t =
       sym (keep-no p x xs f ∙ keep-all p xs (every-from-at p d xs (λ j b. t (suc j) (omega arith) (omega arith))))
   delete-keep p d (suc k) (x ∷ xs) h f t =
-      ap (λ (l : List A). x ∷ l) (delete-keep p d k xs (omega arith) f (λ j b n. t (suc j) (omega arith) (λ q. n (omega arith))))
-      ∙ sym (keep-yes p x xs (t zero (omega arith) (omega arith)))
+      cc (delete-keep p d k xs (omega arith) f (λ j b n. t (suc j) (omega arith) (λ q. n (omega arith))), keep-yes p x xs (t zero (omega arith) (omega arith)))
 
   -- where every element passes but the one put at k
   pub keep-set : (p : A → Bool) (k : ℕ) (xs : List A) (y : A) → k < length xs → p y ≡ false → every p xs ≡ true → keep p (set xs k y) ≡ deleteAt k xs
   unfolding every deleteAt
   keep-set p k [] y h f e = absurd (omega arith)
   keep-set p zero (x ∷ xs) y h f e = keep-no p y xs f ∙ keep-all p xs (and-right (p x) (every p xs) e)
-  keep-set p (suc k) (x ∷ xs) y h f e =
-      keep-yes p x (set xs k y) (and-left (p x) (every p xs) e)
-      ∙ ap (λ (l : List A). x ∷ l) (keep-set p k xs y (omega arith) f (and-right (p x) (every p xs) e))
+  keep-set p (suc k) (x ∷ xs) y h f e = cc (keep-yes p x (set xs k y) (and-left (p x) (every p xs) e), keep-set p k xs y (omega arith) f (and-right (p x) (every p xs) e))

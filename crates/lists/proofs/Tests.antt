@@ -39,8 +39,8 @@ below-or-not a b = go (ltb a b) refl
 pub ltb-not : (a b : ℕ) → ltb a b ≡ not (leb b a)
 ltb-not a b =
     ⊎-elim
-    (λ h. lt-ltb a b h ∙ sym (ap not (lt-leb b a h)))
-    (λ h. le-ltb a b h ∙ sym (ap not (le-leb b a h)))
+    (λ h. cc (lt-ltb a b h, lt-leb b a h))
+    (λ h. cc (le-ltb a b h, le-leb b a h))
     (below-or-not a b)
 
 -- a sum is below n where a part is below what is left of n

@@ -40,14 +40,8 @@ module _ {A : Type 0} (q : A → Bool) (h : A → A) where
   keep-through (x ∷ xs) t =
       let rest = keep-through xs (and-right (q x || not (q (h x))) _ t) in
       ⊎-elim
-      (λ a.
-      ap (λ (b : Bool). keep q (map h (cond b (x ∷ keep q xs) (keep q xs)))) a
-      ∙ ap (λ (l : List A). cond (q (h x)) (h x ∷ l) l) rest)
-      (λ a.
-      ap (λ (b : Bool). keep q (map h (cond b (x ∷ keep q xs) (keep q xs)))) a
-      ∙ rest
-      ∙ sym (ap (λ (b : Bool). cond b (h x ∷ keep q (map h xs)) (keep q (map h xs)))
-      (not-true (q (h x)) (ap (λ (b : Bool). b || not (q (h x))) (sym a) ∙ and-left (q x || not (q (h x))) _ t))))
+      (λ a. cc)
+      (λ (a : q x ≡ false). cc (not-true (q (h x)) (rw a at (and-left (q x || not (q (h x))) _ t))))
       (true-or-false (q x))
 
   module _ (p : A → Bool) (same : (x : A) → p (h x) ≡ p x) (fixed : (x : A) → p x ≡ true → h x ≡ x) where
@@ -58,31 +52,12 @@ module _ {A : Type 0} (q : A → Bool) (h : A → A) where
     through-first d (x ∷ xs) t =
         let rest = through-first d xs (and-right (q x) _ t) in
         ⊎-elim
-        (λ a.
-        ap (λ (b : Bool). firstOr d p (cond b (h x ∷ keep q (map h xs)) (keep q (map h xs)))) (ap q (fixed x a) ∙ and-left (q x) _ t)
-        ∙ ap (λ (b : Bool). cond b (h x) (firstOr d p (keep q (map h xs)))) (same x ∙ a)
-        ∙ fixed x a
-        ∙ sym (ap (λ (b : Bool). cond b x (firstOr d p xs)) a))
-        (λ a.
-        ⊎-elim
-        (λ k.
-        ap (λ (b : Bool). firstOr d p (cond b (h x ∷ keep q (map h xs)) (keep q (map h xs)))) k
-        ∙ ap (λ (b : Bool). cond b (h x) (firstOr d p (keep q (map h xs)))) (same x ∙ a)
-        ∙ rest
-        ∙ sym (ap (λ (b : Bool). cond b x (firstOr d p xs)) a))
-        (λ k.
-        ap (λ (b : Bool). firstOr d p (cond b (h x ∷ keep q (map h xs)) (keep q (map h xs)))) k
-        ∙ rest
-        ∙ sym (ap (λ (b : Bool). cond b x (firstOr d p xs)) a))
-        (true-or-false (q (h x))))
+        (λ a. cc (fixed x a, and-left (q x) _ t))
+        (λ a. ⊎-elim (λ k. cc (same x)) (λ k. cc) (true-or-false (q (h x))))
         (true-or-false (p x))
 
     one-found : (x : A) → q x ≡ true → (q (h x) && p (h x)) ≡ p x
-    one-found x t =
-        ⊎-elim
-        (λ a. ap (λ (y : A). q y && p y) (fixed x a) ∙ and-intro (q x) (p x) t a ∙ sym a)
-        (λ a. ap (λ (b : Bool). q (h x) && b) (same x ∙ a) ∙ and-false (q (h x)) ∙ sym a)
-        (true-or-false (p x))
+    one-found x t = ⊎-elim (λ a. cc (fixed x a)) (λ a. cc (same x, and-false (q (h x)))) (true-or-false (p x))
 
     all-found : (xs : List A) → every q xs ≡ true → some (λ x. q (h x) && p (h x)) xs ≡ some p xs
     unfolding some every
@@ -198,15 +173,8 @@ module _ (i j : Guid) (apart : sameGuid i j ≡ false) where
     changes-swap : (r : Interface) → at j g (at i f r) ≡ at i f (at j g r)
     changes-swap r =
         ⊎-elim
-        (λ t.
-        let e : at i f r ≡ f r = ap (λ (b : Bool). cond b (f r) r) t in
-        ap (at j g) e
-        ∙ ap (λ (b : Bool). cond b (g (f r)) (f r)) (ap (sameGuid j) (pf .ipid r) ∙ not-both (r .ipid) t)
-        ∙ sym e
-        ∙ ap (at i f) (sym (fixed r t)))
-        (λ t.
-        ap (λ (b : Bool). at j g (cond b (f r) r)) t
-        ∙ sym (ap (λ (b : Bool). cond b (f (at j g r)) (at j g r)) (same-ipid r ∙ t)))
+        (λ t. cc (ap (sameGuid j) (pf .ipid r), not-both (r .ipid) t))
+        (λ t. cc (same-ipid r))
         (true-or-false (sameGuid i (r .ipid)))
 
     at-swap : (e : Entries) → atInterface j g (atInterface i f e) ≡ atInterface i f (atInterface j g e)
@@ -218,18 +186,7 @@ module _ (i j : Guid) (apart : sameGuid i j ≡ false) where
       -- what fails after the first change fails after the second
       fails : every (λ (r : Interface). held r || not (held (at j g r))) (map (at i f) (e .interfaces)) ≡ true
       fails =
-          every-map (λ (r : Interface). held r || not (held (at j g r))) (at i f) (e .interfaces)
-          ∙ every-mono held (λ r. held (at i f r) || not (held (at j g (at i f r))))
-          (λ r t.
-          ⊎-elim
-          (λ a.
-          let w : at j g (at i f r) ≡ at i f r = ap (λ (b : Bool). cond b (g (at i f r)) (at i f r)) (ap (sameGuid j) (at-plain i f pf .ipid r) ∙ not-both (r .ipid) a) in
-          ap (λ (x : Interface). held (at i f r) || not (held x)) w ∙ or-not (held (at i f r)))
-          (λ a.
-          let w : at i f r ≡ r = ap (λ (b : Bool). cond b (f r) r) a in
-          ap (λ (x : Interface). held x || not (held (at j g x))) w ∙ ap (λ (b : Bool). b || not (held (at j g r))) t)
-          (true-or-false (sameGuid i (r .ipid))))
-          (e .interfaces) counted
+          cc (every-map (λ (r : Interface). held r || not (held (at j g r))) (at i f) (e .interfaces), every-mono held (λ r. held (at i f r) || not (held (at j g (at i f r)))) (λ r t. ⊎-elim (λ a. let w : at j g (at i f r) ≡ at i f r = ap (λ (b : Bool). cond b (g (at i f r)) (at i f r)) (ap (sameGuid j) (at-plain i f pf .ipid r) ∙ not-both (r .ipid) a) in ap (λ (x : Interface). held (at i f r) || not (held x)) w ∙ or-not (held (at i f r))) (λ a. let w : at i f r ≡ r = ap (λ (b : Bool). cond b (f r) r) a in ap (λ (x : Interface). held x || not (held (at j g x))) w ∙ ap (λ (b : Bool). b || not (held (at j g r))) t) (true-or-false (sameGuid i (r .ipid)))) (e .interfaces) counted)
         where
           or-not : (b : Bool) → (b || not b) ≡ true
           or-not true = refl
@@ -260,8 +217,7 @@ module _ (i j : Guid) (apart : sameGuid i j ≡ false) where
 
       changed-entry : interfaceOf (dropEmpty (atInterface j g e)) i ≡ interfaceOf e i
       changed-entry =
-          ap (λ (x : Entries). interfaceOf x i) (drop-form (atInterface j g e) (named-changed (oids e) (at j g) (at-plain j g pg) (e .interfaces) named))
-          ∙ through-first held (at j g) (λ r. sameGuid i (r .ipid)) same-ipid fixed noInterface (e .interfaces) counted
+          cc (drop-form (atInterface j g e) (named-changed (oids e) (at j g) (at-plain j g pg) (e .interfaces) named), through-first held (at j g) (λ r. sameGuid i (r .ipid)) same-ipid fixed noInterface (e .interfaces) counted)
 
 -- ---- the calls
 
@@ -322,14 +278,12 @@ module _ (a b : CountCall) (d : Apart a b) (e : Entries) (s : sound e ≡ true) 
   live-same : isLiveInterface (callDone (callOf b) e) (a .item .ipid) ≡ isLiveInterface e (a .item .ipid)
   live-same =
       let g = sound-fields e s in
-      ap (λ (x : Entries). isLiveInterface x (a .item .ipid)) (done-drop b e s)
-      ∙ changed-live (a .item .ipid) (b .item .ipid) (d .apart) (λ r. r) (changeIf b (accepts b e)) none-plain (change-plain b (accepts b e)) e (g .interfaceObjectsLive) (g .interfacesHeld)
+      cc (done-drop b e s, changed-live (a .item .ipid) (b .item .ipid) (d .apart) (λ r. r) (changeIf b (accepts b e)) none-plain (change-plain b (accepts b e)) e (g .interfaceObjectsLive) (g .interfacesHeld))
 
   entry-same : interfaceOf (callDone (callOf b) e) (a .item .ipid) ≡ interfaceOf e (a .item .ipid)
   entry-same =
       let g = sound-fields e s in
-      ap (λ (x : Entries). interfaceOf x (a .item .ipid)) (done-drop b e s)
-      ∙ changed-entry (a .item .ipid) (b .item .ipid) (d .apart) (λ r. r) (changeIf b (accepts b e)) none-plain (change-plain b (accepts b e)) e (g .interfaceObjectsLive) (g .interfacesHeld)
+      cc (done-drop b e s, changed-entry (a .item .ipid) (b .item .ipid) (d .apart) (λ r. r) (changeIf b (accepts b e)) none-plain (change-plain b (accepts b e)) e (g .interfaceObjectsLive) (g .interfacesHeld))
 
 -- a call's number by what it looks at
 number-from : (w : Counting) (c : ℕ) (t : Item) (e e′ : Entries) → isLiveInterface e′ (t .ipid) ≡ isLiveInterface e (t .ipid) → interfaceOf e′ (t .ipid) ≡ interfaceOf e (t .ipid)
@@ -349,16 +303,11 @@ both-done : (a b : CountCall) → Apart a b → Apart b a → (e : Entries) → 
     ≡ dropEmpty (atInterface (b .item .ipid) (changeIf b (accepts b e)) (atInterface (a .item .ipid) (changeIf a (accepts a e)) e))
 both-done a b d d′ e s =
     let g = sound-fields e s in
-    done-drop b (callDone (callOf a) e) (sound-done (callOf a) e s)
-    ∙ ap (λ (n : ℕ). dropEmpty (atInterface (b .item .ipid) (changeIf b (eqb n 0)) (callDone (callOf a) e))) (number-same b a d′ e s)
-    ∙ ap (λ (x : Entries). dropEmpty (atInterface (b .item .ipid) (changeIf b (accepts b e)) x)) (done-drop a e s)
-    ∙ drop-later (a .item .ipid) (b .item .ipid) (d .apart) (changeIf a (accepts a e)) (changeIf b (accepts b e)) (change-plain a (accepts a e)) (change-plain b (accepts b e)) e (g .interfaceObjectsLive) (g .interfacesHeld)
+    cc (done-drop b (callDone (callOf a) e) (sound-done (callOf a) e s), number-same b a d′ e s, done-drop a e s, drop-later (a .item .ipid) (b .item .ipid) (d .apart) (changeIf a (accepts a e)) (changeIf b (accepts b e)) (change-plain a (accepts a e)) (change-plain b (accepts b e)) e (g .interfaceObjectsLive) (g .interfacesHeld))
 
 same-entries : (a b : CountCall) → Apart a b → Apart b a → (e : Entries) → sound e ≡ true → callDone (callOf b) (callDone (callOf a) e) ≡ callDone (callOf a) (callDone (callOf b) e)
 same-entries a b d d′ e s =
-    both-done a b d d′ e s
-    ∙ ap dropEmpty (at-swap (a .item .ipid) (b .item .ipid) (d .apart) (changeIf a (accepts a e)) (changeIf b (accepts b e)) (change-plain a (accepts a e)) (change-plain b (accepts b e)) e)
-    ∙ sym (both-done b a d′ d e s)
+    cc (both-done a b d d′ e s, at-swap (a .item .ipid) (b .item .ipid) (d .apart) (changeIf a (accepts a e)) (changeIf b (accepts b e)) (change-plain a (accepts a e)) (change-plain b (accepts b e)) e, both-done b a d′ d e s)
 
 -- ---- the answers
 
@@ -377,9 +326,7 @@ add-values c i p q e = by (eqb (number (add c i p q) e) 0)
 -- what a release answers, accepted and refused
 release-values : (c : ℕ) (i : Guid) (p q : ℕ) (e : Entries) → eqb (number (release c i p q) e) 0 ≡ true → reply (release c i p q) e .values ≡ releaseValues c i p q e (callDone (release c i p q) e)
 unfolding reply acceptedReply refusedReply results
-release-values c i p q e t =
-    ap (λ (b : Bool). cond b (acceptedReply (release c i p q) e) (refusedReply (number (release c i p q) e) (release c i p q) e) .values) t
-    ∙ ap (releaseValues c i p q e) (sym (ap (λ (b : Bool). cond b (next (release c i p q) e) e) t))
+release-values c i p q e t = cc t
 
 release-zeros : (c : ℕ) (i : Guid) (p q : ℕ) (e : Entries) → eqb (number (release c i p q) e) 0 ≡ false → reply (release c i p q) e .values ≡ zeros
 unfolding reply acceptedReply refusedReply results
@@ -525,9 +472,7 @@ module _ (b : CountCall) (e : Entries) (s : sound e ≡ true) where
 
   form : callDone (callOf b) e ≡ servedBy (keep held (map changed (e .interfaces))) e
   form =
-      done-drop b e s
-      ∙ drop-form (atInterface (b .item .ipid) (changeIf b (accepts b e)) e)
-      (named-changed (oids e) changed changed-plain (e .interfaces) (sound-fields e s .interfaceObjectsLive))
+      cc (done-drop b e s, drop-form (atInterface (b .item .ipid) (changeIf b (accepts b e)) e) (named-changed (oids e) changed changed-plain (e .interfaces) (sound-fields e s .interfaceObjectsLive)))
 
   left-interfaces : callDone (callOf b) e .interfaces ≡ keep held (map changed (e .interfaces))
   left-interfaces = ap (λ (x : Entries). x .interfaces) form
@@ -590,10 +535,7 @@ module _ (a b : CountCall) (d : Apart a b) (d′ : Apart b a) (e : Entries) (s :
     one-object : objectOf a e ≡ objectOf b e
     one-object =
         let x = some-interface in
-        own
-        ∙ sym (x .2)
-        ∙ ap (λ (r : Interface). r .object) (sym (sole-entry first first-sound (b .item .ipid) (x .0) (x .1) (only-second (x .0) (x .1) (x .2))))
-        ∙ ap (λ (r : Interface). r .object) (entry-same b a d′ e s)
+        cc (own, x .2, sole-entry first first-sound (b .item .ipid) (x .0) (x .1) (only-second (x .0) (x .1) (x .2)), entry-same b a d′ e s)
 
     -- the first call's interface is gone
     first-gone : isLiveInterface first (a .item .ipid) ≡ false

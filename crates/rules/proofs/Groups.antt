@@ -51,8 +51,7 @@ module _ {A : Type 0} (same : A → A → Bool) (zero : A) where
   -- one more at the end
   pub fine-snoc : Decides same → (x : A) (xs : List A) → (same x zero || some (same x) xs) ≡ false → fine xs ≡ true → fine (xs ++ (x ∷ [])) ≡ true
   fine-snoc dec x xs n h =
-      ap fine (sym (append-nil (xs ++ (x ∷ []))))
-      ∙ fine-mid dec x xs [] (ap (λ (l : List A). same x zero || some (same x) l) (append-nil xs) ∙ n) (ap fine (append-nil xs) ∙ h)
+      cc (append-nil (xs ++ (x ∷ [])), fine-mid dec x xs [] (ap (λ (l : List A). same x zero || some (same x) l) (append-nil xs) ∙ n) (ap fine (append-nil xs) ∙ h))
 
   -- one more entry whose identifier, by f, is such a one
   pub fine-entered : {B : Type 0} (f : B → A) → Decides same → (x : B) (xs : List B) → (same (f x) zero || some (same (f x)) (map f xs)) ≡ false → fine (map f xs) ≡ true
@@ -106,11 +105,7 @@ sets-replaced e n ss g s = record { exporters = g .exporters; objects = g .objec
 pub serving-objects : (os : List Object) (is : List Interface) → every (among (map (λ (i : Interface). i .object) is)) (map (λ (o : Object). o .oid) os)
     ≡ every (λ (o : Object). some (λ (i : Interface). eqb (o .oid) (i .object)) is) os
 serving-objects os is =
-    every-map (among (map (λ (i : Interface). i .object) is)) (λ (o : Object). o .oid) os
-    ∙ every-ext
-    (λ (o : Object). among (map (λ (i : Interface). i .object) is) (o .oid))
-    (λ (o : Object). some (λ (i : Interface). eqb (o .oid) (i .object)) is)
-    (λ o. some-map (eqb (o .oid)) (λ (i : Interface). i .object) is) os
+    cc (every-map (among (map (λ (i : Interface). i .object) is)) (λ (o : Object). o .oid) os, every-ext (λ (o : Object). among (map (λ (i : Interface). i .object) is) (o .oid)) (λ (o : Object). some (λ (i : Interface). eqb (o .oid) (i .object)) is) (λ o. some-map (eqb (o .oid)) (λ (i : Interface). i .object) is) os)
 
 -- the fields by groups
 fields-grouped : (e : Entries) → Sound e → Grouped e
@@ -134,10 +129,4 @@ sound-grouped e g =
     let os = g .objects in
     let is = g .interfaces in
     let ss = g .sets in
-    sound-groups e
-    ∙ ((xs .ids and xs .lists and xs .inside and none) .together
-    and (os .ids and os .named and (sym (serving-objects (e .objects) (e .interfaces)) ∙ is .serving) and os .byClock and os .lately and none) .together
-    and (g .ids and is .named and is .counted and none) .together
-    and (ss .ids and ss .byClock and ss .lately and ss .below and ss .nonzero and ss .named and none) .together
-    and none)
-    .together
+    cc (sound-groups e, ((xs .ids and xs .lists and xs .inside and none) .together and (os .ids and os .named and (sym (serving-objects (e .objects) (e .interfaces)) ∙ is .serving) and os .byClock and os .lately and none) .together and (g .ids and is .named and is .counted and none) .together and (ss .ids and ss .byClock and ss .lately and ss .below and ss .nonzero and ss .named and none) .together and none) .together)

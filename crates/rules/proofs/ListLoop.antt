@@ -52,7 +52,7 @@ module _ (w : Counting) (c : ℕ) (ts : List Item) (b₀ : List ℕ) (e₀ : Ent
         })
       where
         later : (xs : List ℕ) → drop (suc k) xs ≡ drop 1 (drop k xs)
-        later xs = ap (λ (m : ℕ). drop m xs) (sym (add-one k)) ∙ sym (drop-drop 1 k xs)
+        later xs = cc (add-one k, drop-drop 1 k xs)
 
     -- all are done
     pub listed-all : k ≡ length ts → (e ≡ itemsDone w c ts e₀) × (b ≡ fronted (itemNumbers w c ts e₀) b₀)

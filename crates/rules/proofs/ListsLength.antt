@@ -30,4 +30,4 @@ bytes-kept p (x ∷ xs) =
 pub bytes-joined : (xs : List Exporter) → length (joined (map (λ (x : Exporter). x .bindings) xs)) ≡ listsLength xs
 unfolding listsLength joined
 bytes-joined [] = refl
-bytes-joined (x ∷ xs) = length-append (x .bindings) (joined (map (λ (y : Exporter). y .bindings) xs)) ∙ ap (λ (n : ℕ). length (x .bindings) + n) (bytes-joined xs)
+bytes-joined (x ∷ xs) = cc (length-append (x .bindings) (joined (map (λ (y : Exporter). y .bindings) xs)), bytes-joined xs)

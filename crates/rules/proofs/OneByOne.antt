@@ -128,10 +128,7 @@ unfolding tabulate
 tabulate-append zero b f = let q : 0 + b ≡ b = omega arith in ap (λ (n : ℕ). tabulate n f) q ∙ tabulate-ext b f (λ i. f (0 + i)) (λ i h. let r : i ≡ 0 + i = omega arith in ap f r)
 tabulate-append {A} (suc a) b f =
     let q : suc a + b ≡ suc (a + b) = omega arith in
-    ap (λ (n : ℕ). tabulate n f) q
-    ∙ ap (λ (l : List A). f zero ∷ l)
-    (tabulate-append a b (λ i. f (suc i))
-    ∙ ap (λ (l : List A). tabulate a (λ i. f (suc i)) ++ l) (tabulate-ext b (λ i. f (suc (a + i))) (λ i. f (suc a + i)) (λ i h. let r : suc (a + i) ≡ suc a + i = omega arith in ap f r)))
+    cc (q, tabulate-append a b (λ i. f (suc i)), tabulate-ext b (λ i. f (suc (a + i))) (λ i. f (suc a + i)) (λ i h. let r : suc (a + i) ≡ suc a + i = omega arith in ap f r))
 
 -- a field behind the first bytes
 pub field-back : (s t : List ℕ) (at w : ℕ) → field (s ++ t) (length s + at) w ≡ field t at w
@@ -169,12 +166,12 @@ items-append s t h =
     at-place : (i k w : ℕ) → field (s ++ t) (24 * (length s / 24 + i) + k) w ≡ field t (24 * i + k) w
     at-place i k w =
         let q : 24 * (length s / 24 + i) + k ≡ length s + (24 * i + k) = omega arith in
-        ap (λ (n : ℕ). field (s ++ t) n w) q ∙ field-back s t (24 * i + k) w
+        cc (q, field-back s t (24 * i + k) w)
 
     first-place : (i w : ℕ) → field (s ++ t) (24 * (length s / 24 + i)) w ≡ field t (24 * i) w
     first-place i w =
         let q : 24 * (length s / 24 + i) ≡ length s + 24 * i = omega arith in
-        ap (λ (n : ℕ). field (s ++ t) n w) q ∙ field-back s t (24 * i) w
+        cc (q, field-back s t (24 * i) w)
 
     behind : (i : ℕ) → i < length t / 24 → itemAt (s ++ t) (length s / 24 + i) ≡ itemAt t i
     behind i b u =

@@ -30,17 +30,12 @@ at-set-row e s f h u = ap (λ (l : List PingSet). withSets l e) (entry-change eq
 
 -- a ping of the set in a row
 ping-row : (e : Entries) (s : ℕ) → setRow e s < length (e .sets) → distinct eqb (setNumbers e) ≡ true → ping s e ≡ pingedRow (setRow e s) e
-ping-row e s h u =
-    ap (λ (p : PingSet). atSet s (pingedAt (e .clock)) (heardNow (p .members) e)) (set-row e s)
-    ∙ at-set-row (heardNow (setIn e s .members) e) s (pingedAt (e .clock)) h u
+ping-row e s h u = cc (set-row e s, at-set-row (heardNow (setIn e s .members) e) s (pingedAt (e .clock)) h u)
 
 -- a change that keeps the number, and a ping
 change-row : (e : Entries) (s : ℕ) (f : PingSet → PingSet) → ((p : PingSet) → f p .number ≡ p .number) → setRow e s < length (e .sets) → distinct eqb (setNumbers e) ≡ true
     → ping s (atSet s f e) ≡ pingedRow (setRow e s) (changeSet (setRow e s) f e)
-change-row e s f n h u =
-    ap (ping s) (at-set-row e s f h u)
-    ∙ ping-row after s (rw (row, length-set (e .sets) (setRow e s) (f (setIn e s))) h) (rw numbers u)
-    ∙ ap (λ (k : ℕ). pingedRow k after) row
+change-row e s f n h u = cc (at-set-row e s f h u, ping-row after s (rw (row, length-set (e .sets) (setRow e s) (f (setIn e s))) h) (rw numbers u), row)
   where
     after : Entries
     after = changeSet (setRow e s) f e
@@ -60,11 +55,7 @@ module _ (e : Entries) (sd : sound e ≡ true) where
   -- the set that is made stands last
   new-row : setRow (makeSet e) (e .next) ≡ length (e .sets)
   new-row =
-      ap (firstIndex (eqb (e .next))) (map-append (λ (p : PingSet). p .number) (e .sets) (newSet e ∷ []))
-      ∙ first-right (eqb (e .next)) (setNumbers e) (e .next ∷ []) (or-false (eqb (e .next) 0) (among (setNumbers e) (e .next)) (next-free e (grouped e sd)) .1)
-      ∙ ap (λ (k : ℕ). length (setNumbers e) + k) (first-here (eqb (e .next)) (e .next) [] (eq-eqb (e .next) (e .next) refl))
-      ∙ add-zero (length (setNumbers e))
-      ∙ length-map (e .sets) (λ (p : PingSet). p .number)
+      cc (map-append (λ (p : PingSet). p .number) (e .sets) (newSet e ∷ []), first-right (eqb (e .next)) (setNumbers e) (e .next ∷ []) (or-false (eqb (e .next) 0) (among (setNumbers e) (e .next)) (next-free e (grouped e sd)) .1), first-here (eqb (e .next)) (e .next) [] (eq-eqb (e .next) (e .next) refl), add-zero (length (setNumbers e)), length-map (e .sets) (λ (p : PingSet). p .number))
 
   module _ (s n : ℕ) (adds dels : List ℕ) where
     -- a complex ping of a live set

@@ -68,7 +68,7 @@ sections-rise e s f =
     }
   where
     ascending-keys : {A : Type 0} (key : A → ℕ) (xs : List A) → distinct eqb (map key xs) ≡ true → ascending ltb (map key (rising (λ x y. ltb (key x) (key y)) xs)) ≡ true
-    ascending-keys key xs u = ap (ascending ltb) (sym (rising-map key ltb xs)) ∙ numbers-ascending (map key xs) u
+    ascending-keys key xs u = cc (rising-map key ltb xs, numbers-ascending (map key xs) u)
 
     objects-rise : ascending ltb (sortedOids e) ≡ true
     objects-rise = ascending-keys (λ (o : Object). o .oid) (e .objects) (oids-distinct e s)

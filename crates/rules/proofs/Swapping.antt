@@ -292,7 +292,7 @@ module _ (s : List ℕ) (t : isSnapshot s ≡ true) where
   snapshot-sorted = ap entriesOf (sym (h .own)) ∙ reads-back (sorted (entriesOf s)) (sorted-fits (entriesOf s) snapshot-fits)
 
   pub snapshot-count : field s 0 2 ≡ 2
-  snapshot-count = ap (λ (x : List ℕ). field x 0 2) (sym (h .own)) ∙ two-numbers (sorted (entriesOf s))
+  snapshot-count = cc (h .own, two-numbers (sorted (entriesOf s)))
 
 pub loads-ordered : LoadsOrdered
 loads-ordered s t = subst (λ (e : Entries). Ordered e) (sym (snapshot-sorted s t)) (sorted-ordered (entriesOf s))
