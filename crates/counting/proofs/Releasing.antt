@@ -1,7 +1,7 @@
 -- References are given back: refused where the client or the interface's row is not there; else its counts fall, and it goes where none is left.
 use Prim.Native.Nat.{ℕ, zero, suc, _-_, _<_, _≤_, min}
 use mathlib.Core.Path.{_≡_, refl, sym, subst, ap, _∙_}
-use mathlib.Core.Bool.{true, false, not}
+use mathlib.Core.Bool.{Bool, true, false, not}
 use mathlib.Core.List.{List, [], _∷_}
 use native.Mathlib.Omega.{arith}
 use borrow.Author.Tests.{lt-ltb, le-ltb}
@@ -11,21 +11,24 @@ use lib.Seq.{getD-set-same}
 use Rattle.kinds.specs.Refusals.{order}
 use Rattle.kinds.specs.declared.Guid.{Guid}
 use Rattle.lists.specs.Lists.{some, deleteAt}
-use Rattle.rules.specs.Entries.{Interface, Entries, publicOf, privateOf, withInterfaces, atCounts, interfaceRow}
+use Rattle.rules.specs.Entries.{Interface, Entries, publicOf, privateOf, withInterfaces, atCounts, interfaceRow, oids}
 use Rattle.rules.specs.Calls.{Call}
-use Rattle.rules.specs.Sound.{held}
+use Rattle.rules.specs.Sound.{held, proper, setMembersLive}
+use Rattle.rules.proofs.SoundLaws.{sound-fields}
 use Rattle.rules.specs.Rules.{noInterface, flag, noClient, refusals, number, next, results, refusedReply, acceptedReply}
 use Rattle.rules.specs.Contract.{Memory}
 use Rattle.rules.proofs.ByRow.{interfaceIn}
 use Rattle.rules.proofs.CountRows.{lessened, release-counted, release-empty, counted-values, empty-values}
-use Rattle.table.specs.View.{interfaceCount, interfacesOf, memory, view, SoundTable, Stepped}
-use Rattle.edit.specs.Edits.{changeInterface, dropInterface}
+use Rattle.table.specs.View.{interfaceCount, interfacesOf, memory, view, Holds, SoundTable, Stepped, oidsOf, membersLiveIn}
+use Rattle.table.specs.Counts.{countsAt}
+use Rattle.table.specs.declared.find.InterfaceCounts.{InterfaceCounts}
+use Rattle.edit.specs.Edits.{Became, changeInterface, dropInterface}
 use Rattle.table.proofs.LiveRows.{interfaces-length}
 use Rattle.settling.specs.Leaving.{withoutLeaving}
 use Rattle.settling.specs.declared.Leaving.the-variants.{NoInterface}
 use Rattle.counting.specs.Dropping.{InterfaceDropped}
 use Rattle.counting.specs.Replies.{releaseReply}
-use Rattle.counting.proofs.TwoCounts.{counts-as}
+use Rattle.counting.proofs.TwoCounts.{counts-as, still-counted}
 use Rattle.calls.proofs.Calls.{interface-tested, refused-step, accepted-step}
 
 -- clients are 0 to 7
@@ -56,7 +59,7 @@ count-left asked count taken left t l = omega arith
 -- the row that was found, of as many as were counted, in a sound table
 pub record Row (ws s : List ℕ) (i : Guid) (r n : ℕ) : Type 0 where
   pub table : SoundTable (memory ws s)
-  pub row : r ≡ interfaceRow (view (memory ws s)) i
+  pub row : Holds (λ e. r ≡ interfaceRow e i) ws
   pub count : n ≡ interfaceCount ws
 
 module _ (ws s : List ℕ) (c : ℕ) (i : Guid) (p q : ℕ) {r n : ℕ} (client : c ≤ 7) (found : Row ws s i r n) where
@@ -66,7 +69,7 @@ module _ (ws s : List ℕ) (c : ℕ) (i : Guid) (p q : ℕ) {r n : ℕ} (client 
   pub no-interface : n ≤ r → Stepped (Call.release c i p q) (memory ws s) (releaseReply (record { answer = 6; public = 0; private = 0; interfaces = 0; objects = 0 })) (memory ws s)
   unfolding refusedReply results number refusals order
   no-interface l =
-      let gone = interface-tested ws s i (found .row) (found .count) ∙ le-ltb r n l in
+      let gone = interface-tested ws s i (found .row s) (found .count) ∙ le-ltb r n l in
       let e : number (Call.release c i p q) before ≡ 6 = rw (client-here c client, gone) in
       refused-step 6 (sym e) (λ z. omega arith)
 
@@ -76,54 +79,70 @@ module _ (ws s : List ℕ) (c : ℕ) (i : Guid) (p q : ℕ) {r n : ℕ} (client 
       → Stepped (Call.release c i p q) (memory ws s) (releaseReply (record { answer = 0; public = a; private = b; interfaces = o; objects = d })) m
   unfolding acceptedReply results number refusals order
   released l m a b o d v e =
-      let live = interface-tested ws s i (found .row) (found .count) ∙ lt-ltb r n l in
+      let live = interface-tested ws s i (found .row s) (found .count) ∙ lt-ltb r n l in
       let z : number (Call.release c i p q) before ≡ 0 = rw (client-here c client, live) in
       subst (λ (vs : List ℕ). Stepped (Call.release c i p q) (memory ws s) (record { number = 0; values = vs; part = []; buffer = [] }) m) e
       (accepted-step 0 (sym z) refl m v)
 
--- the client is there and the row is live; what is taken of its counts, and what is left
-pub record Taking (ws s : List ℕ) (c : ℕ) (i : Guid) (p q r n taken taken₂ left left₂ : ℕ) : Type 0 where
+-- the client is there and the row is live; what its counts are, and what is taken of them
+pub record Taking (ws s : List ℕ) (c : ℕ) (i : Guid) (p q r n : ℕ) (h : InterfaceCounts) (taken taken₂ : ℕ) : Type 0 where
   pub client : c ≤ 7
   pub found : Row ws s i r n
   pub live : r < n
-  pub takes : taken ≡ min p (publicOf (getD (interfacesOf ws) r noInterface))
-  pub takes₂ : taken₂ ≡ min q (privateOf c (getD (interfacesOf ws) r noInterface))
-  pub leaves : left ≡ publicOf (getD (interfacesOf ws) r noInterface) - taken
-  pub leaves₂ : left₂ ≡ privateOf c (getD (interfacesOf ws) r noInterface) - taken₂
+  pub counts : h ≡ countsAt ws r c
+  pub takes : taken ≡ min p (h .public)
+  pub takes₂ : taken₂ ≡ min q (h .private)
 
-module _ {ws s : List ℕ} {c : ℕ} {i : Guid} {p q r n taken taken₂ left left₂ : ℕ} (k : Taking ws s c i p q r n taken taken₂ left left₂) where
+module _ {ws s : List ℕ} {c : ℕ} {i : Guid} {p q r n : ℕ} {h : InterfaceCounts} {taken taken₂ : ℕ} (k : Taking ws s c i p q r n h taken taken₂) where
   abbrev entries : Entries
   entries = view (memory ws s)
 
+  abbrev stored : Interface → Interface
+  stored = atCounts c (λ (m : ℕ). h .public - taken) (λ (m : ℕ). h .private - taken₂)
+
   below : interfaceRow entries i < length (entries .interfaces)
-  below = let l = interfaces-length ws in let d = k .found .count in let b = k .live in rw (← k .found .row) (omega arith)
+  below = let l = interfaces-length ws in let d = k .found .count in let b = k .live in rw (← k .found .row s) (omega arith)
 
   here : getD (entries .interfaces) r noInterface ≡ interfaceIn entries i
-  here = ap (λ (j : ℕ). getD (entries .interfaces) j noInterface) (k .found .row)
+  here = ap (λ (j : ℕ). getD (entries .interfaces) j noInterface) (k .found .row s)
 
-  public-left : left ≡ publicOf (interfaceIn entries i) - p
-  public-left = count-left p _ taken left (k .takes) (k .leaves) ∙ ap (λ (x : Interface). publicOf x - p) here
+  public-left : h .public - taken ≡ publicOf (interfaceIn entries i) - p
+  public-left = count-left p _ taken _ (k .takes) refl ∙ (rw (k .counts) (ap (λ (x : Interface). publicOf x - p) here))
 
-  private-left : left₂ ≡ privateOf c (interfaceIn entries i) - q
-  private-left = count-left q _ taken₂ left₂ (k .takes₂) (k .leaves₂) ∙ ap (λ (x : Interface). privateOf c x - q) here
+  private-left : h .private - taken₂ ≡ privateOf c (interfaceIn entries i) - q
+  private-left = count-left q _ taken₂ _ (k .takes₂) refl ∙ (rw (k .counts) (ap (λ (x : Interface). privateOf c x - q) here))
 
   -- what is stored in the row is what the rules leave
-  less-here : atCounts c (λ (m : ℕ). left) (λ (m : ℕ). left₂) (getD (entries .interfaces) r noInterface) ≡ lessened entries c i p q
+  less-here : stored (getD (entries .interfaces) r noInterface) ≡ lessened entries c i p q
   less-here =
-      ap (atCounts c (λ (m : ℕ). left) (λ (m : ℕ). left₂)) here
-      ∙ counts-as c left left₂ (interfaceIn entries i) (λ (m : ℕ). m - p) (λ (m : ℕ). m - q) public-left private-left
+      ap stored here
+      ∙ counts-as c _ _ (interfaceIn entries i) (λ (m : ℕ). m - p) (λ (m : ℕ). m - q) public-left private-left
 
   took : (b d : ℕ) → min p (publicOf (interfaceIn entries i)) ∷ min q (privateOf c (interfaceIn entries i)) ∷ b ∷ d ∷ [] ≡ taken ∷ taken₂ ∷ b ∷ d ∷ []
   took b d =
       λ u.
-      (ap (λ (x : Interface). min p (publicOf x)) (sym here) ∙ sym (k .takes)) u
-      ∷ (ap (λ (x : Interface). min q (privateOf c x)) (sym here) ∙ sym (k .takes₂)) u
+      (ap (λ (x : Interface). min p (publicOf x)) (sym here) ∙ sym (rw (k .counts) at (k .takes))) u
+      ∷ (ap (λ (x : Interface). min q (privateOf c x)) (sym here) ∙ sym (rw (k .counts) at (k .takes₂))) u
       ∷ b
       ∷ d
       ∷ []
 
+  -- the row is still there once its counts are stored, and objects and members are as they were
+  module _ (ws′ : List ℕ) (b : Became (changeInterface r stored) ws ws′) where
+    pub still-here : r < interfaceCount ws′
+    still-here = let m = still-counted ws ws′ r stored b in let l = k .live in let d = k .found .count in omega arith
+
+    pub still-proper : proper (oidsOf ws′) ≡ true
+    still-proper = ap (λ (x : Entries). proper (oids x)) (b s) ∙ sound-fields _ (k .found .table .entries) .objectsProper
+
+    pub still-members : membersLiveIn ws′ ≡ true
+    still-members = ap setMembersLive (b s) ∙ sound-fields _ (k .found .table .entries) .setMembersLive
+
   -- the counts are stored
-  module _ (ws′ : List ℕ) (v : view (memory ws′ s) ≡ changeInterface r (atCounts c (λ (m : ℕ). left) (λ (m : ℕ). left₂)) entries) where
+  module _ (ws′ : List ℕ) (b : Became (changeInterface r stored) ws ws′) {x : Bool} (tested : x ≡ held (getD (interfacesOf ws′) r noInterface)) where
+    v : view (memory ws′ s) ≡ changeInterface r stored entries
+    v = b s
+
     lessened-here : getD (interfacesOf ws′) r noInterface ≡ lessened entries c i p q
     lessened-here =
         ap (λ (e : Entries). getD (e .interfaces) r noInterface) v
@@ -131,13 +150,13 @@ module _ {ws s : List ℕ} {c : ℕ} {i : Guid} {p q r n taken taken₂ left lef
         ∙ less-here
 
     -- a count is left
-    pub counted-done : held (getD (interfacesOf ws′) r noInterface) ≡ true
+    pub counted-done : x ≡ true
         → Stepped (Call.release c i p q) (memory ws s) (releaseReply (record { answer = 0; public = taken; private = taken₂; interfaces = 0; objects = 0 })) (memory ws′ s)
     counted-done h =
-        let t : held (lessened entries c i p q) ≡ true = ap held (sym lessened-here) ∙ h in
+        let t : held (lessened entries c i p q) ≡ true = ap held (sym lessened-here) ∙ sym tested ∙ h in
         released ws s c i p q (k .client) (k .found) (k .live) (memory ws′ s) taken taken₂ 0 0
         (v
-        ∙ (λ u. withInterfaces (set (entries .interfaces) (k .found .row u) (less-here u)) entries)
+        ∙ (λ u. withInterfaces (set (entries .interfaces) (k .found .row s u) (less-here u)) entries)
         ∙ sym (release-counted entries i (k .found .table .entries) below c p q t))
         (counted-values entries i (k .found .table .entries) below c p q t ∙ took 0 0)
 
@@ -146,18 +165,19 @@ module _ {ws s : List ℕ} {c : ℕ} {i : Guid} {p q r n taken taken₂ left lef
     without-row = ap (dropInterface r) v ∙ ap (λ (l : List Interface). withInterfaces l entries) (delete-set r (entries .interfaces) _)
 
     -- none is left
-    pub empty-done : held (getD (interfacesOf ws′) r noInterface) ≡ false → (ws″ : List ℕ) (o : ℕ)
-        → InterfaceDropped r (getD (entries .interfaces) r noInterface .object) (view (memory ws′ s)) o (view (memory ws″ s))
+    pub empty-done : x ≡ false → {ws″ : List ℕ} {o : ℕ}
+        → ((z : List ℕ) → InterfaceDropped r (h .object .0) (view (memory ws′ z)) o (view (memory ws″ z)))
         → Stepped (Call.release c i p q) (memory ws s) (releaseReply (record { answer = 0; public = taken; private = taken₂; interfaces = 1; objects = o })) (memory ws″ s)
-    empty-done h ws″ o d =
-        let f : held (lessened entries c i p q) ≡ false = ap held (sym lessened-here) ∙ h in
+    empty-done h {ws″} {o} drops =
+        let d = rw (k .counts) at (drops s) in
+        let f : held (lessened entries c i p q) ≡ false = ap held (sym lessened-here) ∙ sym tested ∙ h in
         let object : ℕ = getD (entries .interfaces) r noInterface .object in
         let left : InterfaceDropped r object entries o (view (memory ws″ s)) =
         record {
           became = d .became ∙ ap (withoutLeaving NoInterface) without-row;
           gone = d .gone ∙ ap (λ (e : Entries). flag (not (some (λ (x : Interface). eqb object (x .object)) (e .interfaces)))) without-row;
         } in
-        let dropped : InterfaceDropped (interfaceRow entries i) (interfaceIn entries i .object) entries o (view (memory ws″ s)) = rw (k .found .row) at left in
+        let dropped : InterfaceDropped (interfaceRow entries i) (interfaceIn entries i .object) entries o (view (memory ws″ s)) = rw (k .found .row s) at left in
         released ws s c i p q (k .client) (k .found) (k .live) (memory ws″ s) taken taken₂ 1 o
         (dropped .became ∙ sym (release-empty entries i (k .found .table .entries) below c p q f))
         (empty-values entries i (k .found .table .entries) below c p q f
