@@ -11,7 +11,7 @@ use resolver::Pinged;
 use resolver::Released;
 use resolver::Resolved;
 use resolver::StopPlace;
-ghost use Rattle.rules.specs.Calls.{Call, adding, releasing, numbered};
+ghost use Rattle.rules.specs.Calls.{Call, Start, Look, Edit, adding, releasing, numbered};
 ghost use Rattle.table.specs.View.{memory, Performed};
 ghost use Rattle.reading.specs.Replies.{censusReply, membersReply, resolveReply};
 ghost use Rattle.counting.specs.Replies.{releaseReply};
@@ -25,7 +25,7 @@ ghost use Rattle.saving.specs.Replies.{writtenReply};
 #[no_mangle]
 pub extern "C" fn rimonakh_reset<'a>(words: &'a mut [u64], store: &'a [u8], time: u64) -> u32
     ensures { λ r. ⌜
-        Performed (Call.reset time) (memory (now (words .entry)) (now (store .entry))) (numbered r)
+        Performed (Call.starting (Start.reset time)) (memory (now (words .entry)) (now (store .entry))) (numbered r)
         (memory (now (words .exit)) (now (store .entry))) ⌝ }
 {
     resolver::reset(words, store, time)
@@ -35,7 +35,7 @@ pub extern "C" fn rimonakh_reset<'a>(words: &'a mut [u64], store: &'a [u8], time
 #[no_mangle]
 pub extern "C" fn rimonakh_census<'a>(words: &'a [u64], store: &'a [u8]) -> LiveCounts
     ensures { λ r. ⌜
-        Performed Call.census (memory (now (words .entry)) (now (store .entry))) (censusReply r)
+        Performed (Call.looking Look.census) (memory (now (words .entry)) (now (store .entry))) (censusReply r)
         (memory (now (words .entry)) (now (store .entry))) ⌝ }
 {
     resolver::census(words, store)
@@ -45,7 +45,7 @@ pub extern "C" fn rimonakh_census<'a>(words: &'a [u64], store: &'a [u8]) -> Live
 #[no_mangle]
 pub extern "C" fn rimonakh_members<'a>(words: &'a [u64], store: &'a [u8], set: u64) -> MemberCount
     ensures { λ r. ⌜
-        Performed (Call.members set) (memory (now (words .entry)) (now (store .entry))) (membersReply r)
+        Performed (Call.looking (Look.members set)) (memory (now (words .entry)) (now (store .entry))) (membersReply r)
         (memory (now (words .entry)) (now (store .entry))) ⌝ }
 {
     resolver::members(words, store, SetId(set))
@@ -62,7 +62,7 @@ pub extern "C" fn rimonakh_enter_exporter<'a>(
     list: &'a [u8],
 ) -> u32
     ensures { λ r. ⌜
-        Performed (Call.enterExporter oxid (record { low = «unknown_low»; high = «unknown_high» }) (now (list .entry)))
+        Performed (Call.editing (Edit.enterExporter oxid (record { low = «unknown_low»; high = «unknown_high» }) (now (list .entry))))
         (memory (now (words .entry)) (now (store .entry))) (numbered r) (memory (now (words .exit)) (now (store .exit))) ⌝ }
 {
     let unknown = Guid {
@@ -80,7 +80,7 @@ pub extern "C" fn rimonakh_remove_exporter<'a>(
     oxid: u64,
 ) -> u32
     ensures { λ r. ⌜
-        Performed (Call.removeExporter oxid) (memory (now (words .entry)) (now (store .entry)))
+        Performed (Call.editing (Edit.removeExporter oxid)) (memory (now (words .entry)) (now (store .entry)))
         (numbered r) (memory (now (words .exit)) (now (store .exit))) ⌝ }
 {
     resolver::remove_exporter(words, store, Oxid(oxid))
@@ -102,7 +102,7 @@ pub extern "C" fn rimonakh_enter_object<'a>(
 ) -> u32
     ensures { λ r. ⌜
         Performed
-        (Call.enterObject oid oxid (record { low = «ipid_low»; high = «ipid_high» }) (record { low = «iid_low»; high = «iid_high» }) public «no_ping»)
+        (Call.editing (Edit.enterObject oid oxid (record { low = «ipid_low»; high = «ipid_high» }) (record { low = «iid_low»; high = «iid_high» }) public «no_ping»))
         (memory (now (words .entry)) (now (store .entry))) (numbered r) (memory (now (words .exit)) (now (store .entry))) ⌝ }
 {
     let ipid = Guid {
@@ -138,7 +138,7 @@ pub extern "C" fn rimonakh_enter_interface<'a>(
     public: u32,
 ) -> u32
     ensures { λ r. ⌜
-        Performed (Call.enterInterface oid (record { low = «ipid_low»; high = «ipid_high» }) (record { low = «iid_low»; high = «iid_high» }) public)
+        Performed (Call.editing (Edit.enterInterface oid (record { low = «ipid_low»; high = «ipid_high» }) (record { low = «iid_low»; high = «iid_high» }) public))
         (memory (now (words .entry)) (now (store .entry))) (numbered r) (memory (now (words .exit)) (now (store .entry))) ⌝ }
 {
     let ipid = Guid {
@@ -164,7 +164,7 @@ pub extern "C" fn rimonakh_add<'a>(
     private: u32,
 ) -> u32
     ensures { λ r. ⌜
-        Performed (Call.add client (record { low = «ipid_low»; high = «ipid_high» }) public private) (memory (now (words .entry)) (now (store .entry)))
+        Performed (Call.editing (Edit.add client (record { low = «ipid_low»; high = «ipid_high» }) public private)) (memory (now (words .entry)) (now (store .entry)))
         (numbered r) (memory (now (words .exit)) (now (store .entry))) ⌝ }
 {
     let ipid = Guid {
@@ -186,7 +186,7 @@ pub extern "C" fn rimonakh_release<'a>(
     private: u32,
 ) -> Released
     ensures { λ r. ⌜
-        Performed (Call.release client (record { low = «ipid_low»; high = «ipid_high» }) public private) (memory (now (words .entry)) (now (store .entry)))
+        Performed (Call.editing (Edit.release client (record { low = «ipid_low»; high = «ipid_high» }) public private)) (memory (now (words .entry)) (now (store .entry)))
         (releaseReply r) (memory (now (words .exit)) (now (store .entry))) ⌝ }
 {
     let ipid = Guid {
@@ -204,7 +204,7 @@ pub extern "C" fn rimonakh_drop_client<'a>(
     client: u32,
 ) -> u32
     ensures { λ r. ⌜
-        Performed (Call.dropClient client) (memory (now (words .entry)) (now (store .entry)))
+        Performed (Call.editing (Edit.dropClient client)) (memory (now (words .entry)) (now (store .entry)))
         (numbered r) (memory (now (words .exit)) (now (store .entry))) ⌝ }
 {
     resolver::drop_client(words, store, client)
@@ -246,7 +246,7 @@ pub extern "C" fn rimonakh_release_list<'a>(
 #[no_mangle]
 pub extern "C" fn rimonakh_simple_ping<'a>(words: &'a mut [u64], store: &'a [u8], set: u64) -> u32
     ensures { λ r. ⌜
-        Performed (Call.simplePing set) (memory (now (words .entry)) (now (store .entry)))
+        Performed (Call.editing (Edit.simplePing set)) (memory (now (words .entry)) (now (store .entry)))
         (numbered r) (memory (now (words .exit)) (now (store .entry))) ⌝ }
 {
     resolver::simple_ping(words, store, SetId(set))
@@ -263,7 +263,7 @@ pub extern "C" fn rimonakh_complex_ping<'a>(
     deletes: &'a [u64],
 ) -> Pinged
     ensures { λ r. ⌜
-        Performed (Call.complexPing set sequence (now (adds .entry)) (now (deletes .entry)))
+        Performed (Call.editing (Edit.complexPing set sequence (now (adds .entry)) (now (deletes .entry))))
         (memory (now (words .entry)) (now (store .entry))) (pingReply r) (memory (now (words .exit)) (now (store .entry))) ⌝ }
 {
     resolver::complex_ping(words, store, SetId(set), sequence, adds, deletes)
@@ -273,7 +273,7 @@ pub extern "C" fn rimonakh_complex_ping<'a>(
 #[no_mangle]
 pub extern "C" fn rimonakh_clock<'a>(words: &'a mut [u64], store: &'a [u8], time: u64) -> Expired
     ensures { λ r. ⌜
-        Performed (Call.clock time) (memory (now (words .entry)) (now (store .entry)))
+        Performed (Call.editing (Edit.clock time)) (memory (now (words .entry)) (now (store .entry)))
         (clockReply r) (memory (now (words .exit)) (now (store .entry))) ⌝ }
 {
     resolver::clock(words, store, time)
@@ -288,7 +288,7 @@ pub extern "C" fn rimonakh_resolve<'a>(
     buffer: &'a mut [u8],
 ) -> Resolved
     ensures { λ r. ⌜
-        Performed (Call.resolve oxid (now (buffer .entry))) (memory (now (words .entry)) (now (store .entry)))
+        Performed (Call.looking (Look.resolve oxid (now (buffer .entry)))) (memory (now (words .entry)) (now (store .entry)))
         (resolveReply r (now (buffer .exit))) (memory (now (words .entry)) (now (store .entry))) ⌝ }
 {
     resolver::resolve(words, store, Oxid(oxid), buffer)
@@ -304,7 +304,7 @@ pub extern "C" fn rimonakh_resolve_filtered<'a>(
     buffer: &'a mut [u8],
 ) -> Resolved
     ensures { λ r. ⌜
-        Performed (Call.resolveFiltered oxid (now (protocols .entry)) (now (buffer .entry))) (memory (now (words .entry)) (now (store .entry)))
+        Performed (Call.looking (Look.resolveFiltered oxid (now (protocols .entry)) (now (buffer .entry)))) (memory (now (words .entry)) (now (store .entry)))
         (resolveReply r (now (buffer .exit))) (memory (now (words .entry)) (now (store .entry))) ⌝ }
 {
     resolver::resolve_filtered(words, store, Oxid(oxid), protocols, buffer)
@@ -331,7 +331,7 @@ pub extern "C" fn rimonakh_write_snapshot<'a>(
     buffer: &'a mut [u8],
 ) -> Written
     ensures { λ r. ⌜
-        Performed (Call.writeSnapshot (now (buffer .entry))) (memory (now (words .entry)) (now (store .entry)))
+        Performed (Call.looking (Look.writeSnapshot (now (buffer .entry)))) (memory (now (words .entry)) (now (store .entry)))
         (writtenReply r (now (buffer .exit))) (memory (now (words .entry)) (now (store .entry))) ⌝ }
 {
     resolver::write_snapshot(words, store, buffer)
@@ -345,7 +345,7 @@ pub extern "C" fn rimonakh_load_snapshot<'a>(
     snapshot: &'a [u8],
 ) -> u32
     ensures { λ r. ⌜
-        Performed (Call.loadSnapshot (now (snapshot .entry))) (memory (now (words .entry)) (now (store .entry))) (numbered r)
+        Performed (Call.starting (Start.loadSnapshot (now (snapshot .entry)))) (memory (now (words .entry)) (now (store .entry))) (numbered r)
         (memory (now (words .exit)) (now (store .exit))) ⌝ }
 {
     resolver::load_snapshot(words, store, snapshot)

@@ -12,7 +12,7 @@ use Rattle.kinds.specs.Refusals.{order}
 use Rattle.kinds.specs.declared.Guid.{Guid}
 use Rattle.lists.specs.Lists.{some, deleteAt}
 use Rattle.rules.specs.Entries.{Interface, Entries, publicOf, privateOf, withInterfaces, atCounts, interfaceRow, oids}
-use Rattle.rules.specs.Calls.{Call}
+use Rattle.rules.specs.Calls.{Call, Edit}
 use Rattle.rules.specs.Sound.{held, proper, setMembersLive}
 use Rattle.rules.proofs.SoundLaws.{sound-fields}
 use Rattle.rules.specs.Rules.{noInterface, flag, noClient, refusals, number, next, results, refusedReply, acceptedReply}
@@ -46,10 +46,10 @@ delete-set zero (y ∷ xs) x = refl
 delete-set (suc i) (y ∷ xs) x = ap (λ (l : List _). y ∷ l) (delete-set i xs x)
 
 pub no-client : (ws s : List ℕ) (c : ℕ) (i : Guid) (p q : ℕ) → 7 < c
-    → Stepped (Call.release c i p q) (memory ws s) (releaseReply (record { answer = 20; public = 0; private = 0; interfaces = 0; objects = 0 })) (memory ws s)
+    → Stepped (Call.editing (Edit.release c i p q)) (memory ws s) (releaseReply (record { answer = 20; public = 0; private = 0; interfaces = 0; objects = 0 })) (memory ws s)
 unfolding refusedReply results number refusals order
 no-client ws s c i p q h =
-    let e : number (Call.release c i p q) (view (memory ws s)) ≡ 20 = rw (client-missing c h) in
+    let e : number (Call.editing (Edit.release c i p q)) (view (memory ws s)) ≡ 20 = rw (client-missing c h) in
     refused-step 20 (sym e) (λ z. omega arith)
 
 -- what is left of a count
@@ -66,22 +66,22 @@ module _ (ws s : List ℕ) (c : ℕ) (i : Guid) (p q : ℕ) {r n : ℕ} (client 
   abbrev before : Entries
   before = view (memory ws s)
 
-  pub no-interface : n ≤ r → Stepped (Call.release c i p q) (memory ws s) (releaseReply (record { answer = 6; public = 0; private = 0; interfaces = 0; objects = 0 })) (memory ws s)
+  pub no-interface : n ≤ r → Stepped (Call.editing (Edit.release c i p q)) (memory ws s) (releaseReply (record { answer = 6; public = 0; private = 0; interfaces = 0; objects = 0 })) (memory ws s)
   unfolding refusedReply results number refusals order
   no-interface l =
       let gone = interface-tested ws s i (found .row s) (found .count) ∙ le-ltb r n l in
-      let e : number (Call.release c i p q) before ≡ 6 = rw (client-here c client, gone) in
+      let e : number (Call.editing (Edit.release c i p q)) before ≡ 6 = rw (client-here c client, gone) in
       refused-step 6 (sym e) (λ z. omega arith)
 
   -- accepted, with what is answered
-  released : r < n → (m : Memory) (a b o d : ℕ) → view m ≡ next (Call.release c i p q) before
-      → results (Call.release c i p q) before .values ≡ a ∷ b ∷ o ∷ d ∷ []
-      → Stepped (Call.release c i p q) (memory ws s) (releaseReply (record { answer = 0; public = a; private = b; interfaces = o; objects = d })) m
+  released : r < n → (m : Memory) (a b o d : ℕ) → view m ≡ next (Call.editing (Edit.release c i p q)) before
+      → results (Call.editing (Edit.release c i p q)) before .values ≡ a ∷ b ∷ o ∷ d ∷ []
+      → Stepped (Call.editing (Edit.release c i p q)) (memory ws s) (releaseReply (record { answer = 0; public = a; private = b; interfaces = o; objects = d })) m
   unfolding acceptedReply results number refusals order
   released l m a b o d v e =
       let live = interface-tested ws s i (found .row s) (found .count) ∙ lt-ltb r n l in
-      let z : number (Call.release c i p q) before ≡ 0 = rw (client-here c client, live) in
-      subst (λ (vs : List ℕ). Stepped (Call.release c i p q) (memory ws s) (record { number = 0; values = vs; part = []; buffer = [] }) m) e
+      let z : number (Call.editing (Edit.release c i p q)) before ≡ 0 = rw (client-here c client, live) in
+      subst (λ (vs : List ℕ). Stepped (Call.editing (Edit.release c i p q)) (memory ws s) (record { number = 0; values = vs; part = []; buffer = [] }) m) e
       (accepted-step 0 (sym z) refl m v)
 
 -- the client is there and the row is live; what its counts are, and what is taken of them
@@ -151,7 +151,7 @@ module _ {ws s : List ℕ} {c : ℕ} {i : Guid} {p q r n : ℕ} {h : InterfaceCo
 
     -- a count is left
     pub counted-done : x ≡ true
-        → Stepped (Call.release c i p q) (memory ws s) (releaseReply (record { answer = 0; public = taken; private = taken₂; interfaces = 0; objects = 0 })) (memory ws′ s)
+        → Stepped (Call.editing (Edit.release c i p q)) (memory ws s) (releaseReply (record { answer = 0; public = taken; private = taken₂; interfaces = 0; objects = 0 })) (memory ws′ s)
     counted-done h =
         let t : held (lessened entries c i p q) ≡ true = ap held (sym lessened-here) ∙ sym tested ∙ h in
         released ws s c i p q (k .client) (k .found) (k .live) (memory ws′ s) taken taken₂ 0 0
@@ -167,7 +167,7 @@ module _ {ws s : List ℕ} {c : ℕ} {i : Guid} {p q r n : ℕ} {h : InterfaceCo
     -- none is left
     pub empty-done : x ≡ false → {ws″ : List ℕ} {o : ℕ}
         → ((z : List ℕ) → InterfaceDropped r (h .object .0) (view (memory ws′ z)) o (view (memory ws″ z)))
-        → Stepped (Call.release c i p q) (memory ws s) (releaseReply (record { answer = 0; public = taken; private = taken₂; interfaces = 1; objects = o })) (memory ws″ s)
+        → Stepped (Call.editing (Edit.release c i p q)) (memory ws s) (releaseReply (record { answer = 0; public = taken; private = taken₂; interfaces = 1; objects = o })) (memory ws″ s)
     empty-done h {ws″} {o} drops =
         let d = rw (k .counts) at (drops s) in
         let f : held (lessened entries c i p q) ≡ false = ap held (sym lessened-here) ∙ sym tested ∙ h in

@@ -10,7 +10,7 @@ ghost use mathlib.Core.List.{List};
 ghost use Prim.Native.Nat.{ℕ, _<_, min};
 ghost use Rattle.rules.specs.Entries.{atCounts};
 ghost use Rattle.rules.specs.Sound.{proper};
-ghost use Rattle.rules.specs.Calls.{Call, numbered};
+ghost use Rattle.rules.specs.Calls.{Call, Edit, numbered};
 ghost use Rattle.table.specs.View.{interfaceCount, memory, view, SoundTable, Stepped, Performed, oidsOf, membersLiveIn};
 ghost use Rattle.edit.specs.Edits.{Became, changeInterface};
 ghost use Rattle.counting.specs.Replies.{releaseReply};
@@ -37,7 +37,7 @@ pub fn add<'a>(
     private: u32,
 ) -> u32
     ensures { λ r. ⌜
-        Performed (Call.add client ipid public private) (memory (now (words .entry)) (now (store .entry)))
+        Performed (Call.editing (Edit.add client ipid public private)) (memory (now (words .entry)) (now (store .entry)))
         (numbered r) (memory (now (words .exit)) (now (store .entry))) ⌝ }
 {
     if !judge::sound(words, store) {
@@ -57,7 +57,7 @@ pub fn add_step<'a>(
 ) -> u32
     requires { ⌜ SoundTable (memory (now words) (now store)) ⌝ }
     ensures { λ r. ⌜
-        Stepped (Call.add client ipid public private) (memory (now (words .entry)) (now (store .entry)))
+        Stepped (Call.editing (Edit.add client ipid public private)) (memory (now (words .entry)) (now (store .entry)))
         (numbered r) (memory (now (words .exit)) (now (store .entry))) ⌝ }
 {
     if 7 < client {
@@ -134,7 +134,7 @@ pub fn release<'a>(
     private: u32,
 ) -> Released
     ensures { λ r. ⌜
-        Performed (Call.release client ipid public private) (memory (now (words .entry)) (now (store .entry)))
+        Performed (Call.editing (Edit.release client ipid public private)) (memory (now (words .entry)) (now (store .entry)))
         (releaseReply r) (memory (now (words .exit)) (now (store .entry))) ⌝ }
 {
     if !judge::sound(words, store) {
@@ -154,7 +154,7 @@ pub fn release_step<'a>(
 ) -> Released
     requires { ⌜ SoundTable (memory (now words) (now store)) ⌝ }
     ensures { λ r. ⌜
-        Stepped (Call.release client ipid public private) (memory (now (words .entry)) (now (store .entry)))
+        Stepped (Call.editing (Edit.release client ipid public private)) (memory (now (words .entry)) (now (store .entry)))
         (releaseReply r) (memory (now (words .exit)) (now (store .entry))) ⌝ }
 {
     if 7 < client {
@@ -191,7 +191,7 @@ pub fn release_step<'a>(
 // Drops every private reference of a client. What is left without references goes as in a release: 0, or 1; 20.
 pub fn drop_client<'a>(words: &'a mut [u64], store: &'a [u8], client: u32) -> u32
     ensures { λ r. ⌜
-        Performed (Call.dropClient client) (memory (now (words .entry)) (now (store .entry)))
+        Performed (Call.editing (Edit.dropClient client)) (memory (now (words .entry)) (now (store .entry)))
         (numbered r) (memory (now (words .exit)) (now (store .entry))) ⌝ }
 {
     if !judge::sound(words, store) {
@@ -204,7 +204,7 @@ pub fn drop_client<'a>(words: &'a mut [u64], store: &'a [u8], client: u32) -> u3
 pub fn drop_client_step<'a>(words: &'a mut [u64], store: &'a [u8], client: u32) -> u32
     requires { ⌜ SoundTable (memory (now words) (now store)) ⌝ }
     ensures { λ r. ⌜
-        Stepped (Call.dropClient client) (memory (now (words .entry)) (now (store .entry)))
+        Stepped (Call.editing (Edit.dropClient client)) (memory (now (words .entry)) (now (store .entry)))
         (numbered r) (memory (now (words .exit)) (now (store .entry))) ⌝ }
 {
     if 7 < client {

@@ -12,7 +12,7 @@ use Rattle.kinds.specs.Refusals.{order}
 use Rattle.kinds.proofs.Refusing.{eq-differ, or-false, passed, passed-on}
 use Rattle.bindings.specs.Bindings.{listAnswer}
 use Rattle.rules.specs.Entries.{Entries, listsLength, exporterPlaces, objectPlaces, interfacePlaces}
-use Rattle.rules.specs.Calls.{Call}
+use Rattle.rules.specs.Calls.{Call, Edit}
 use Rattle.rules.specs.Rules.{refusals, number, listRefusals}
 use Rattle.rules.specs.Sound.{longestList, storeBytes}
 
@@ -34,12 +34,12 @@ module _ (e : Entries) where
     fits-list (a, l, p, r) =
         rw (eq-differ (listAnswer b) 0 a, le-ltb longestList (length b) l, lt-leb exporterPlaces (length (e .exporters)) p, le-ltb storeBytes (listsLength (e .exporters) + length b) r)
 
-    pub exporter-fits : (x : ℕ) (u : Guid) → number (Call.enterExporter x u b) e ≡ 0 → ListFits
+    pub exporter-fits : (x : ℕ) (u : Guid) → number (Call.editing (Edit.enterExporter x u b)) e ≡ 0 → ListFits
     unfolding number refusals
     exporter-fits x u h = list-fits (passed _ 3 _ (omega arith) h .1)
 
   -- an object needs a place for its interface too
-  pub object-fits : (o x : ℕ) (i iid : Guid) (n : ℕ) (np : Bool) → number (Call.enterObject o x i iid n np) e ≡ 0
+  pub object-fits : (o x : ℕ) (i iid : Guid) (n : ℕ) (np : Bool) → number (Call.editing (Edit.enterObject o x i iid n np)) e ≡ 0
       → (length (e .objects) < objectPlaces) × (length (e .interfaces) < interfacePlaces)
   unfolding number refusals
   object-fits o x i iid n np h =
@@ -50,7 +50,7 @@ module _ (e : Entries) where
       (leb-false objectPlaces (length (e .objects)) (f .0), leb-false interfacePlaces (length (e .interfaces)) (f .1))
 
   -- an interface
-  pub interface-fits : (o : ℕ) (i iid : Guid) (n : ℕ) → number (Call.enterInterface o i iid n) e ≡ 0 → length (e .interfaces) < interfacePlaces
+  pub interface-fits : (o : ℕ) (i iid : Guid) (n : ℕ) → number (Call.editing (Edit.enterInterface o i iid n)) e ≡ 0 → length (e .interfaces) < interfacePlaces
   unfolding number refusals
   interface-fits o i iid n h =
       let r = passed _ 3 _ (omega arith) h in

@@ -10,7 +10,7 @@ ghost use mathlib.Core.Bool.{Bool, true};
 ghost use mathlib.Core.List.{List};
 ghost use Prim.Native.Nat.{ℕ};
 ghost use Rattle.kinds.specs.declared.Guid.{Guid};
-ghost use Rattle.rules.specs.Calls.{Call, numbered};
+ghost use Rattle.rules.specs.Calls.{Call, Start, Edit, numbered};
 ghost use Rattle.kinds.specs.Refusals.{order};
 ghost use Rattle.rules.specs.Rules.{number, listRefusals};
 ghost use Rattle.rules.specs.Sound.{listsKept};
@@ -20,7 +20,7 @@ ghost use Rattle.rules.specs.Contract.{Whole};
 // Empties the table and sets its clock: 0, or 1 where a length is wrong. It looks at nothing but the lengths.
 pub fn reset<'a>(words: &'a mut [u64], store: &'a [u8], time: u64) -> u32
     ensures { λ r. ⌜
-        Performed (Call.reset time) (memory (now (words .entry)) (now (store .entry))) (numbered r)
+        Performed (Call.starting (Start.reset time)) (memory (now (words .entry)) (now (store .entry))) (numbered r)
         (memory (now (words .exit)) (now (store .entry))) ⌝ }
 {
     if words.len() != limits::WORDS {
@@ -64,7 +64,7 @@ fn exporter_number<'a>(
     list: &'a [u8],
 ) -> u32
     requires { ⌜ SoundTable (memory (now words) (now store)) ⌝ }
-    ensures { λ r. ⌜ r ≡ number (Call.enterExporter (oxid .0) unknown (now (list .entry))) (view (memory (now (words .entry)) (now (store .entry)))) ⌝ }
+    ensures { λ r. ⌜ r ≡ number (Call.editing (Edit.enterExporter (oxid .0) unknown (now (list .entry)))) (view (memory (now (words .entry)) (now (store .entry)))) ⌝ }
 {
     if oxid.0 == 0 {
         return answer::BAD_IDENTIFIER;
@@ -87,7 +87,7 @@ pub fn enter_exporter<'a>(
     list: &'a [u8],
 ) -> u32
     ensures { λ r. ⌜
-        Performed (Call.enterExporter (oxid .0) unknown (now (list .entry))) (memory (now (words .entry)) (now (store .entry)))
+        Performed (Call.editing (Edit.enterExporter (oxid .0) unknown (now (list .entry)))) (memory (now (words .entry)) (now (store .entry)))
         (numbered r) (memory (now (words .exit)) (now (store .exit))) ⌝ }
 {
     if !judge::sound(words, store) {
@@ -106,7 +106,7 @@ pub fn enter_exporter_step<'a>(
 ) -> u32
     requires { ⌜ SoundTable (memory (now words) (now store)) ⌝ }
     ensures { λ r. ⌜
-        Stepped (Call.enterExporter (oxid .0) unknown (now (list .entry))) (memory (now (words .entry)) (now (store .entry)))
+        Stepped (Call.editing (Edit.enterExporter (oxid .0) unknown (now (list .entry)))) (memory (now (words .entry)) (now (store .entry)))
         (numbered r) (memory (now (words .exit)) (now (store .exit))) ⌝ }
 {
     let number = exporter_number(words, store, oxid, unknown, list);
@@ -120,7 +120,7 @@ pub fn enter_exporter_step<'a>(
 // The number of an entry: 3; 4; 7; 9.
 fn object_number(words: &[u64], oid: Oid, oxid: Oxid, ipid: Guid, public: u32) -> u32
     requires { ⌜ Whole (now words) ⌝ }
-    ensures { λ r. ⌜ ((s : List ℕ) (iid : Guid) (np : Bool) → r ≡ number (Call.enterObject (oid .0) (oxid .0) ipid iid public np) (view (memory (now (words .entry)) s))) ⌝ }
+    ensures { λ r. ⌜ ((s : List ℕ) (iid : Guid) (np : Bool) → r ≡ number (Call.editing (Edit.enterObject (oid .0) (oxid .0) ipid iid public np)) (view (memory (now (words .entry)) s))) ⌝ }
 {
     if oid.0 == 0 {
         return answer::BAD_IDENTIFIER;
@@ -158,7 +158,7 @@ pub fn enter_object<'a>(
     no_ping: bool,
 ) -> u32
     ensures { λ r. ⌜
-        Performed (Call.enterObject (oid .0) (oxid .0) ipid iid public «no_ping») (memory (now (words .entry)) (now (store .entry)))
+        Performed (Call.editing (Edit.enterObject (oid .0) (oxid .0) ipid iid public «no_ping»)) (memory (now (words .entry)) (now (store .entry)))
         (numbered r) (memory (now (words .exit)) (now (store .entry))) ⌝ }
 {
     if !judge::sound(words, store) {
@@ -180,7 +180,7 @@ pub fn enter_object_step<'a>(
 ) -> u32
     requires { ⌜ SoundTable (memory (now words) (now store)) ⌝ }
     ensures { λ r. ⌜
-        Stepped (Call.enterObject (oid .0) (oxid .0) ipid iid public «no_ping») (memory (now (words .entry)) (now (store .entry)))
+        Stepped (Call.editing (Edit.enterObject (oid .0) (oxid .0) ipid iid public «no_ping»)) (memory (now (words .entry)) (now (store .entry)))
         (numbered r) (memory (now (words .exit)) (now (store .entry))) ⌝ }
 {
     let number = object_number(words, oid, oxid, ipid, public);
@@ -195,7 +195,7 @@ pub fn enter_object_step<'a>(
 // The number of an entry: 3; 5; 7; 9.
 fn interface_number(words: &[u64], oid: Oid, ipid: Guid, public: u32) -> u32
     requires { ⌜ Whole (now words) ⌝ }
-    ensures { λ r. ⌜ ((s : List ℕ) (iid : Guid) → r ≡ number (Call.enterInterface (oid .0) ipid iid public) (view (memory (now (words .entry)) s))) ⌝ }
+    ensures { λ r. ⌜ ((s : List ℕ) (iid : Guid) → r ≡ number (Call.editing (Edit.enterInterface (oid .0) ipid iid public)) (view (memory (now (words .entry)) s))) ⌝ }
 {
     if find::ipid_taken(words, ipid) {
         return answer::BAD_IDENTIFIER;
@@ -222,7 +222,7 @@ pub fn enter_interface<'a>(
     public: u32,
 ) -> u32
     ensures { λ r. ⌜
-        Performed (Call.enterInterface (oid .0) ipid iid public) (memory (now (words .entry)) (now (store .entry)))
+        Performed (Call.editing (Edit.enterInterface (oid .0) ipid iid public)) (memory (now (words .entry)) (now (store .entry)))
         (numbered r) (memory (now (words .exit)) (now (store .entry))) ⌝ }
 {
     if !judge::sound(words, store) {
@@ -242,7 +242,7 @@ pub fn enter_interface_step<'a>(
 ) -> u32
     requires { ⌜ SoundTable (memory (now words) (now store)) ⌝ }
     ensures { λ r. ⌜
-        Stepped (Call.enterInterface (oid .0) ipid iid public) (memory (now (words .entry)) (now (store .entry)))
+        Stepped (Call.editing (Edit.enterInterface (oid .0) ipid iid public)) (memory (now (words .entry)) (now (store .entry)))
         (numbered r) (memory (now (words .exit)) (now (store .entry))) ⌝ }
 {
     let number = interface_number(words, oid, ipid, public);

@@ -8,7 +8,7 @@ use lib.Dec.{eqb}
 use Rattle.kinds.proofs.Refusing.{by-test}
 use Rattle.lists.specs.Lists.{tabulate}
 use Rattle.lists.proofs.Lists.{map-append, map-tabulate, length-tabulate, tabulate-ext, tabulate-getD}
-use Rattle.rules.specs.Calls.{Call, Counting, reset, enterExporter, removeExporter, enterObject, enterInterface, add, release, dropClient, countList, simplePing, complexPing, clock, resolve, resolveFiltered, census, members, nextStop, writeSnapshot, loadSnapshot}
+use Rattle.rules.specs.Calls.{Call, starting, looking, editing, Counting, reset, enterExporter, removeExporter, enterObject, enterInterface, add, release, dropClient, countList, simplePing, complexPing, clock, resolve, resolveFiltered, census, members, nextStop, writeSnapshot, loadSnapshot}
 use Rattle.rules.specs.Items.{itemAt, itemCount, itemsOf, itemCall}
 use Rattle.rules.specs.Rules.{itemNumbers, number, results, acceptedReply, refusedReply, reply}
 use Rattle.rules.proofs.Stepping.{reply-number}
@@ -73,28 +73,13 @@ same-items w c s b h k e =
 
 same : (c : Call) (h : History) → Kept h → Same c h (answered c (reply c (live h)))
 unfolding answered
-same (reset t) h k = same-once (reset t) h
-same (enterExporter x u b) h k = same-once (enterExporter x u b) h
-same (removeExporter x) h k = same-once (removeExporter x) h
-same (enterObject o x i iid n np) h k = same-once (enterObject o x i iid n np) h
-same (enterInterface o i iid n) h k = same-once (enterInterface o i iid n) h
-same (add c i p q) h k = same-once (add c i p q) h
-same (release c i p q) h k = same-once (release c i p q) h
-same (dropClient c) h k = same-once (dropClient c) h
+same (starting s) h k = same-once (starting s) h
+same (looking l) h k = same-once (looking l) h
+same (editing c) h k = same-once (editing c) h
 same (countList w c s b) h k =
     by-test (Same (countList w c s b) h) (eqb (reply (countList w c s b) (live h) .number) 0) _ _
     (λ t. same-items w c s b h k (ap (λ (n : ℕ). eqb n 0) (sym (reply-number (countList w c s b) (live h))) ∙ t))
     (λ t. same-once (countList w c s b) h)
-same (simplePing s) h k = same-once (simplePing s) h
-same (complexPing s n adds dels) h k = same-once (complexPing s n adds dels) h
-same (clock t) h k = same-once (clock t) h
-same (resolve x buffer) h k = same-once (resolve x buffer) h
-same (resolveFiltered x protocols buffer) h k = same-once (resolveFiltered x protocols buffer) h
-same census h k = same-once census h
-same (members s) h k = same-once (members s) h
-same (nextStop s) h k = same-once (nextStop s) h
-same (writeSnapshot buffer) h k = same-once (writeSnapshot buffer) h
-same (loadSnapshot s) h k = same-once (loadSnapshot s) h
 
 -- of every run
 pub all-answers : (cs : List Call) (h : History) → Kept h

@@ -14,7 +14,7 @@ use Rattle.lists.proofs.Tests.{true-or-false, and-right}
 use Rattle.lists.proofs.Lists.{every-map, every-mono, some-map, some-keep, some-not, keep-map, keep-keep, map-unread}
 use Rattle.lists.proofs.Distinct.{eqb-decides}
 use Rattle.rules.specs.Entries.{Interface, Entries, withInterfaces, atCount, atCounts}
-use Rattle.rules.specs.Calls.{add, release, dropClient}
+use Rattle.rules.specs.Calls.{editing, add, release, dropClient}
 use Rattle.rules.specs.Sound.{sound, held, hasInterface}
 use Rattle.rules.specs.Rules.{anyIpid, number, next, atInterfaces, withoutObjects, dropEmpty}
 use Rattle.rules.proofs.Keeps.{keeps}
@@ -205,24 +205,24 @@ accountsChange : (h : History) {f f′ : Account → Account} {g g′ : ℕ → 
 accountsChange h a b n = both h (accountChange h a 0) (accountChange h b (suc n))
 
 -- release
-pub release-step : (h : History) → Kept h → (c : ℕ) (i : Guid) (p q : ℕ) → number (release c i p q) (live h) ≡ 0 → Step (release c i p q) h
+pub release-step : (h : History) → Kept h → (c : ℕ) (i : Guid) (p q : ℕ) → number (editing (release c i p q)) (live h) ≡ 0 → Step (editing (release c i p q)) h
 unfolding lived next
 release-step h k c i p q a =
     let w = accountsChange h (takes p) (takes q) c in
-    stepped (release c i p q) h k a (change-entries h k (sameGuid i) _ _ w) (count-kept h k (sameGuid i) _ _ w)
+    stepped (editing (release c i p q)) h k a (change-entries h k (sameGuid i) _ _ w) (count-kept h k (sameGuid i) _ _ w)
 
 -- a client's drop
-pub drop-step : (h : History) → Kept h → (c : ℕ) → number (dropClient c) (live h) ≡ 0 → Step (dropClient c) h
+pub drop-step : (h : History) → Kept h → (c : ℕ) → number (editing (dropClient c)) (live h) ≡ 0 → Step (editing (dropClient c)) h
 unfolding lived next
 drop-step h k c a =
     let w = accountChange h takes-all (suc c) in
-    stepped (dropClient c) h k a (change-entries h k anyIpid _ _ w) (count-kept h k anyIpid _ _ w)
+    stepped (editing (dropClient c)) h k a (change-entries h k anyIpid _ _ w) (count-kept h k anyIpid _ _ w)
 
 -- add
-pub add-step : (h : History) → Kept h → (c : ℕ) (i : Guid) (p q : ℕ) → number (add c i p q) (live h) ≡ 0 → Step (add c i p q) h
+pub add-step : (h : History) → Kept h → (c : ℕ) (i : Guid) (p q : ℕ) → number (editing (add c i p q)) (live h) ≡ 0 → Step (editing (add c i p q)) h
 unfolding lived next
 add-step h k c i p q a =
     let w = accountsChange h (grants p) (grants q) c in
-    stepped (add c i p q) h k a
-    (change-entries h k (sameGuid i) _ _ w ∙ full-kept (next (add c i p q) (live h)) (keeps (add c i p q) (live h) (k .sound) a))
+    stepped (editing (add c i p q)) h k a
+    (change-entries h k (sameGuid i) _ _ w ∙ full-kept (next (editing (add c i p q)) (live h)) (keeps (editing (add c i p q)) (live h) (k .sound) a))
     (count-kept h k (sameGuid i) _ _ w)

@@ -16,7 +16,7 @@ use Rattle.lists.proofs.Tests.{true-or-false, and-intro, or-left, or-right}
 use Rattle.lists.proofs.Lists.{some-snoc, every-snoc, keep-snoc, keep-ext, map-append}
 use Rattle.lists.proofs.Distinct.{eqb-decides}
 use Rattle.rules.specs.Entries.{Object, Interface, Entries, ipids, withExporters, withInterfaces, withObjects}
-use Rattle.rules.specs.Calls.{enterExporter, enterObject, enterInterface}
+use Rattle.rules.specs.Calls.{editing, enterExporter, enterObject, enterInterface}
 use Rattle.rules.specs.Sound.{sound}
 use Rattle.rules.specs.Rules.{enteredCounts, number, next, refusals, isLiveExporter, isLiveObject}
 use Rattle.history.specs.History.{ExporterLife, ObjectLife, Account, InterfaceLife, History, remaining, atZero, interfacesAtZero, exporterRemoved, unheard, objectGone, liveExporters, liveObjects, liveInterface, liveSet, noExporterLife, noObjectLife, exporterEntry, objectEntry, interfaceEntry, setEntry, live, withExporterLives, withObjectLives, withInterfaceLives, noAccount, enteredInterface, exporterSerial, objectSerial, lived}
@@ -85,9 +85,9 @@ module _ (h : History) (k : Kept h) (n : ExporterLife) (s : n .serial ≡ length
       }
 
 -- enter exporter
-pub exporter-step : (h : History) → Kept h → (x : ℕ) (u : Guid) (b : List ℕ) → number (enterExporter x u b) (live h) ≡ 0 → Step (enterExporter x u b) h
+pub exporter-step : (h : History) → Kept h → (x : ℕ) (u : Guid) (b : List ℕ) → number (editing (enterExporter x u b)) (live h) ≡ 0 → Step (editing (enterExporter x u b)) h
 unfolding lived next
-exporter-step h k x u b a = stepped (enterExporter x u b) h k a (exporter-entered h k _ refl refl) (exporter-kept h k _ refl refl)
+exporter-step h k x u b a = stepped (editing (enterExporter x u b)) h k a (exporter-entered h k _ refl refl) (exporter-kept h k _ refl refl)
 
 -- ---- an interface
 
@@ -171,7 +171,7 @@ module _ (h : History) (k : Kept h) (i iid : Guid) (n : ℕ) (z : eqb n 0 ≡ fa
       }
 
 -- what its refusals leave
-pub interface-accepted : (e : Entries) (o : ℕ) (i iid : Guid) (n : ℕ) → number (enterInterface o i iid n) e ≡ 0 → (isLiveObject e o ≡ true) × (eqb n 0 ≡ false)
+pub interface-accepted : (e : Entries) (o : ℕ) (i iid : Guid) (n : ℕ) → number (editing (enterInterface o i iid n)) e ≡ 0 → (isLiveObject e o ≡ true) × (eqb n 0 ≡ false)
 unfolding number refusals
 interface-accepted e o i iid n a =
     let r = passed _ 3 _ (omega arith) a in
@@ -179,13 +179,13 @@ interface-accepted e o i iid n a =
     (not-false (isLiveObject e o) (s .0), passed _ 7 _ (omega arith) (s .1) .0)
 
 -- enter interface
-pub interface-step : (h : History) → Kept h → (o : ℕ) (i iid : Guid) (n : ℕ) → number (enterInterface o i iid n) (live h) ≡ 0 → Step (enterInterface o i iid n) h
+pub interface-step : (h : History) → Kept h → (o : ℕ) (i iid : Guid) (n : ℕ) → number (editing (enterInterface o i iid n)) (live h) ≡ 0 → Step (editing (enterInterface o i iid n)) h
 unfolding lived next
 interface-step h k o i iid n a =
     let r = interface-accepted (live h) o i iid n a in
     let f = found-object h k o (r .0) in
     let e = ap (λ (p : ObjectLife). p .serial) (first-sole (λ (p : ObjectLife). eqb o (p .oid)) noObjectLife (f .1)) in
-    stepped (enterInterface o i iid n) h k a
+    stepped (editing (enterInterface o i iid n)) h k a
     (interface-entered h k i iid n (r .1) (f .0) (f .1 .here) (objectSerial h o) e
     ∙ ap (λ (j : ℕ). withInterfaces (live h .interfaces ++ (enteredEntry i iid j n ∷ [])) (live h)) (sym (eqb-true o (f .0 .oid) (f .1 .passes))))
     (interface-kept h k i iid n (r .1) (f .0) (f .1 .here) (objectSerial h o) e)
@@ -358,7 +358,7 @@ module _ (h : History) (k : Kept h) (i iid : Guid) (n : ℕ) (z : eqb n 0 ≡ fa
       }
 
 -- what its refusals leave
-object-accepted : (e : Entries) (o x : ℕ) (i iid : Guid) (n : ℕ) (np : Bool) → number (enterObject o x i iid n np) e ≡ 0
+object-accepted : (e : Entries) (o x : ℕ) (i iid : Guid) (n : ℕ) (np : Bool) → number (editing (enterObject o x i iid n np)) e ≡ 0
     → (isLiveObject e o ≡ false) × (isLiveExporter e x ≡ true) × (eqb n 0 ≡ false)
 unfolding number refusals
 object-accepted e o x i iid n np a =
@@ -367,7 +367,7 @@ object-accepted e o x i iid n np a =
     (or-right (eqb o 0) (isLiveObject e o) (or-left (eqb o 0 || isLiveObject e o) (sameGuid i nil || some (sameGuid i) (ipids e)) (r .0)), not-false (isLiveExporter e x) (s .0), passed _ 7 _ (omega arith) (s .1) .0)
 
 -- enter object
-pub object-step : (h : History) → Kept h → (o x : ℕ) (i iid : Guid) (n : ℕ) (np : Bool) → number (enterObject o x i iid n np) (live h) ≡ 0 → Step (enterObject o x i iid n np) h
+pub object-step : (h : History) → Kept h → (o x : ℕ) (i iid : Guid) (n : ℕ) (np : Bool) → number (editing (enterObject o x i iid n np)) (live h) ≡ 0 → Step (editing (enterObject o x i iid n np)) h
 unfolding lived next
 object-step h k o x i iid n np a =
     let r = object-accepted (live h) o x i iid n np a in
@@ -375,7 +375,7 @@ object-step h k o x i iid n np a =
     let g = keep-in (λ (p : ExporterLife). not (p .removed)) (h .exporters) (f .1 .here) in
     let e = ap (λ (p : ExporterLife). p .serial) (first-sole (λ (p : ExporterLife). eqb x (p .oxid)) noExporterLife (f .1)) in
     let w = not-true (f .0 .removed) (g .1) in
-    stepped (enterObject o x i iid n np) h k a
+    stepped (editing (enterObject o x i iid n np)) h k a
     (object-entered h k i iid n (r .2) o np (f .0) (g .0) w (exporterSerial h x) e
     ∙ ap (λ (j : ℕ). withObjects (live h .objects ++ (record { oid = o; exporter = j; noping = np; heard = h .clock } ∷ []))
     (withInterfaces (live h .interfaces ++ (enteredEntry i iid o n ∷ [])) (live h))) (sym (eqb-true x (f .0 .oxid) (f .1 .passes)))

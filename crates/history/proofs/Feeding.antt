@@ -4,7 +4,7 @@ use mathlib.Core.Bool.{Bool, true, false, cond}
 use lib.Dec.{eqb}
 use borrow.Author.Tests.{eqb-true}
 use Rattle.kinds.proofs.Refusing.{by-test}
-use Rattle.rules.specs.Calls.{Call, reset, enterExporter, removeExporter, enterObject, enterInterface, add, release, dropClient, countList, simplePing, complexPing, clock, resolve, resolveFiltered, census, members, nextStop, writeSnapshot, loadSnapshot}
+use Rattle.rules.specs.Calls.{Call, starting, looking, editing, reset, enterExporter, removeExporter, enterObject, enterInterface, add, release, dropClient, countList, simplePing, complexPing, clock, resolve, resolveFiltered, census, members, nextStop, writeSnapshot, loadSnapshot}
 use Rattle.rules.specs.Items.{itemsOf}
 use Rattle.rules.specs.Snapshot.{entriesOf}
 use Rattle.rules.specs.Rules.{number, next}
@@ -23,25 +23,20 @@ use Rattle.history.proofs.Pinging.{simple-step, complex-step}
 -- each accepted call
 pub step : (c : Call) (h : History) → Kept h → number c (live h) ≡ 0 → Step c h
 unfolding lived next
-step (reset t) h k a = record { entries = live-fresh t; kept = kept-fresh t }
-step (enterExporter x u b) h k a = exporter-step h k x u b a
-step (removeExporter x) h k a = removal-step h k x a
-step (enterObject o x i iid n np) h k a = object-step h k o x i iid n np a
-step (enterInterface o i iid n) h k a = interface-step h k o i iid n a
-step (add c i p q) h k a = add-step h k c i p q a
-step (release c i p q) h k a = release-step h k c i p q a
-step (dropClient c) h k a = drop-step h k c a
+step (starting (reset t)) h k a = record { entries = live-fresh t; kept = kept-fresh t }
+step (editing (enterExporter x u b)) h k a = exporter-step h k x u b a
+step (editing (removeExporter x)) h k a = removal-step h k x a
+step (editing (enterObject o x i iid n np)) h k a = object-step h k o x i iid n np a
+step (editing (enterInterface o i iid n)) h k a = interface-step h k o i iid n a
+step (editing (add c i p q)) h k a = add-step h k c i p q a
+step (editing (release c i p q)) h k a = release-step h k c i p q a
+step (editing (dropClient c)) h k a = drop-step h k c a
 step (countList w c s b) h k a = let r = items-step h k w c (itemsOf s) in record { entries = r .0; kept = r .1 }
-step (simplePing s) h k a = simple-step h k s a
-step (complexPing s n adds dels) h k a = complex-step h k s n adds dels a
-step (clock t) h k a = clock-step h k t a
-step (resolve x buffer) h k a = record { entries = refl; kept = k }
-step (resolveFiltered x protocols buffer) h k a = record { entries = refl; kept = k }
-step census h k a = record { entries = refl; kept = k }
-step (members s) h k a = record { entries = refl; kept = k }
-step (nextStop r) h k a = record { entries = refl; kept = k }
-step (writeSnapshot buffer) h k a = record { entries = refl; kept = k }
-step (loadSnapshot s) h k a =
+step (editing (simplePing s)) h k a = simple-step h k s a
+step (editing (complexPing s n adds dels)) h k a = complex-step h k s n adds dels a
+step (editing (clock t)) h k a = clock-step h k t a
+step (looking l) h k a = record { entries = refl; kept = k }
+step (starting (loadSnapshot s)) h k a =
     let sound = loaded-sound s (live h) a in
     let ordered = loads-ordered s (loaded-snapshot s (live h) a) in
     record { entries = live-begin (entriesOf s) sound ordered; kept = kept-begin (entriesOf s) sound ordered }

@@ -16,7 +16,7 @@ use Rattle.lists.proofs.Distinct.{Decides, eqb-decides, same-eq}
 use Rattle.lists.specs.Lists.{holding}
 use Rattle.lists.proofs.Guids.{guid-decides}
 use Rattle.lists.proofs.Elements.{In, every-in, in-every, in-some, some-in, in-keep, map-in, snoc-in, one-in, first-sole}
-use Rattle.rules.specs.Calls.{Call, Counting, adding, releasing, reset, enterExporter, removeExporter, enterObject, enterInterface, add, release, dropClient, countList, simplePing, complexPing, clock, resolve, resolveFiltered, census, members, nextStop, writeSnapshot, loadSnapshot}
+use Rattle.rules.specs.Calls.{Call, starting, looking, editing, Counting, adding, releasing, reset, enterExporter, removeExporter, enterObject, enterInterface, add, release, dropClient, countList, simplePing, complexPing, clock, resolve, resolveFiltered, census, members, nextStop, writeSnapshot, loadSnapshot}
 use Rattle.rules.specs.Items.{Item, itemsOf, itemCall}
 use Rattle.rules.specs.Rules.{anyIpid, number}
 use Rattle.rules.proofs.SoundLaws.{none, _and_}
@@ -418,7 +418,7 @@ module _ (h : History) where
     complex-later false = ping-later k (h .next) (map changing (h .sets)) (mapped (SameSet h) changing (h .sets) (λ s m. changing-same s))
 
 -- a removal
-removal-later : (h : History) (x : ℕ) → Later h (lived (removeExporter x) h)
+removal-later : (h : History) (x : ℕ) → Later h (lived (editing (removeExporter x)) h)
 unfolding lived
 removal-later h x =
     record {
@@ -450,8 +450,8 @@ items-recounted w c (t ∷ ts) h =
 -- every accepted call but one that begins a history
 later : (c : Call) (h : History) → Kept h → begins c ≡ false → number c (live h) ≡ 0 → Later h (lived c h)
 unfolding lived
-later (reset t) h k b a = absurd (true≢false b)
-later (enterExporter x u l) h k b a =
+later (starting s) h k b a = absurd (true≢false b)
+later (editing (enterExporter x u l)) h k b a =
     record {
       clock = omega arith;
       exporters = more SameExporter _ (exporters-stay h);
@@ -460,8 +460,8 @@ later (enterExporter x u l) h k b a =
       origins = origins-stay h;
       sets = sets-stay h;
     }
-later (removeExporter x) h k b a = removal-later h x
-later (enterObject o x i iid n np) h k b a =
+later (editing (removeExporter x)) h k b a = removal-later h x
+later (editing (enterObject o x i iid n np)) h k b a =
     record {
       clock = omega arith;
       exporters = exporters-stay h;
@@ -470,7 +470,7 @@ later (enterObject o x i iid n np) h k b a =
       origins = origins-more h _ (λ p m g e. let l = k .objects .below p m in omega arith);
       sets = sets-stay h;
     }
-later (enterInterface o i iid n) h k b a =
+later (editing (enterInterface o i iid n)) h k b a =
     record {
       clock = omega arith;
       exporters = exporters-stay h;
@@ -484,22 +484,16 @@ later (enterInterface o i iid n) h k b a =
           true≢false (sym g ∙ ap (objectGone h) (one-in eqb eqb-decides serialOfObject (h .objects) (k .objects .differ) m (v .0) (e ∙ s)) ∙ v .1));
       sets = sets-stay h;
     }
-later (add c i p q) h k b a = counts-later h (sameGuid i) (atAccounts c (granting p) (granting q)) (λ l. refl) (λ l. refl)
-later (release c i p q) h k b a = counts-later h (sameGuid i) (atAccounts c (taking p) (taking q)) (λ l. refl) (λ l. refl)
-later (dropClient c) h k b a = counts-later h anyIpid (atAccount (suc c) takingAll) (λ l. refl) (λ l. refl)
+later (editing (add c i p q)) h k b a = counts-later h (sameGuid i) (atAccounts c (granting p) (granting q)) (λ l. refl) (λ l. refl)
+later (editing (release c i p q)) h k b a = counts-later h (sameGuid i) (atAccounts c (taking p) (taking q)) (λ l. refl) (λ l. refl)
+later (editing (dropClient c)) h k b a = counts-later h anyIpid (atAccount (suc c) takingAll) (λ l. refl) (λ l. refl)
 later (countList w c s l) h k b a = recounted-later h _ (items-recounted w c (itemsOf s) h)
-later (simplePing s) h k b a = ping-later h s (h .next) (h .sets) (sets-stay h)
-later (complexPing s n adds dels) h k b a = complex-later h (cond (eqb s 0) (h .next) s) n (objectSerials h adds) (objectSerials h dels) (eqb s 0)
-later (clock t) h k b a =
+later (editing (simplePing s)) h k b a = ping-later h s (h .next) (h .sets) (sets-stay h)
+later (editing (complexPing s n adds dels)) h k b a = complex-later h (cond (eqb s 0) (h .next) s) n (objectSerials h adds) (objectSerials h dels) (eqb s 0)
+later (editing (clock t)) h k b a =
     let z : h .clock ≤ t = rw (clock-live h) at (clock-accepted (live h) t a) in
     record { clock = z; exporters = exporters-stay h; objects = objects-stay h; interfaces = interfaces-stay h; origins = origins-stay h; sets = sets-stay h }
-later (resolve x buffer) h k b a = later-self h
-later (resolveFiltered x protocols buffer) h k b a = later-self h
-later census h k b a = later-self h
-later (members s) h k b a = later-self h
-later (nextStop r) h k b a = later-self h
-later (writeSnapshot buffer) h k b a = later-self h
-later (loadSnapshot s) h k b a = absurd (true≢false b)
+later (looking l) h k b a = later-self h
 
 -- ---- of the history of any calls
 

@@ -12,7 +12,7 @@ use Rattle.lists.specs.Lists.{keep, some, among}
 use Rattle.lists.proofs.Tests.{true-or-false}
 use Rattle.lists.proofs.Lists.{some-map, some-kept-none, keep-map, keep-comm, keep-keep, keep-ext, map-map, map-ext, map-unread}
 use Rattle.rules.specs.Entries.{Exporter, Object, Interface, PingSet, Entries, withClock, withExporters, withSets, withMembers}
-use Rattle.rules.specs.Calls.{removeExporter, clock}
+use Rattle.rules.specs.Calls.{editing, removeExporter, clock}
 use Rattle.rules.specs.Sound.{sound, heardWithin, pingedWithin}
 use Rattle.rules.specs.Rules.{number, next, refusals, withoutObjects}
 use Rattle.rules.proofs.LeavingKeeps.{clock-next}
@@ -151,16 +151,16 @@ module _ (h : History) (k : Kept h) (t : ℕ) (later : h .clock ≤ t) where
       (λ o m. Memᴰ·map still (keep-in (λ p. heardWithin t (objectEntry h p)) (liveObjects h) (rw clock-objects at m) .0)) s
 
 -- what its refusal leaves
-pub clock-accepted : (e : Entries) (t : ℕ) → number (clock t) e ≡ 0 → e .clock ≤ t
+pub clock-accepted : (e : Entries) (t : ℕ) → number (editing (clock t)) e ≡ 0 → e .clock ≤ t
 unfolding number refusals
 clock-accepted e t a = ltb-false t (e .clock) (passed _ 2 _ (omega arith) a .0)
 
 -- clock
-pub clock-step : (h : History) → Kept h → (t : ℕ) → number (clock t) (live h) ≡ 0 → Step (clock t) h
+pub clock-step : (h : History) → Kept h → (t : ℕ) → number (editing (clock t)) (live h) ≡ 0 → Step (editing (clock t)) h
 unfolding lived
 clock-step h k t a =
     let b : h .clock ≤ t = rw (clock-live h) at (clock-accepted (live h) t a) in
-    stepped (clock t) h k a (clock-entries h k t b ∙ sym (clock-next (live h) t)) (clock-kept h k t b)
+    stepped (editing (clock t)) h k a (clock-entries h k t b ∙ sym (clock-next (live h) t)) (clock-kept h k t b)
 
 -- ---- an exporter's removal
 
@@ -256,6 +256,6 @@ module _ (h : History) (k : Kept h) (x : ℕ) where
       (λ o m. Memᴰ·map still (keep-in (λ p. otherExporter (objectEntry h p)) (liveObjects h) (rw removal-objects at m) .0)) s
 
 -- remove exporter
-pub removal-step : (h : History) → Kept h → (x : ℕ) → number (removeExporter x) (live h) ≡ 0 → Step (removeExporter x) h
+pub removal-step : (h : History) → Kept h → (x : ℕ) → number (editing (removeExporter x)) (live h) ≡ 0 → Step (editing (removeExporter x)) h
 unfolding lived next
-removal-step h k x a = stepped (removeExporter x) h k a (removal-entries h k x) (removal-kept h k x)
+removal-step h k x a = stepped (editing (removeExporter x)) h k a (removal-entries h k x) (removal-kept h k x)

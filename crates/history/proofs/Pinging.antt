@@ -14,7 +14,7 @@ use Rattle.lists.proofs.Tests.{true-or-false, and-right, or-left, or-right}
 use Rattle.lists.proofs.Lists.{some-map, some-snoc, some-append, keep-map, keep-none, keep-ext, keep-snoc, map-map, map-ext, map-append, map-unread}
 use Rattle.lists.proofs.Distinct.{eqb-decides, some-same-keep}
 use Rattle.rules.specs.Entries.{Object, PingSet, Entries, setNumbers, withNext, withObjects, withSets, heardAt, pingedAt, withSequence, withMembers}
-use Rattle.rules.specs.Calls.{simplePing, complexPing}
+use Rattle.rules.specs.Calls.{editing, simplePing, complexPing}
 use Rattle.rules.specs.Sound.{sound}
 use Rattle.rules.specs.Rules.{number, next, refusals, isLiveSet, noSet, setOf, tooMany, atSet, ping, newMembers, makeSet}
 use Rattle.rules.proofs.Groups.{grouped, sound-grouped}
@@ -248,16 +248,16 @@ ping-kept h k ss s p w b t =
 -- ---- a simple ping
 
 -- what its refusal leaves
-simple-accepted : (e : Entries) (s : ℕ) → number (simplePing s) e ≡ 0 → isLiveSet e s ≡ true
+simple-accepted : (e : Entries) (s : ℕ) → number (editing (simplePing s)) e ≡ 0 → isLiveSet e s ≡ true
 unfolding number refusals
 simple-accepted e s a = not-false (isLiveSet e s) (or-right (eqb s 0) (not (isLiveSet e s)) (passed _ 11 _ (omega arith) a .0))
 
 -- simple ping
-pub simple-step : (h : History) → Kept h → (s : ℕ) → number (simplePing s) (live h) ≡ 0 → Step (simplePing s) h
+pub simple-step : (h : History) → Kept h → (s : ℕ) → number (editing (simplePing s)) (live h) ≡ 0 → Step (editing (simplePing s)) h
 unfolding lived next
 simple-step h k s a =
     let f = found-set h k s (simple-accepted (live h) s a) in
-    stepped (simplePing s) h k a (ping-entries h (one-oid h k) s (f .0) (f .1)) (ping-kept h k (h .sets) s (f .0) (f .1) (k .members))
+    stepped (editing (simplePing s)) h k a (ping-entries h (one-oid h k) s (f .0) (f .1)) (ping-kept h k (h .sets) s (f .0) (f .1) (k .members))
 
 -- ---- a complex ping
 
@@ -313,16 +313,16 @@ made-live e =
     ∙ or-true (among (setNumbers e) (e .next))
 
 -- what its refusals leave, where the set is not 0
-complex-accepted : (e : Entries) (s n : ℕ) (adds dels : List ℕ) → eqb s 0 ≡ false → number (complexPing s n adds dels) e ≡ 0 → isLiveSet e s ≡ true
+complex-accepted : (e : Entries) (s n : ℕ) (adds dels : List ℕ) → eqb s 0 ≡ false → number (editing (complexPing s n adds dels)) e ≡ 0 → isLiveSet e s ≡ true
 unfolding number refusals
 complex-accepted e s n adds dels z a =
     let r = passed (tooMany adds || tooMany dels) 10 _ (omega arith) a .1 in
     not-false (isLiveSet e s) (passed _ 11 _ (omega arith) (rw z at r) .0)
 
 -- complex ping
-pub complex-step : (h : History) → Kept h → (s n : ℕ) (adds dels : List ℕ) → number (complexPing s n adds dels) (live h) ≡ 0 → Step (complexPing s n adds dels) h
+pub complex-step : (h : History) → Kept h → (s n : ℕ) (adds dels : List ℕ) → number (editing (complexPing s n adds dels)) (live h) ≡ 0 → Step (editing (complexPing s n adds dels)) h
 unfolding lived next live
-complex-step h k s n adds dels a = stepped (complexPing s n adds dels) h k a (entries (eqb s 0) refl) (kept (eqb s 0) refl)
+complex-step h k s n adds dels a = stepped (editing (complexPing s n adds dels)) h k a (entries (eqb s 0) refl) (kept (eqb s 0) refl)
   where
     lives : Bool → History
     lives b =

@@ -19,7 +19,7 @@ use Rattle.references.specs.References.{isCustom, isExtended, objectAnswer, ele
 use Rattle.lists.proofs.Tests.{below-or-not}
 use Rattle.rules.specs.Entries.{Exporter, Entries, listsLength, exporterPlaces, objectPlaces, interfacePlaces, setPlaces}
 use Rattle.rules.proofs.ListsLength.{bytes-joined}
-use Rattle.rules.specs.Calls.{Call, reset, enterExporter, removeExporter, enterObject, enterInterface, add, release, dropClient, countList, simplePing, complexPing, clock, resolve, resolveFiltered, census, members, nextStop, writeSnapshot, loadSnapshot}
+use Rattle.rules.specs.Calls.{Call, starting, looking, editing, reset, enterExporter, removeExporter, enterObject, enterInterface, add, release, dropClient, countList, simplePing, complexPing, clock, resolve, resolveFiltered, census, members, nextStop, writeSnapshot, loadSnapshot}
 use Rattle.rules.specs.Rules.{refusals, number}
 use Rattle.rules.specs.Contract.{Memory}
 use Rattle.table.specs.View.{view}
@@ -180,34 +180,34 @@ together-bytes xs new = cc (length-append (joined (map (λ (x : Exporter). x .bi
 -- of every call
 rows : (c : Call) (e : Entries) → Placed e → Rows (refusals c e) (needsFullKind c e)
 unfolding refusals needsFullKind
-rows (reset t) e p = none
-rows (enterExporter x u b) e p =
+rows (starting (reset t)) e p = none
+rows (editing (enterExporter x u b)) e p =
     other refl refl (passing (listAnswer b) (list-answer b) (other refl refl
     (rw (sym (full-places exporterPlaces (length (e .exporters)) (p .exporters)), together-bytes (e .exporters) b) (here _ none))))
-rows (removeExporter x) e p = other refl refl none
-rows (enterObject o x i iid n np) e p =
+rows (editing (removeExporter x)) e p = other refl refl none
+rows (editing (enterObject o x i iid n np)) e p =
     other refl refl (other refl refl (other refl refl
     (rw (sym (full-places objectPlaces (length (e .objects)) (p .objects)), sym (full-places interfacePlaces (length (e .interfaces)) (p .interfaces))) (here _ none))))
-rows (enterInterface o i iid n) e p =
+rows (editing (enterInterface o i iid n)) e p =
     other refl refl (other refl refl (other refl refl (rw (sym (full-places interfacePlaces (length (e .interfaces)) (p .interfaces))) (here _ none))))
-rows (add c i m n) e p = other refl refl (other refl refl (other refl refl none))
-rows (release c i m n) e p = other refl refl (other refl refl none)
-rows (dropClient c) e p = other refl refl none
+rows (editing (add c i m n)) e p = other refl refl (other refl refl (other refl refl none))
+rows (editing (release c i m n)) e p = other refl refl (other refl refl none)
+rows (editing (dropClient c)) e p = other refl refl none
 rows (countList w c s b) e p = other refl refl (other refl refl (other refl refl (other refl refl none)))
-rows (simplePing s) e p = other refl refl none
-rows (complexPing s n adds dels) e p =
+rows (editing (simplePing s)) e p = other refl refl none
+rows (editing (complexPing s n adds dels)) e p =
     other refl refl
     (either (eqb s 0)
     (other refl refl (rw (sym (full-places setPlaces (length (e .sets)) (p .sets))) (here _ (other refl refl none))))
     (other refl refl (other refl refl (other refl refl none))))
-rows (clock t) e p = other refl refl none
-rows (resolve x buffer) e p = other refl refl (other refl refl none)
-rows (resolveFiltered x protocols buffer) e p = other refl refl (other refl refl (other refl refl none))
-rows census e p = none
-rows (members s) e p = other refl refl none
-rows (nextStop r) e p = passing (referenceAnswer r) (reference-answer r) (other refl refl none)
-rows (writeSnapshot buffer) e p = other refl refl none
-rows (loadSnapshot s) e p = other refl refl none
+rows (editing (clock t)) e p = other refl refl none
+rows (looking (resolve x buffer)) e p = other refl refl (other refl refl none)
+rows (looking (resolveFiltered x protocols buffer)) e p = other refl refl (other refl refl (other refl refl none))
+rows (looking census) e p = none
+rows (looking (members s)) e p = other refl refl none
+rows (looking (nextStop r)) e p = passing (referenceAnswer r) (reference-answer r) (other refl refl none)
+rows (looking (writeSnapshot buffer)) e p = other refl refl none
+rows (starting (loadSnapshot s)) e p = other refl refl none
 
 -- two equal tests agree
 pub agreed : (a b : Bool) → a ≡ b → agree a b ≡ true

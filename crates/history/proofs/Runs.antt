@@ -11,7 +11,7 @@ use Rattle.kinds.specs.declared.Guid.{Guid}
 use Rattle.kinds.specs.Refusals.{order}
 use Rattle.lists.proofs.Tests.{true-or-false, same-or-not, and-left, and-right}
 use Rattle.rules.specs.Entries.{Entries}
-use Rattle.rules.specs.Calls.{Call, reset, enterExporter, removeExporter, enterObject, enterInterface, add, release, dropClient, countList, simplePing, complexPing, clock, resolve, resolveFiltered, census, members, nextStop, writeSnapshot, loadSnapshot, Reply}
+use Rattle.rules.specs.Calls.{Call, starting, looking, editing, reset, enterExporter, removeExporter, enterObject, enterInterface, add, release, dropClient, countList, simplePing, complexPing, clock, resolve, resolveFiltered, census, members, nextStop, writeSnapshot, loadSnapshot, Reply}
 use Rattle.rules.specs.Sound.{sound}
 use Rattle.rules.specs.Rules.{refusals, number, next, results, refusedReply, acceptedReply, reply, releaseValues, clockValues}
 use Rattle.rules.specs.Contract as contract
@@ -125,25 +125,11 @@ run-follows (call {c} {r} {cs} {rs} {m} {m′} p t) h f =
 -- what a call that begins a history leaves and answers does not depend on the entries before it
 begins-alike : (c : Call) → begins c ≡ true → (e f : Entries) → (next c e ≡ next c f) × (reply c e ≡ reply c f)
 unfolding next reply number refusals order acceptedReply results refusedReply
-begins-alike (reset t) b e f = (refl, refl)
-begins-alike (enterExporter x u l) b e f = absurd (true≢false (sym b))
-begins-alike (removeExporter x) b e f = absurd (true≢false (sym b))
-begins-alike (enterObject o x i iid n np) b e f = absurd (true≢false (sym b))
-begins-alike (enterInterface o i iid n) b e f = absurd (true≢false (sym b))
-begins-alike (add c i p q) b e f = absurd (true≢false (sym b))
-begins-alike (release c i p q) b e f = absurd (true≢false (sym b))
-begins-alike (dropClient c) b e f = absurd (true≢false (sym b))
+begins-alike (starting (reset t)) b e f = (refl, refl)
+begins-alike (starting (loadSnapshot s)) b e f = (refl, refl)
+begins-alike (looking l) b e f = absurd (true≢false (sym b))
+begins-alike (editing c) b e f = absurd (true≢false (sym b))
 begins-alike (countList w c s l) b e f = absurd (true≢false (sym b))
-begins-alike (simplePing s) b e f = absurd (true≢false (sym b))
-begins-alike (complexPing s n adds dels) b e f = absurd (true≢false (sym b))
-begins-alike (clock t) b e f = absurd (true≢false (sym b))
-begins-alike (resolve x buffer) b e f = absurd (true≢false (sym b))
-begins-alike (resolveFiltered x protocols buffer) b e f = absurd (true≢false (sym b))
-begins-alike census b e f = absurd (true≢false (sym b))
-begins-alike (members s) b e f = absurd (true≢false (sym b))
-begins-alike (nextStop r) b e f = absurd (true≢false (sym b))
-begins-alike (writeSnapshot buffer) b e f = absurd (true≢false (sym b))
-begins-alike (loadSnapshot s) b e f = (refl, refl)
 
 module _ (c : Call) (m m′ : Memory) (r : Reply) (p : Performed c m r m′) (b : begins c ≡ true) (z : r .number ≡ 0) where
   -- it is answered as on no history
@@ -174,16 +160,16 @@ begun-follows {c} {cs} {r} {rs} {m} b z (call {m′ = m₁} p t) =
     let n = run-follows t (feed unbegun c) (first-follows c m m₁ r p b z) in
     (n .0, λ u. first-reply c m m₁ r p b z u ∷ n .1 u)
 
-release-told : (c : ℕ) (i : Guid) (p q : ℕ) (m m′ : Memory) (r : Reply) (h : History) → Performed (release c i p q) m r m′ → Follows m h → r .number ≡ 0
-    → r .values ≡ releaseValues c i p q (live h) (live (feed h (release c i p q)))
+release-told : (c : ℕ) (i : Guid) (p q : ℕ) (m m′ : Memory) (r : Reply) (h : History) → Performed (editing (release c i p q)) m r m′ → Follows m h → r .number ≡ 0
+    → r .values ≡ releaseValues c i p q (live h) (live (feed h (editing (release c i p q))))
 unfolding results
 release-told c i p q m m′ r h a f z =
-    told (release c i p q) m m′ r h a f z ∙ ap (releaseValues c i p q (live h)) (after-live (release c i p q) m m′ r h a f z)
+    told (editing (release c i p q)) m m′ r h a f z ∙ ap (releaseValues c i p q (live h)) (after-live (editing (release c i p q)) m m′ r h a f z)
 
-clock-told : (t : ℕ) (m m′ : Memory) (r : Reply) (h : History) → Performed (clock t) m r m′ → Follows m h → r .number ≡ 0
-    → r .values ≡ clockValues (live h) (live (feed h (clock t)))
+clock-told : (t : ℕ) (m m′ : Memory) (r : Reply) (h : History) → Performed (editing (clock t)) m r m′ → Follows m h → r .number ≡ 0
+    → r .values ≡ clockValues (live h) (live (feed h (editing (clock t))))
 unfolding results
-clock-told t m m′ r h a f z = told (clock t) m m′ r h a f z ∙ ap (clockValues (live h)) (after-live (clock t) m m′ r h a f z)
+clock-told t m m′ r h a f z = told (editing (clock t)) m m′ r h a f z ∙ ap (clockValues (live h)) (after-live (editing (clock t)) m m′ r h a f z)
 
 -- demand 3
 pub whole-run : WholeRun

@@ -10,7 +10,7 @@ use lib.Seq.{take-at}
 use Rattle.kinds.specs.Refusals.{order}
 use Rattle.lists.proofs.Tests.{true-or-false}
 use Rattle.rules.specs.Entries.{Entries}
-use Rattle.rules.specs.Calls.{Reply, writeSnapshot, loadSnapshot}
+use Rattle.rules.specs.Calls.{starting, looking, Reply, writeSnapshot, loadSnapshot}
 use Rattle.rules.specs.Sound.{sound}
 use Rattle.rules.specs.Snapshot.{snapshotBytes, entriesOf, isSnapshot}
 use Rattle.rules.specs.Rules.{number, refusals, next, results, acceptedReply, reply, refusedReply}
@@ -28,14 +28,14 @@ use Rattle.history.proofs.Runs.{fit-reply, accepted-fits, accepted-repl
 abbrev numberBy : Bool → ℕ
 numberBy b = cond b 0 23
 
-load-number : (s : List ℕ) (e : Entries) → number (loadSnapshot s) e ≡ numberBy (isSnapshot s)
+load-number : (s : List ℕ) (e : Entries) → number (starting (loadSnapshot s)) e ≡ numberBy (isSnapshot s)
 unfolding number refusals order
 load-number s e = ⊎-elim (λ t. rw t refl) (λ f. rw f refl) (true-or-false (isSnapshot s))
 
-module _ (s : List ℕ) (m m′ : Memory) (r : Reply) (w : Whole (m .words)) (b : Whole (m .store)) (p : Performed (loadSnapshot s) m r m′) where
+module _ (s : List ℕ) (m m′ : Memory) (r : Reply) (w : Whole (m .words)) (b : Whole (m .store)) (p : Performed (starting (loadSnapshot s)) m r m′) where
   answered-number : r .number ≡ numberBy (isSnapshot s)
   answered-number =
-      cc (p .answered, fit-reply (loadSnapshot s) m (fit-lengths view (loadSnapshot s) m refl w b), reply-number (loadSnapshot s) (view m), load-number s (view m))
+      cc (p .answered, fit-reply (starting (loadSnapshot s)) m (fit-lengths view (starting (loadSnapshot s)) m refl w b), reply-number (starting (loadSnapshot s)) (view m), load-number s (view m))
 
   -- the entries that an accepted load leaves
   left : r .number ≡ 0 → view m′ ≡ entriesOf s
@@ -62,22 +62,22 @@ loads-exactly s m m′ r w b p =
 -- ---- what is written
 
 -- what a write answers depends on the snapshot alone
-write-alike : (b : List ℕ) (e f : Entries) → snapshotBytes e ≡ snapshotBytes f → reply (writeSnapshot b) e ≡ reply (writeSnapshot b) f
+write-alike : (b : List ℕ) (e f : Entries) → snapshotBytes e ≡ snapshotBytes f → reply (looking (writeSnapshot b)) e ≡ reply (looking (writeSnapshot b)) f
 unfolding reply number refusals results acceptedReply refusedReply
 write-alike b e f q = rw q
 
 -- an accepted write is of the snapshot
-written-front : (b : List ℕ) (e : Entries) (w : Reply) → w ≡ reply (writeSnapshot b) e → w .number ≡ 0 → writtenIn w ≡ snapshotBytes e
+written-front : (b : List ℕ) (e : Entries) (w : Reply) → w ≡ reply (looking (writeSnapshot b)) e → w .number ≡ 0 → writtenIn w ≡ snapshotBytes e
 unfolding reply results acceptedReply
 written-front b e w a z =
-    let n : number (writeSnapshot b) e ≡ 0 = sym (reply-number (writeSnapshot b) e) ∙ sym (ap (λ (q : Reply). q .number) a) ∙ z in
-    let d : w ≡ acceptedReply (writeSnapshot b) e = a ∙ rw n in
+    let n : number (looking (writeSnapshot b)) e ≡ 0 = sym (reply-number (looking (writeSnapshot b)) e) ∙ sym (ap (λ (q : Reply). q .number) a) ∙ z in
+    let d : w ≡ acceptedReply (looking (writeSnapshot b)) e = a ∙ rw n in
     ap writtenIn d ∙ take-at (snapshotBytes e) (drop (length (snapshotBytes e)) b) (length (snapshotBytes e)) refl
 
 pub boxes-swap : BoxesSwap
 boxes-swap b m m′ n n′ w r l p z ww ws q =
-    let t : soundMemory m ≡ true = sym (fit-sound view (writeSnapshot b) m refl) ∙ accepted-fits (writeSnapshot b) m m′ w p z in
-    let a = accepted-reply (writeSnapshot b) m m′ w p z in
+    let t : soundMemory m ≡ true = sym (fit-sound view (looking (writeSnapshot b)) m refl) ∙ accepted-fits (looking (writeSnapshot b)) m m′ w p z in
+    let a = accepted-reply (looking (writeSnapshot b)) m m′ w p z in
     let x = written-front b (view m) w a z in
     let c = swaps (view m) (table-fields view m t .entries) (view-fits m l) in
     let y = answered-number (writtenIn w) n n′ r ww ws q ∙ ap (λ (s : List ℕ). numberBy (isSnapshot s)) x ∙ ap numberBy (c .accepted) in
@@ -87,7 +87,7 @@ boxes-swap b m m′ n n′ w r l p z ww ws q =
       entries = v;
       again = λ w′ k g.
           g .answered
-          ∙ replied (writeSnapshot b) n′ (q .soundAfter y)
+          ∙ replied (looking (writeSnapshot b)) n′ (q .soundAfter y)
           ∙ write-alike b (view n′) (view m) (ap snapshotBytes v ∙ c .again)
           ∙ sym a;
     }

@@ -9,8 +9,9 @@ use Rattle.kinds.specs.declared.Guid.{Guid}
 use Rattle.lists.specs.Lists.{keep, some, every, firstOr, firstIndex, tabulate, among, holding}
 use Rattle.lists.specs.Guids.{nil, sameGuid}
 use Rattle.rules.specs.Entries.{Exporter, Object, Interface, PingSet, Entries, fresh, oxids, oids}
-use Rattle.rules.specs.Calls.{Call, Counting, adding, releasing, reset, enterExporter, removeExporter, enterObject, enterInterface, add, release, dropClient, countList, simplePing, complexPing, clock, resolve, resolveFiltered, census, members, nextStop, writeSnapshot, loadSnapshot, Reply}
+use Rattle.rules.specs.Calls.{Call, starting, looking, editing, Counting, adding, releasing, reset, enterExporter, removeExporter, enterObject, enterInterface, add, release, dropClient, countList, simplePing, complexPing, clock, resolve, resolveFiltered, census, members, nextStop, writeSnapshot, loadSnapshot, Reply}
 use Rattle.rules.specs.Items.{Item, itemsOf, itemCall}
+use Rattle.rules.specs.Contract.{lengthsOnly}
 use Rattle.rules.specs.Snapshot.{entriesOf}
 use Rattle.rules.specs.Rules.{noExporter, noObject, number, reply, anyIpid}
 
@@ -99,25 +100,7 @@ begin e =
 
 -- a call that begins the history anew where it is accepted: what it leaves does not depend on what was before
 abbrev pub begins : Call → Bool
-begins (reset t) = true
-begins (enterExporter x u b) = false
-begins (removeExporter x) = false
-begins (enterObject o x i iid n np) = false
-begins (enterInterface o i iid n) = false
-begins (add c i p q) = false
-begins (release c i p q) = false
-begins (dropClient c) = false
-begins (countList w c s b) = false
-begins (simplePing s) = false
-begins (complexPing s n adds dels) = false
-begins (clock t) = false
-begins (resolve x buffer) = false
-begins (resolveFiltered x protocols buffer) = false
-begins census = false
-begins (members s) = false
-begins (nextStop r) = false
-begins (writeSnapshot buffer) = false
-begins (loadSnapshot s) = true
+begins c = lengthsOnly c
 
 -- ---- what has gone
 
@@ -313,34 +296,29 @@ itemsFed w c [] h = h
 itemsFed w c (t ∷ ts) h = itemsFed w c ts (itemFed w c t h)
 
 unfoldable pub lived : Call → History → History
-lived (reset t) h = begin (fresh t)
-lived (enterExporter x u b) h =
+lived (starting (reset t)) h = begin (fresh t)
+lived (editing (enterExporter x u b)) h =
     withExporterLives (h .exporters ++ (record { serial = length (h .exporters); oxid = x; unknown = u; bindings = b; removed = false } ∷ [])) h
-lived (removeExporter x) h =
+lived (editing (removeExporter x)) h =
     withExporterLives (map (λ (p : ExporterLife). cond (eqb x (p .oxid)) (removedLife p) p) (h .exporters)) h
-lived (enterObject o x i iid n np) h =
+lived (editing (enterObject o x i iid n np)) h =
     let k : ℕ = length (h .objects) in
     withObjectLives (h .objects ++ (record { serial = k; oid = o; exporter = exporterSerial h x; noping = np; heard = h .clock } ∷ []))
     (withInterfaceLives (h .interfaces ++ (enteredInterface i iid k n ∷ [])) h)
-lived (enterInterface o i iid n) h = withInterfaceLives (h .interfaces ++ (enteredInterface i iid (objectSerial h o) n ∷ [])) h
-lived (add c i p q) h = countLived adding c i p q h
-lived (release c i p q) h = countLived releasing c i p q h
+lived (editing (enterInterface o i iid n)) h = withInterfaceLives (h .interfaces ++ (enteredInterface i iid (objectSerial h o) n ∷ [])) h
+lived (editing (add c i p q)) h = countLived adding c i p q h
+lived (editing (release c i p q)) h = countLived releasing c i p q h
 -- a client's drop takes all that is left of its private counts
-lived (dropClient c) h = atLiveInterfaces anyIpid (atAccount (suc c) takingAll) h
+lived (editing (dropClient c)) h = atLiveInterfaces anyIpid (atAccount (suc c) takingAll) h
 lived (countList w c s b) h = itemsFed w c (itemsOf s) h
-lived (simplePing s) h = pingLives s h
-lived (complexPing s n adds dels) h =
+lived (editing (simplePing s)) h = pingLives s h
+lived (editing (complexPing s n adds dels)) h =
     let k : ℕ = cond (eqb s 0) (h .next) s in
     pingLives k (atLiveSet k (changed n (objectSerials h adds) (objectSerials h dels)) (cond (eqb s 0) (startSet h) h))
-lived (clock t) h = atClock t h
-lived (resolve x buffer) h = h
-lived (resolveFiltered x protocols buffer) h = h
-lived census h = h
-lived (members s) h = h
-lived (nextStop r) h = h
-lived (writeSnapshot buffer) h = h
+lived (editing (clock t)) h = atClock t h
+lived (looking l) h = h
 -- what the snapshot holds is entered with the load
-lived (loadSnapshot s) h = begin (entriesOf s)
+lived (starting (loadSnapshot s)) h = begin (entriesOf s)
 
 -- a call is accepted exactly where its rules, read on the history's own live entries, refuse nothing
 unfoldable pub feed : History → Call → History

@@ -11,7 +11,7 @@ use Rattle.bindings.specs.Bindings.{joined}
 use Rattle.lists.specs.Lists.{keep, every, distinct, some, tabulate}
 use Rattle.lists.specs.Guids.{sameGuid}
 use Rattle.rules.specs.Entries.{Exporter, Object, Interface, PingSet, Entries, fresh, oxids, oids, setNumbers, ipids, Ordered, countOf, exporterPlaces, objectPlaces, interfacePlaces, setPlaces}
-use Rattle.rules.specs.Calls.{Call, reset, enterExporter, removeExporter, enterObject, enterInterface, add, release, dropClient, countList, simplePing, complexPing, clock, resolve, resolveFiltered, census, members, nextStop, writeSnapshot, loadSnapshot, Reply}
+use Rattle.rules.specs.Calls.{Call, starting, looking, editing, reset, enterExporter, removeExporter, enterObject, enterInterface, add, release, dropClient, countList, simplePing, complexPing, clock, resolve, resolveFiltered, census, members, nextStop, writeSnapshot, loadSnapshot, Reply}
 use Rattle.rules.specs.Items.{itemAt, itemCount, itemCall}
 use Rattle.rules.specs.Sound.{sound}
 use Rattle.rules.specs.Rules.{isLiveExporter, isLiveObject, interfaceOf, refusals, number, releaseValues, clockValues}
@@ -76,25 +76,19 @@ together xs new = joined (map (λ (x : Exporter). x .bindings) xs) ++ new
 
 -- a kind that the call needs has as many live entries as places; or the live lists and an exporter's together pass the store's bytes
 unfoldable pub needsFullKind : Call → Entries → Bool
-needsFullKind (reset t) e = false
-needsFullKind (enterExporter x u b) e = eqb (length (e .exporters)) exporterPlaces || ltb 8192 (length (together (e .exporters) b))
-needsFullKind (removeExporter x) e = false
-needsFullKind (enterObject o x i iid n np) e = eqb (length (e .objects)) objectPlaces || eqb (length (e .interfaces)) interfacePlaces
-needsFullKind (enterInterface o i iid n) e = eqb (length (e .interfaces)) interfacePlaces
-needsFullKind (add c i p q) e = false
-needsFullKind (release c i p q) e = false
-needsFullKind (dropClient c) e = false
+needsFullKind (editing (enterExporter x u b)) e = eqb (length (e .exporters)) exporterPlaces || ltb 8192 (length (together (e .exporters) b))
+needsFullKind (editing (removeExporter x)) e = false
+needsFullKind (editing (enterObject o x i iid n np)) e = eqb (length (e .objects)) objectPlaces || eqb (length (e .interfaces)) interfacePlaces
+needsFullKind (editing (enterInterface o i iid n)) e = eqb (length (e .interfaces)) interfacePlaces
+needsFullKind (editing (add c i p q)) e = false
+needsFullKind (editing (release c i p q)) e = false
+needsFullKind (editing (dropClient c)) e = false
 needsFullKind (countList w c s b) e = false
-needsFullKind (simplePing s) e = false
-needsFullKind (complexPing s n adds dels) e = eqb s 0 && eqb (length (e .sets)) setPlaces
-needsFullKind (clock t) e = false
-needsFullKind (resolve x buffer) e = false
-needsFullKind (resolveFiltered x protocols buffer) e = false
-needsFullKind census e = false
-needsFullKind (members s) e = false
-needsFullKind (nextStop r) e = false
-needsFullKind (writeSnapshot buffer) e = false
-needsFullKind (loadSnapshot s) e = false
+needsFullKind (editing (simplePing s)) e = false
+needsFullKind (editing (complexPing s n adds dels)) e = eqb s 0 && eqb (length (e .sets)) setPlaces
+needsFullKind (editing (clock t)) e = false
+needsFullKind (looking l) e = false
+needsFullKind (starting s) e = false
 
 -- a call that is answered by n: room is refused, once nothing earlier in the call's order refuses, exactly when a kind it needs has as
 -- many live entries as places, for an exporter also when the live lists and the new one together pass 8,192 bytes (document 02, request 12)
@@ -118,28 +112,13 @@ once c r = record { call = c; number = r .number } ∷ []
 
 -- each item of an accepted list counts as a call of its own, with its byte for answer; every other call counts once
 unfoldable pub answered : Call → Reply → List Answered
-answered (reset t) r = once (reset t) r
-answered (enterExporter x u b) r = once (enterExporter x u b) r
-answered (removeExporter x) r = once (removeExporter x) r
-answered (enterObject o x i iid n np) r = once (enterObject o x i iid n np) r
-answered (enterInterface o i iid n) r = once (enterInterface o i iid n) r
-answered (add c i p q) r = once (add c i p q) r
-answered (release c i p q) r = once (release c i p q) r
-answered (dropClient c) r = once (dropClient c) r
+answered (starting s) r = once (starting s) r
+answered (looking l) r = once (looking l) r
+answered (editing c) r = once (editing c) r
 answered (countList w c s b) r =
     cond (eqb (r .number) 0)
     (tabulate (itemCount s) (λ k. record { call = itemCall w c (itemAt s k); number = getD (r .buffer) k 0 }))
     (once (countList w c s b) r)
-answered (simplePing s) r = once (simplePing s) r
-answered (complexPing s n adds dels) r = once (complexPing s n adds dels) r
-answered (clock t) r = once (clock t) r
-answered (resolve x buffer) r = once (resolve x buffer) r
-answered (resolveFiltered x protocols buffer) r = once (resolveFiltered x protocols buffer) r
-answered census r = once census r
-answered (members s) r = once (members s) r
-answered (nextStop s) r = once (nextStop s) r
-answered (writeSnapshot buffer) r = once (writeSnapshot buffer) r
-answered (loadSnapshot s) r = once (loadSnapshot s) r
 
 -- of a run's calls with their replies
 unfoldable pub answeredAll : List Call → List Reply → List Answered
@@ -186,10 +165,10 @@ pub record AfterRun (cs : List Call) (rs : List Reply) (m : Memory) : Type 0 whe
   -- what had gone after the first calls has gone, where none of the later ones is an accepted reset or load
   pub stays : (firsts laters : List Call) → cs ≡ firsts ++ laters → noneBegins (historyOf firsts) laters ≡ true → staysGone (historyOf firsts) (historyOf cs) ≡ true
   -- what an accepted release and clock tell is so of the history's own live entries before and after them
-  pub released : (c : ℕ) (i : Guid) (p q : ℕ) (r : Reply) (m′ : Memory) → Performed (release c i p q) m r m′ → r .number ≡ 0
-      → r .values ≡ releaseValues c i p q (live (historyOf cs)) (live (feed (historyOf cs) (release c i p q)))
-  pub expired : (t : ℕ) (r : Reply) (m′ : Memory) → Performed (clock t) m r m′ → r .number ≡ 0
-      → r .values ≡ clockValues (live (historyOf cs)) (live (feed (historyOf cs) (clock t)))
+  pub released : (c : ℕ) (i : Guid) (p q : ℕ) (r : Reply) (m′ : Memory) → Performed (editing (release c i p q)) m r m′ → r .number ≡ 0
+      → r .values ≡ releaseValues c i p q (live (historyOf cs)) (live (feed (historyOf cs) (editing (release c i p q))))
+  pub expired : (t : ℕ) (r : Reply) (m′ : Memory) → Performed (editing (clock t)) m r m′ → r .number ≡ 0
+      → r .values ≡ clockValues (live (historyOf cs)) (live (feed (historyOf cs) (editing (clock t))))
   -- of the answer of whatever call is performed next
   pub room : (c : Call) (r : Reply) (m′ : Memory) → Performed c m r m′ → roomExactly (r .number) c (view m) ≡ true
 

@@ -5,7 +5,7 @@ use mathlib.Core.Bool.{true}
 use mathlib.Core.List.{List}
 use mathlib.Core.Logic.{_⊎_}
 use lib.ListN.{getD, take}
-use Rattle.rules.specs.Calls.{Reply, writeSnapshot, loadSnapshot}
+use Rattle.rules.specs.Calls.{starting, looking, Reply, writeSnapshot, loadSnapshot}
 use Rattle.rules.specs.Snapshot.{sorted, snapshotBytes}
 use Rattle.rules.specs.Contract.{Memory, Whole}
 use Rattle.table.specs.View.{view, soundMemory, Performed}
@@ -24,7 +24,7 @@ LoadsExactly =
     (s : List ℕ) (m m′ : Memory) (r : Reply)
     → Whole (m .words)
     → Whole (m .store)
-    → Performed (loadSnapshot s) m r m′
+    → Performed (starting (loadSnapshot s)) m r m′
     → Loaded s r m′
 
 -- the bytes that an accepted write answers the length of, at the front of its buffer
@@ -37,15 +37,15 @@ pub record BoxSwapped (b : List ℕ) (m : Memory) (w r : Reply) (n : Memory) : T
   -- the same entries, in the order of the snapshot
   pub entries : view n ≡ sorted (view m)
   -- writing them again answers the same and gives the same bytes
-  pub again : (w′ : Reply) (n′ : Memory) → Performed (writeSnapshot b) n w′ n′ → w′ ≡ w
+  pub again : (w′ : Reply) (n′ : Memory) → Performed (looking (writeSnapshot b)) n w′ n′ → w′ ≡ w
 
 abbrev pub BoxesSwap : Type 0
 BoxesSwap =
     (b : List ℕ) (m m′ n n′ : Memory) (w r : Reply)
     → Lent m
-    → Performed (writeSnapshot b) m w m′
+    → Performed (looking (writeSnapshot b)) m w m′
     → w .number ≡ 0
     → Whole (n .words)
     → Whole (n .store)
-    → Performed (loadSnapshot (writtenIn w)) n r n′
+    → Performed (starting (loadSnapshot (writtenIn w))) n r n′
     → BoxSwapped b m w r n′

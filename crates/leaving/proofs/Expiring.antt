@@ -9,7 +9,7 @@ use lib.ListN.{length, getD, length-map}
 use Rattle.kinds.specs.Refusals.{order}
 use Rattle.lists.proofs.Lists.{every-kept, length-keep}
 use Rattle.rules.specs.Entries.{Entries, oids, withClock}
-use Rattle.rules.specs.Calls.{Call}
+use Rattle.rules.specs.Calls.{Call, Edit}
 use Rattle.rules.specs.Sound.{proper, setMembersLive, heardWithin, pingedWithin}
 use Rattle.rules.specs.Rules.{refusals, number, next, results, refusedReply, acceptedReply, clockValues}
 use Rattle.rules.proofs.SoundLaws.{sound-fields}
@@ -27,10 +27,10 @@ module _ (ws s : List ℕ) (t : ℕ) (h : SoundTable (memory ws s)) where
   before = view (memory ws s)
 
   -- the clock would go back
-  pub clock-back : ltb t (getD ws 0 0) ≡ true → Stepped (Call.clock t) (memory ws s) (clockReply (record { answer = 2; exporters = 0; objects = 0; interfaces = 0; sets = 0 })) (memory ws s)
+  pub clock-back : ltb t (getD ws 0 0) ≡ true → Stepped (Call.editing (Edit.clock t)) (memory ws s) (clockReply (record { answer = 2; exporters = 0; objects = 0; interfaces = 0; sets = 0 })) (memory ws s)
   unfolding refusedReply results number refusals order
   clock-back l =
-      let e : number (Call.clock t) before ≡ 2 = rw l in
+      let e : number (Call.editing (Edit.clock t)) before ≡ 2 = rw l in
       refused-step 2 (sym e) (λ z. omega arith)
 
   -- the sets go, and the clock is set
@@ -54,7 +54,7 @@ module _ (ws s : List ℕ) (t : ℕ) (h : SoundTable (memory ws s)) where
       expired : view (memory ws₃ s) ≡ left
       expired = settles s ∙ ap (withoutLeaving (Unheard t)) (clock-view s)
 
-      all-gone : view (memory ws₃ s) ≡ next (Call.clock t) before
+      all-gone : view (memory ws₃ s) ≡ next (Call.editing (Edit.clock t)) before
       all-gone = expired ∙ sym (clock-next before t)
 
       -- no kind has more entries than before
@@ -74,14 +74,14 @@ module _ (ws s : List ℕ) (t : ℕ) (h : SoundTable (memory ws s)) where
       -- the clock is set, and what went is answered
       pub clock-done : ltb t (getD ws 0 0) ≡ false → (a b c a₃ b₃ c₃ : ℕ)
           → a ≡ objectCount ws → b ≡ interfaceCount ws → c ≡ setCount ws → a₃ ≡ objectCount ws₃ → b₃ ≡ interfaceCount ws₃ → c₃ ≡ setCount ws₃
-          → Stepped (Call.clock t) (memory ws s) (clockReply (record { answer = 0; exporters = 0; objects = a - a₃; interfaces = b - b₃; sets = c - c₃ })) (memory ws₃ s)
+          → Stepped (Call.editing (Edit.clock t)) (memory ws s) (clockReply (record { answer = 0; exporters = 0; objects = a - a₃; interfaces = b - b₃; sets = c - c₃ })) (memory ws₃ s)
       unfolding acceptedReply results number refusals order
       clock-done l a b c a₃ b₃ c₃ ea eb ec ea₃ eb₃ ec₃ =
-          let z : number (Call.clock t) before ≡ 0 = rw l in
+          let z : number (Call.editing (Edit.clock t)) before ≡ 0 = rw l in
           let none = ap (λ (e : Entries). length (e .exporters)) expired in
           let after : Entries = view (memory ws₃ s) in
           let x : length (before .exporters) - length (after .exporters) ≡ 0 = omega arith in
-          subst (λ (vs : List ℕ). Stepped (Call.clock t) (memory ws s) (record { number = 0; values = vs; part = []; buffer = [] }) (memory ws₃ s))
+          subst (λ (vs : List ℕ). Stepped (Call.editing (Edit.clock t)) (memory ws s) (record { number = 0; values = vs; part = []; buffer = [] }) (memory ws₃ s))
           (ap (clockValues before) (sym all-gone)
           ∙ (λ u.
           x u

@@ -5,14 +5,14 @@ use settling::Leaving;
 use table::find;
 ghost use mathlib.Core.Path.{_≡_};
 ghost use Prim.Native.Nat.{_<_};
-ghost use Rattle.rules.specs.Calls.{Call, numbered};
+ghost use Rattle.rules.specs.Calls.{Call, Edit, numbered};
 ghost use Rattle.table.specs.View.{memory, SoundTable, Stepped, Performed};
 ghost use Rattle.leaving.specs.Replies.{clockReply};
 
 // Removes an exporter with its objects, their interfaces and memberships: 0, or 1; 4.
 pub fn remove_exporter<'a>(words: &'a mut [u64], store: &'a mut [u8], oxid: Oxid) -> u32
     ensures { λ r. ⌜
-        Performed (Call.removeExporter (oxid .0)) (memory (now (words .entry)) (now (store .entry)))
+        Performed (Call.editing (Edit.removeExporter (oxid .0))) (memory (now (words .entry)) (now (store .entry)))
         (numbered r) (memory (now (words .exit)) (now (store .exit))) ⌝ }
 {
     if !judge::sound(words, store) {
@@ -25,7 +25,7 @@ pub fn remove_exporter<'a>(words: &'a mut [u64], store: &'a mut [u8], oxid: Oxid
 pub fn remove_exporter_step<'a>(words: &'a mut [u64], store: &'a mut [u8], oxid: Oxid) -> u32
     requires { ⌜ SoundTable (memory (now words) (now store)) ⌝ }
     ensures { λ r. ⌜
-        Stepped (Call.removeExporter (oxid .0)) (memory (now (words .entry)) (now (store .entry)))
+        Stepped (Call.editing (Edit.removeExporter (oxid .0))) (memory (now (words .entry)) (now (store .entry)))
         (numbered r) (memory (now (words .exit)) (now (store .exit))) ⌝ }
 {
     let i = find::exporter_row(words, oxid);
@@ -62,7 +62,7 @@ fn refused(number: u32) -> Expired
 // Sets the clock. Sets and pinged objects that were not heard for 360 seconds or more go: 0, or 1; 2.
 pub fn clock<'a>(words: &'a mut [u64], store: &'a [u8], time: u64) -> Expired
     ensures { λ r. ⌜
-        Performed (Call.clock time) (memory (now (words .entry)) (now (store .entry)))
+        Performed (Call.editing (Edit.clock time)) (memory (now (words .entry)) (now (store .entry)))
         (clockReply r) (memory (now (words .exit)) (now (store .entry))) ⌝ }
 {
     if !judge::sound(words, store) {
@@ -75,7 +75,7 @@ pub fn clock<'a>(words: &'a mut [u64], store: &'a [u8], time: u64) -> Expired
 pub fn clock_step<'a>(words: &'a mut [u64], store: &'a [u8], time: u64) -> Expired
     requires { ⌜ SoundTable (memory (now words) (now store)) ⌝ }
     ensures { λ r. ⌜
-        Stepped (Call.clock time) (memory (now (words .entry)) (now (store .entry)))
+        Stepped (Call.editing (Edit.clock time)) (memory (now (words .entry)) (now (store .entry)))
         (clockReply r) (memory (now (words .exit)) (now (store .entry))) ⌝ }
 {
     if time < find::clock(words) {

@@ -12,7 +12,7 @@ use Rattle.kinds.specs.declared.Guid.{Guid}
 use Rattle.fields.specs.Fields.{field, guidAt}
 use Rattle.lists.proofs.Tests.{same-or-not}
 use Rattle.rules.specs.Entries.{Entries, publicOf, privateOf}
-use Rattle.rules.specs.Calls.{Call, Counting, adding, releasing, Reply}
+use Rattle.rules.specs.Calls.{Call, Edit, Counting, adding, releasing, Reply}
 use Rattle.rules.specs.Items.{Item, itemAt, itemCall}
 use Rattle.rules.specs.Rules.{isLiveInterface, interfaceOf, passesCount, noClient, refusals, number, next}
 use Rattle.rules.specs.Contract.{Memory}
@@ -53,10 +53,10 @@ item-stepped w c t {m} {m′} {x} s p words store =
 -- the item that was read, given back or added
 module _ (c : ℕ) (s : List ℕ) (k : ℕ) {i : Guid} {p q : ℕ} (ipid : i ≡ guidAt s (24 * k)) (public : p ≡ field s (24 * k + 16) 4) (private : q ≡ field s (24 * k + 20) 4)
     {m m′ : Memory} {x : Reply} (t : SoundTable m) (words : length (m′ .words) ≡ 8192) (store : length (m′ .store) ≡ 8192) where
-  pub item-back : (b : Bool) → b ≡ true → Stepped (Call.release c i p q) m x m′ → ItemStepped (wayOf b) c (itemAt s k) m (x .number) m′
+  pub item-back : (b : Bool) → b ≡ true → Stepped (Call.editing (Edit.release c i p q)) m x m′ → ItemStepped (wayOf b) c (itemAt s k) m (x .number) m′
   item-back false h r = absurd (true≢false (sym h))
   item-back true h r = item-stepped releasing c (itemAt s k) t (rw (ipid, public, private) at r) words store
 
-  pub item-added : (b : Bool) → b ≡ false → Stepped (Call.add c i p q) m x m′ → ItemStepped (wayOf b) c (itemAt s k) m (x .number) m′
+  pub item-added : (b : Bool) → b ≡ false → Stepped (Call.editing (Edit.add c i p q)) m x m′ → ItemStepped (wayOf b) c (itemAt s k) m (x .number) m′
   item-added true h r = absurd (true≢false h)
   item-added false h r = item-stepped adding c (itemAt s k) t (rw (ipid, public, private) at r) words store

@@ -20,7 +20,7 @@ use Rattle.bindings.proofs.Filtering.{same-lists}
 use Rattle.lists.proofs.Tests.{true-or-false}
 use Rattle.lists.proofs.Lists.{every-from-at}
 use Rattle.rules.specs.Entries.{Entries}
-use Rattle.rules.specs.Calls.{Call, Reply}
+use Rattle.rules.specs.Calls.{Call, Start, Look, Reply}
 use Rattle.rules.specs.Sound.{sound}
 use Rattle.rules.specs.Rules.{refusals, number, next, results, refusedReply, acceptedReply, reply, fronted}
 use Rattle.rules.specs.Contract.{Memory, Whole, replyTo}
@@ -84,14 +84,14 @@ lent ws store t w b =
     }
 
 -- a buffer that is long enough holds it at the front
-module _ (m : Memory) (t : SoundTable m) (l : Lent m) (b b′ : List ℕ) (r : Written) (size : length b ≡ longestSnapshot) (w : Stepped (Call.writeSnapshot b) m (writtenReply r b′) m) where
+module _ (m : Memory) (t : SoundTable m) (l : Lent m) (b b′ : List ℕ) (r : Written) (size : length b ≡ longestSnapshot) (w : Stepped (Call.looking (Look.writeSnapshot b)) m (writtenReply r b′) m) where
   abbrev bytes : List ℕ
   bytes = snapshotBytes (view m)
 
   fits-in : length bytes ≤ length b
   fits-in = let i = snapshot-inside (view m) (t .entries) (view-fits m l) in omega arith
 
-  answered : writtenReply r b′ ≡ acceptedReply (Call.writeSnapshot b) (view m)
+  answered : writtenReply r b′ ≡ acceptedReply (Call.looking (Look.writeSnapshot b)) (view m)
   unfolding reply number refusals order
   answered = w .answered ∙ rw (le-ltb (length b) (length bytes) fits-in)
 
@@ -162,22 +162,22 @@ module _ (s ws store : List ℕ) (read : Bool) (h : TableRead s read (view (memo
 
 module _ (s : List ℕ) (m : Memory) (w : Whole (m .words)) (b : Whole (m .store)) where
   -- no snapshot
-  pub load-refused : isSnapshot s ≡ false → Performed (Call.loadSnapshot s) m (refusedReply 23 (Call.loadSnapshot s) (view m)) m
+  pub load-refused : isSnapshot s ≡ false → Performed (Call.starting (Start.loadSnapshot s)) m (refusedReply 23 (Call.starting (Start.loadSnapshot s)) (view m)) m
   unfolding replyTo number refusals order
   load-refused f =
-      let st = refused-step view (Call.loadSnapshot s) m 23 (rw f) (omega arith) in
+      let st = refused-step view (Call.starting (Start.loadSnapshot s)) m 23 (rw f) (omega arith) in
       record {
-        answered = st .answered ∙ rw (fit-lengths view (Call.loadSnapshot s) m refl w b);
+        answered = st .answered ∙ rw (fit-lengths view (Call.starting (Start.loadSnapshot s)) m refl w b);
         kept = st .kept;
-        soundAfter = λ z. absurd (omega (arith, sym (refused-number 23 (Call.loadSnapshot s) (view m)) ∙ z));
+        soundAfter = λ z. absurd (omega (arith, sym (refused-number 23 (Call.starting (Start.loadSnapshot s)) (view m)) ∙ z));
         became = st .became;
       }
 
   -- a snapshot, and the words and bytes of a table that it was read into
   pub load-accepted : (ws store : List ℕ) → isSnapshot s ≡ true → Whole ws → Whole store → view (memory ws store) ≡ entriesOf s
-      → Performed (Call.loadSnapshot s) m (acceptedReply (Call.loadSnapshot s) (view m)) (memory ws store)
+      → Performed (Call.starting (Start.loadSnapshot s)) m (acceptedReply (Call.starting (Start.loadSnapshot s)) (view m)) (memory ws store)
   unfolding number refusals order next
   load-accepted ws store t x y v =
-      accepted view (Call.loadSnapshot s) m (memory ws store) (fit-lengths view (Call.loadSnapshot s) m refl w b) (rw t)
+      accepted view (Call.starting (Start.loadSnapshot s)) m (memory ws store) (fit-lengths view (Call.starting (Start.loadSnapshot s)) m refl w b) (rw t)
       (table-made view (memory ws store) (record { words = x; store = y; entries = ap sound v ∙ snapshot-fields s t .sound }))
       v

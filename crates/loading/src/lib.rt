@@ -5,7 +5,7 @@ use snapshot_reader::sections;
 ghost use mathlib.Core.Path.{_≡_};
 ghost use lib.ListN.{length};
 ghost use Rattle.bindings.specs.Bindings.{sameWords};
-ghost use Rattle.rules.specs.Calls.{Call, numbered};
+ghost use Rattle.rules.specs.Calls.{Call, Start, numbered};
 ghost use Rattle.rules.specs.Contract.{Whole};
 ghost use Rattle.rules.specs.Snapshot.{snapshotBytes};
 ghost use Rattle.table.specs.View.{memory, view, SoundTable, Performed};
@@ -68,7 +68,7 @@ fn read_snapshot<'a>(words: &'a mut [u64], store: &'a mut [u8], s: &'a [u8]) -> 
 // Loads a snapshot: 0, or 1 where a length is wrong; 23. What the table held is forgotten. It looks at nothing of it but the lengths.
 pub fn load_snapshot<'a>(words: &'a mut [u64], store: &'a mut [u8], snapshot: &'a [u8]) -> u32
     ensures { λ r. ⌜
-        Performed (Call.loadSnapshot (now (snapshot .entry))) (memory (now (words .entry)) (now (store .entry))) (numbered r)
+        Performed (Call.starting (Start.loadSnapshot (now (snapshot .entry)))) (memory (now (words .entry)) (now (store .entry))) (numbered r)
         (memory (now (words .exit)) (now (store .exit))) ⌝ }
 {
     if words.len() != limits::WORDS {

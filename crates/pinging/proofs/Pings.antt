@@ -18,7 +18,7 @@ use Rattle.lists.proofs.Tests.{true-or-false, and-intro}
 use Rattle.lists.proofs.Lists.{every-snoc}
 use Rattle.columns.proofs.members.Bits.{below-none}
 use Rattle.rules.specs.Entries.{PingSet, Entries, oids, withSets, withSequence, withMembers, setRow, setPlaces}
-use Rattle.rules.specs.Calls.{Call}
+use Rattle.rules.specs.Calls.{Call, Edit}
 use Rattle.rules.specs.Sound.{proper, setMembersLive, sound}
 use Rattle.rules.specs.Rules.{noSet, setOf, isLiveSet, isLiveObject, tooMany, staleSequence, newMembers, refusals, number, next, heardNow}
 use Rattle.rules.proofs.SoundLaws.{sound-fields}
@@ -37,7 +37,7 @@ use Rattle.pinging.proofs.Memberships.{new-members}
 -- ---- refusals
 
 -- of a simple ping
-pub simple-rows : (s : ℕ) (e : Entries) → number (Call.simplePing s) e ≡ order (eqb s 0 gives 11 ∷ not (isLiveSet e s) gives 11 ∷ [])
+pub simple-rows : (s : ℕ) (e : Entries) → number (Call.editing (Edit.simplePing s)) e ≡ order (eqb s 0 gives 11 ∷ not (isLiveSet e s) gives 11 ∷ [])
 unfolding number refusals
 simple-rows s e = two-rows (eqb s 0) (not (isLiveSet e s)) 11 []
 
@@ -50,19 +50,19 @@ module _ (s n : ℕ) (adds dels : List ℕ) (e : Entries) where
   abbrev pub liveRows : List Row
   liveRows = not (isLiveSet e s) gives 11 ∷ staleSequence (setOf e s .sequence) n gives 12 ∷ not (every (isLiveObject e) adds) gives 5 ∷ []
 
-  pub complex-rows : number (Call.complexPing s n adds dels) e ≡ order (tooMany adds gives 10 ∷ tooMany dels gives 10 ∷ cond (eqb s 0) newRows liveRows)
+  pub complex-rows : number (Call.editing (Edit.complexPing s n adds dels)) e ≡ order (tooMany adds gives 10 ∷ tooMany dels gives 10 ∷ cond (eqb s 0) newRows liveRows)
   unfolding number refusals
   complex-rows = two-rows (tooMany adds) (tooMany dels) 10 (cond (eqb s 0) newRows liveRows)
 
   module _ (a : length adds ≤ 65535) (d : length dels ≤ 65535) where
     -- neither list is too long
-    short-rows : number (Call.complexPing s n adds dels) e ≡ order (cond (eqb s 0) newRows liveRows)
+    short-rows : number (Call.editing (Edit.complexPing s n adds dels)) e ≡ order (cond (eqb s 0) newRows liveRows)
     short-rows = row-passes _ _ _ (row-passes _ _ _ complex-rows (le-ltb 65535 (length adds) a)) (le-ltb 65535 (length dels) d)
 
-    pub new-rows : s ≡ 0 → number (Call.complexPing s n adds dels) e ≡ order newRows
+    pub new-rows : s ≡ 0 → number (Call.editing (Edit.complexPing s n adds dels)) e ≡ order newRows
     new-rows z = short-rows ∙ ap (λ (t : Bool). order (cond t newRows liveRows)) (eq-eqb s 0 z)
 
-    pub live-rows : (s ≡ 0 → ⊥) → number (Call.complexPing s n adds dels) e ≡ order liveRows
+    pub live-rows : (s ≡ 0 → ⊥) → number (Call.editing (Edit.complexPing s n adds dels)) e ≡ order liveRows
     live-rows z = short-rows ∙ ap (λ (t : Bool). order (cond t newRows liveRows)) (ne-eqb s 0 z)
 
 -- the sequence number in the row that was found
@@ -109,7 +109,7 @@ row-updated ws ws₁ ws₂ s i n adds dels m a r h held p l joins leaves put cou
 
 -- ---- a complex ping that is accepted
 
-module _ (s n : ℕ) (adds dels : List ℕ) (e : Entries) (sd : sound e ≡ true) (z : number (Call.complexPing s n adds dels) e ≡ 0) where
+module _ (s n : ℕ) (adds dels : List ℕ) (e : Entries) (sd : sound e ≡ true) (z : number (Call.editing (Edit.complexPing s n adds dels)) e ≡ 0) where
   -- no row of the set that it is about refuses it
   rest-passed : order (cond (eqb s 0) (newRows s n adds dels e) (liveRows s n adds dels e)) ≡ 0
   rest-passed = passed (tooMany dels) 10 _ (omega arith) (passed (tooMany adds) 10 _ (omega arith) (sym (complex-rows s n adds dels e) ∙ z) .1) .1
@@ -150,7 +150,7 @@ module _ (s n : ℕ) (adds dels : List ℕ) (e : Entries) (sd : sound e ≡ true
       (true-or-false (eqb s 0))
 
   -- the set is updated and pinged
-  meant-next : pingedRow (pingSetRow s e) (updatedRow (pingSetRow s e) n adds dels (withPingSet s e)) ≡ next (Call.complexPing s n adds dels) e
+  meant-next : pingedRow (pingSetRow s e) (updatedRow (pingSetRow s e) n adds dels (withPingSet s e)) ≡ next (Call.editing (Edit.complexPing s n adds dels)) e
   meant-next =
       ⊎-elim
       (λ (t : eqb s 0 ≡ true). rw t (sym (complex-ping-new e sd s n adds dels t)))
@@ -178,7 +178,7 @@ module _ (s n : ℕ) (adds dels : List ℕ) (e : Entries) (sd : sound e ≡ true
           (omega arith, ap (λ (f : Entries). proper (oids f)) (updates st) ∙ update-asked .1)
 
       -- the entries are those of the rules
-      pub pinged-next : (ws₃ : List ℕ) → Became (pingedRow i) ws₂ ws₃ → view (memory ws₃ st) ≡ next (Call.complexPing s n adds dels) e
+      pub pinged-next : (ws₃ : List ℕ) → Became (pingedRow i) ws₂ ws₃ → view (memory ws₃ st) ≡ next (Call.editing (Edit.complexPing s n adds dels)) e
       pinged-next ws₃ pings =
           pings st
           ∙ ap (pingedRow i) (updates st ∙ ap (updatedRow i n adds dels) meant)

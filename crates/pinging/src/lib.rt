@@ -13,7 +13,7 @@ ghost use Prim.Native.Nat.{_-_, _^_, _<_};
 ghost use Rattle.rules.specs.Entries.{oids, setPlaces};
 ghost use Rattle.rules.specs.Sound.{proper};
 ghost use Rattle.rules.specs.Rules.{staleSequence, pingSetNumber, number, heardNow};
-ghost use Rattle.rules.specs.Calls.{Call, numbered};
+ghost use Rattle.rules.specs.Calls.{Call, Edit, numbered};
 ghost use Rattle.rules.specs.PingRows.{pingedRow, updatedRow};
 ghost use Rattle.table.specs.View.{objectCount, setCount, memory, SoundTable, Stepped, Performed, Holds, oidsOf, membersLiveIn, nextOf, memberValues};
 ghost use Rattle.edit.specs.Edits.{Became};
@@ -61,7 +61,7 @@ fn ping_row(words: &mut [u64], i: usize)
 // Pings a set: 0, or 1; 11.
 pub fn simple_ping<'a>(words: &'a mut [u64], store: &'a [u8], set: SetId) -> u32
     ensures { λ r. ⌜
-        Performed (Call.simplePing (set .0)) (memory (now (words .entry)) (now (store .entry)))
+        Performed (Call.editing (Edit.simplePing (set .0))) (memory (now (words .entry)) (now (store .entry)))
         (numbered r) (memory (now (words .exit)) (now (store .entry))) ⌝ }
 {
     if !judge::sound(words, store) {
@@ -74,7 +74,7 @@ pub fn simple_ping<'a>(words: &'a mut [u64], store: &'a [u8], set: SetId) -> u32
 pub fn simple_ping_step<'a>(words: &'a mut [u64], store: &'a [u8], set: SetId) -> u32
     requires { ⌜ SoundTable (memory (now words) (now store)) ⌝ }
     ensures { λ r. ⌜
-        Stepped (Call.simplePing (set .0)) (memory (now (words .entry)) (now (store .entry)))
+        Stepped (Call.editing (Edit.simplePing (set .0))) (memory (now (words .entry)) (now (store .entry)))
         (numbered r) (memory (now (words .exit)) (now (store .entry))) ⌝ }
 {
     if set.0 == 0 {
@@ -109,7 +109,7 @@ fn complex_number<'a>(
 ) -> u32
     requires { ⌜ Whole (now words) ⌝ }
     ensures { λ r. ⌜
-        Holds (λ e. r ≡ number (Call.complexPing (set .0) sequence (now (adds .entry)) (now (deletes .entry))) e) (now (words .entry)) ⌝ }
+        Holds (λ e. r ≡ number (Call.editing (Edit.complexPing (set .0) sequence (now (adds .entry)) (now (deletes .entry)))) e) (now (words .entry)) ⌝ }
 {
     if answer::MOST_LISTED < adds.len() {
         return answer::TOO_MANY;
@@ -249,7 +249,7 @@ pub fn complex_ping<'a>(
     deletes: &'a [u64],
 ) -> Pinged
     ensures { λ r. ⌜
-        Performed (Call.complexPing (set .0) sequence (now (adds .entry)) (now (deletes .entry)))
+        Performed (Call.editing (Edit.complexPing (set .0) sequence (now (adds .entry)) (now (deletes .entry))))
         (memory (now (words .entry)) (now (store .entry))) (pingReply r) (memory (now (words .exit)) (now (store .entry))) ⌝ }
 {
     if !judge::sound(words, store) {
@@ -269,7 +269,7 @@ pub fn complex_ping_step<'a>(
 ) -> Pinged
     requires { ⌜ SoundTable (memory (now words) (now store)) ⌝ }
     ensures { λ r. ⌜
-        Stepped (Call.complexPing (set .0) sequence (now (adds .entry)) (now (deletes .entry)))
+        Stepped (Call.editing (Edit.complexPing (set .0) sequence (now (adds .entry)) (now (deletes .entry))))
         (memory (now (words .entry)) (now (store .entry))) (pingReply r) (memory (now (words .exit)) (now (store .entry))) ⌝ }
 {
     let number = complex_number(words, set, sequence, adds, deletes);

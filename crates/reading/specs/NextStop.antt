@@ -9,7 +9,7 @@ use Rattle.bindings.specs.declared.Place.{Place}
 use Rattle.references.specs.References.{tailPlace}
 use Rattle.lists.specs.Lists.{firstIndex}
 use Rattle.rules.specs.Entries.{oxids}
-use Rattle.rules.specs.Calls.{Call, Reply}
+use Rattle.rules.specs.Calls.{Call, Look, Reply}
 use Rattle.rules.specs.Rules.{noExporter, isLiveExporter, oxidOf, flag}
 use Rattle.rules.specs.Contract.{Memory, replyTo}
 use Rattle.table.specs.View.{listStart, exportersOf, view, Performed}
@@ -36,7 +36,7 @@ stopInReference x = record { answer = x .answer; in_store = false; from = x .fro
 -- in the store exactly where nothing is refused and the reference's OXID is live
 unfoldable pub stopPlace : Memory → List ℕ → StopPlace
 stopPlace m reference =
-    let n : ℕ = replyTo view (Call.nextStop reference) m .number in
+    let n : ℕ = replyTo view (Call.looking (Look.nextStop reference)) m .number in
     cond (eqb n 0)
     (cond (isLiveExporter (view m) (oxidOf reference))
     (stopInStore m (firstIndex (eqb (oxidOf reference)) (oxids (view m))))
@@ -63,13 +63,13 @@ placeReply p store reference = stopReply (p .answer) (p .in_store) (take (p .to 
 
 -- p is answered
 pub record StopFound (m : Memory) (reference : List ℕ) (p : StopPlace) : Type 0 where
-  pub performed : Performed (Call.nextStop reference) m (placeReply p (m .store) reference) m
+  pub performed : Performed (Call.looking (Look.nextStop reference)) m (placeReply p (m .store) reference) m
   pub place : p ≡ stopPlace m reference
   pub within : (p .from ≤ p .to) × (p .to ≤ length (stopSource p (m .store) reference))
 
 -- the bytes part are answered, which begin at start
 pub record StopPart (m : Memory) (reference : List ℕ) (storeStart referenceStart start : ℕ × ℕ) (part : List ℕ) : Type 0 where
-  pub bytes : part ≡ replyTo view (Call.nextStop reference) m .part
+  pub bytes : part ≡ replyTo view (Call.looking (Look.nextStop reference)) m .part
   pub begins : start ≡ stopStart (stopPlace m reference) storeStart referenceStart
 
 -- a number and a part that two functions answered are one call, whose reply says of which slice it is a part: of the one in which it
@@ -77,6 +77,6 @@ pub record StopPart (m : Memory) (reference : List ℕ) (storeStart referenceSta
 abbrev pub OneCall : Type 0
 OneCall =
     (m : Memory) (reference : List ℕ) (n : ℕ) (part : List ℕ)
-    → n ≡ replyTo view (Call.nextStop reference) m .number
-    → part ≡ replyTo view (Call.nextStop reference) m .part
-    → Performed (Call.nextStop reference) m (stopReply n (stopPlace m reference .in_store) part) m
+    → n ≡ replyTo view (Call.looking (Look.nextStop reference)) m .number
+    → part ≡ replyTo view (Call.looking (Look.nextStop reference)) m .part
+    → Performed (Call.looking (Look.nextStop reference)) m (stopReply n (stopPlace m reference .in_store) part) m

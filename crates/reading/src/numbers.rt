@@ -2,7 +2,7 @@
 use kinds::SetId;
 use kinds::answer;
 use table::find;
-ghost use Rattle.rules.specs.Calls.{Call};
+ghost use Rattle.rules.specs.Calls.{Call, Look};
 ghost use Rattle.table.specs.View.{memory, SoundTable, Stepped, Performed};
 ghost use Rattle.reading.specs.Replies.{censusReply, membersReply};
 
@@ -26,7 +26,7 @@ pub struct MemberCount {
 // The live number of each kind: 0, or 1.
 pub fn census<'a>(words: &'a [u64], store: &'a [u8]) -> LiveCounts
     ensures { λ r. ⌜
-        Performed Call.census (memory (now (words .entry)) (now (store .entry))) (censusReply r)
+        Performed (Call.looking Look.census) (memory (now (words .entry)) (now (store .entry))) (censusReply r)
         (memory (now (words .entry)) (now (store .entry))) ⌝ }
 {
     if !judge::sound(words, store) {
@@ -45,7 +45,7 @@ pub fn census<'a>(words: &'a [u64], store: &'a [u8]) -> LiveCounts
 pub fn census_step<'a>(words: &'a [u64], store: &'a [u8]) -> LiveCounts
     requires { ⌜ SoundTable (memory (now words) (now store)) ⌝ }
     ensures { λ r. ⌜
-        Stepped Call.census (memory (now (words .entry)) (now (store .entry))) (censusReply r)
+        Stepped (Call.looking Look.census) (memory (now (words .entry)) (now (store .entry))) (censusReply r)
         (memory (now (words .entry)) (now (store .entry))) ⌝ }
 {
     LiveCounts {
@@ -60,7 +60,7 @@ pub fn census_step<'a>(words: &'a [u64], store: &'a [u8]) -> LiveCounts
 // The number of members of a set: 0, or 1; 11.
 pub fn members<'a>(words: &'a [u64], store: &'a [u8], set: SetId) -> MemberCount
     ensures { λ r. ⌜
-        Performed (Call.members (set .0)) (memory (now (words .entry)) (now (store .entry))) (membersReply r)
+        Performed (Call.looking (Look.members (set .0))) (memory (now (words .entry)) (now (store .entry))) (membersReply r)
         (memory (now (words .entry)) (now (store .entry))) ⌝ }
 {
     if !judge::sound(words, store) {
@@ -76,7 +76,7 @@ pub fn members<'a>(words: &'a [u64], store: &'a [u8], set: SetId) -> MemberCount
 pub fn members_step<'a>(words: &'a [u64], store: &'a [u8], set: SetId) -> MemberCount
     requires { ⌜ SoundTable (memory (now words) (now store)) ⌝ }
     ensures { λ r. ⌜
-        Stepped (Call.members (set .0)) (memory (now (words .entry)) (now (store .entry))) (membersReply r)
+        Stepped (Call.looking (Look.members (set .0))) (memory (now (words .entry)) (now (store .entry))) (membersReply r)
         (memory (now (words .entry)) (now (store .entry))) ⌝ }
 {
     let i = find::set_row(words, set);

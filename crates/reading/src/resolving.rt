@@ -5,7 +5,7 @@ use kinds::Oxid;
 use kinds::answer;
 use table::find;
 ghost use mathlib.Core.Path.{_≡_};
-ghost use Rattle.rules.specs.Calls.{Call};
+ghost use Rattle.rules.specs.Calls.{Call, Look};
 ghost use Rattle.table.specs.View.{memory, SoundTable, Stepped, Performed};
 ghost use Rattle.reading.specs.Replies.{resolveReply};
 
@@ -31,7 +31,7 @@ fn refused(number: u32) -> Resolved
 // Writes an exporter's binding list at the front of buffer and keeps the rest: 0, or 1; 4; 15.
 pub fn resolve<'a>(words: &'a [u64], store: &'a [u8], oxid: Oxid, buffer: &'a mut [u8]) -> Resolved
     ensures { λ r. ⌜
-        Performed (Call.resolve (oxid .0) (now (buffer .entry))) (memory (now (words .entry)) (now (store .entry)))
+        Performed (Call.looking (Look.resolve (oxid .0) (now (buffer .entry)))) (memory (now (words .entry)) (now (store .entry)))
         (resolveReply r (now (buffer .exit))) (memory (now (words .entry)) (now (store .entry))) ⌝ }
 {
     if !judge::sound(words, store) {
@@ -49,7 +49,7 @@ pub fn resolve_step<'a>(
 ) -> Resolved
     requires { ⌜ SoundTable (memory (now words) (now store)) ⌝ }
     ensures { λ r. ⌜
-        Stepped (Call.resolve (oxid .0) (now (buffer .entry))) (memory (now (words .entry)) (now (store .entry)))
+        Stepped (Call.looking (Look.resolve (oxid .0) (now (buffer .entry)))) (memory (now (words .entry)) (now (store .entry)))
         (resolveReply r (now (buffer .exit))) (memory (now (words .entry)) (now (store .entry))) ⌝ }
 {
     let i = find::exporter_row(words, oxid);
@@ -78,7 +78,7 @@ pub fn resolve_filtered<'a>(
     buffer: &'a mut [u8],
 ) -> Resolved
     ensures { λ r. ⌜
-        Performed (Call.resolveFiltered (oxid .0) (now (protocols .entry)) (now (buffer .entry))) (memory (now (words .entry)) (now (store .entry)))
+        Performed (Call.looking (Look.resolveFiltered (oxid .0) (now (protocols .entry)) (now (buffer .entry)))) (memory (now (words .entry)) (now (store .entry)))
         (resolveReply r (now (buffer .exit))) (memory (now (words .entry)) (now (store .entry))) ⌝ }
 {
     if !judge::sound(words, store) {
@@ -97,7 +97,7 @@ pub fn resolve_filtered_step<'a>(
 ) -> Resolved
     requires { ⌜ SoundTable (memory (now words) (now store)) ⌝ }
     ensures { λ r. ⌜
-        Stepped (Call.resolveFiltered (oxid .0) (now (protocols .entry)) (now (buffer .entry))) (memory (now (words .entry)) (now (store .entry)))
+        Stepped (Call.looking (Look.resolveFiltered (oxid .0) (now (protocols .entry)) (now (buffer .entry)))) (memory (now (words .entry)) (now (store .entry)))
         (resolveReply r (now (buffer .exit))) (memory (now (words .entry)) (now (store .entry))) ⌝ }
 {
     if answer::MOST_LISTED < protocols.len() {

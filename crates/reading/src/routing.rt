@@ -6,7 +6,7 @@ use table::find;
 ghost use mathlib.Core.Path.{_≡_};
 ghost use mathlib.Core.Bool.{true};
 ghost use Prim.Native.Nat.{_<_};
-ghost use Rattle.rules.specs.Calls.{Call};
+ghost use Rattle.rules.specs.Calls.{Call, Look};
 ghost use Rattle.rules.specs.Sound.{listsKept};
 ghost use Rattle.rules.specs.Contract.{replyTo, Whole};
 ghost use Rattle.table.specs.View.{exporterCount, memory, view, SoundTable};
@@ -94,7 +94,7 @@ pub fn next_stop_step<'a>(words: &'a [u64], store: &'a [u8], reference: &'a [u8]
 // The number of the next stop, as above.
 pub fn next_stop_answer<'a>(words: &'a [u64], store: &'a [u8], reference: &'a [u8]) -> u32
     ensures { λ r. ⌜
-        r ≡ replyTo view (Call.nextStop (now (reference .entry))) (memory (now (words .entry)) (now (store .entry))) .number ⌝ }
+        r ≡ replyTo view (Call.looking (Look.nextStop (now (reference .entry)))) (memory (now (words .entry)) (now (store .entry))) .number ⌝ }
 {
     next_stop_place(words, store, reference).answer
 }

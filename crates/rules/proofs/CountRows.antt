@@ -14,7 +14,7 @@ use Rattle.lists.proofs.Lists.{every-at, every-set, some-map, none-some, every-
 use Rattle.lists.proofs.Distinct.{eqb-decides, some-same-keep-map, entry-change, entry-remove}
 use Rattle.lists.proofs.Guids.{guid-decides}
 use Rattle.rules.specs.Entries.{Object, Interface, Entries, oids, interfaceIpids, withInterfaces, publicOf, privateOf, interfaceRow}
-use Rattle.rules.specs.Calls.{add, release}
+use Rattle.rules.specs.Calls.{editing, add, release}
 use Rattle.rules.specs.Sound.{held, hasInterface, sound}
 use Rattle.rules.specs.Rules.{isLiveObject, isLiveInterface, noInterface, flag, withoutObjects, atInterface, increased, decreased, next, results, releaseValues}
 use Rattle.rules.proofs.Groups.{grouped, serving-objects}
@@ -31,7 +31,7 @@ at-interface-row e i f h u =
 
 -- add changes the counts in the interface's row
 pub add-row : (e : Entries) → sound e ≡ true → (c : ℕ) (i : Guid) (p q : ℕ) → interfaceRow e i < length (e .interfaces)
-    → next (add c i p q) e ≡ withInterfaces (set (e .interfaces) (interfaceRow e i) (increased c p q (interfaceIn e i))) e
+    → next (editing (add c i p q)) e ≡ withInterfaces (set (e .interfaces) (interfaceRow e i) (increased c p q (interfaceIn e i))) e
 unfolding next
 add-row e s c i p q h = at-interface-row e i (increased c p q) h (interfaces-distinct e s)
 
@@ -72,7 +72,7 @@ module _ (e : Entries) (i : Guid) (s : sound e ≡ true) (h : interfaceRow e i <
     lessened-row = ap (λ (f : Entries). f .interfaces) (at-interface-row e i (decreased c p q) h (interfaces-distinct e s))
 
     -- a count is left: the interface keeps its row with what is left
-    pub release-counted : held (lessened e c i p q) ≡ true → next (release c i p q) e ≡ withLessened e c i p q
+    pub release-counted : held (lessened e c i p q) ≡ true → next (editing (release c i p q)) e ≡ withLessened e c i p q
     unfolding next
     release-counted t =
         let g = grouped e s .interfaces in
@@ -89,7 +89,7 @@ module _ (e : Entries) (i : Guid) (s : sound e ≡ true) (h : interfaceRow e i <
         (grouped e s .sets .named)
 
     -- none is left: the interface goes, and its object where no interface that is left is of it
-    pub release-empty : held (lessened e c i p q) ≡ false → next (release c i p q) e ≡ withoutObjects (hasInterface (withoutInterface e i)) (withoutInterface e i)
+    pub release-empty : held (lessened e c i p q) ≡ false → next (editing (release c i p q)) e ≡ withoutObjects (hasInterface (withoutInterface e i)) (withoutInterface e i)
     unfolding next
     release-empty f =
         ap (λ (l : List Interface). served (keep held l) e) lessened-row
@@ -97,8 +97,8 @@ module _ (e : Entries) (i : Guid) (s : sound e ≡ true) (h : interfaceRow e i <
         (keep-set held (interfaceRow e i) (e .interfaces) (lessened e c i p q) h f (grouped e s .interfaces .counted))
 
     -- what is answered, by what is live afterwards
-    values-from : (after : Entries) (b d : Bool) → next (release c i p q) e ≡ after → isLiveInterface after i ≡ b → isLiveObject after (interfaceIn e i .object) ≡ d
-        → results (release c i p q) e .values ≡ min p (publicOf (interfaceIn e i)) ∷ min q (privateOf c (interfaceIn e i)) ∷ flag (not b) ∷ flag (not d) ∷ []
+    values-from : (after : Entries) (b d : Bool) → next (editing (release c i p q)) e ≡ after → isLiveInterface after i ≡ b → isLiveObject after (interfaceIn e i .object) ≡ d
+        → results (editing (release c i p q)) e .values ≡ min p (publicOf (interfaceIn e i)) ∷ min q (privateOf c (interfaceIn e i)) ∷ flag (not b) ∷ flag (not d) ∷ []
     unfolding results
     values-from after b d n v w =
         ap (releaseValues c i p q e) n
@@ -109,7 +109,7 @@ module _ (e : Entries) (i : Guid) (s : sound e ≡ true) (h : interfaceRow e i <
 
     -- a count is left: neither interface nor object went
     pub counted-values : held (lessened e c i p q) ≡ true
-        → results (release c i p q) e .values ≡ min p (publicOf (interfaceIn e i)) ∷ min q (privateOf c (interfaceIn e i)) ∷ 0 ∷ 0 ∷ []
+        → results (editing (release c i p q)) e .values ≡ min p (publicOf (interfaceIn e i)) ∷ min q (privateOf c (interfaceIn e i)) ∷ 0 ∷ 0 ∷ []
     counted-values t =
         values-from (withLessened e c i p q) true true (release-counted t)
         (ap (some (sameGuid i)) (map-set-same (λ (r : Interface). r .ipid) (e .interfaces) (interfaceRow e i) (lessened e c i p q) noInterface refl)
@@ -119,7 +119,7 @@ module _ (e : Entries) (i : Guid) (s : sound e ≡ true) (h : interfaceRow e i <
 
     -- none is left: the interface went, and the object where no interface that is left is of it
     pub empty-values : held (lessened e c i p q) ≡ false
-        → results (release c i p q) e .values
+        → results (editing (release c i p q)) e .values
         ≡ min p (publicOf (interfaceIn e i)) ∷ min q (privateOf c (interfaceIn e i)) ∷ 1 ∷ flag (not (stillServed e i)) ∷ []
     empty-values f =
         let left : Entries = withoutInterface e i in

@@ -19,7 +19,7 @@ use Rattle.lists.proofs.Distinct.{eqb-decides, same-eq, same-comm, some-same-ke
 use Rattle.lists.proofs.Guids.{guid-decides}
 use Rattle.lists.proofs.Elements.{In, in-every, every-in, in-some, some-in, map-in, keep-in, in-keep, first-sole, sole-key}
 use Rattle.rules.specs.Entries.{Object, Interface, PingSet, Entries, oids, withObjects, withInterfaces, withSets, withMembers, publicOf, privateOf}
-use Rattle.rules.specs.Calls.{Call, Counting, adding, releasing, add, release}
+use Rattle.rules.specs.Calls.{Call, editing, Counting, adding, releasing, add, release}
 use Rattle.rules.specs.Items.{Item, itemCall}
 use Rattle.rules.specs.Sound.{sound, held, hasInterface}
 use Rattle.rules.specs.Rules.{isLiveObject, isLiveInterface, noInterface, interfaceOf, passesCount, noClient, atInterface, dropEmpty, increased, decreased, flag, releaseValues, refusals, number, next, results, refusedReply, acceptedReply, reply}
@@ -315,22 +315,22 @@ abbrev zeros : List ℕ
 zeros = 0 ∷ 0 ∷ 0 ∷ 0 ∷ []
 
 -- what an add answers
-add-values : (c : ℕ) (i : Guid) (p q : ℕ) (e : Entries) → reply (add c i p q) e .values ≡ []
+add-values : (c : ℕ) (i : Guid) (p q : ℕ) (e : Entries) → reply (editing (add c i p q)) e .values ≡ []
 unfolding reply acceptedReply refusedReply results
-add-values c i p q e = by (eqb (number (add c i p q) e) 0)
+add-values c i p q e = by (eqb (number (editing (add c i p q)) e) 0)
   where
-    by : (b : Bool) → cond b (acceptedReply (add c i p q) e) (refusedReply (number (add c i p q) e) (add c i p q) e) .values ≡ []
+    by : (b : Bool) → cond b (acceptedReply (editing (add c i p q)) e) (refusedReply (number (editing (add c i p q)) e) (editing (add c i p q)) e) .values ≡ []
     by true = refl
     by false = refl
 
 -- what a release answers, accepted and refused
-release-values : (c : ℕ) (i : Guid) (p q : ℕ) (e : Entries) → eqb (number (release c i p q) e) 0 ≡ true → reply (release c i p q) e .values ≡ releaseValues c i p q e (callDone (release c i p q) e)
+release-values : (c : ℕ) (i : Guid) (p q : ℕ) (e : Entries) → eqb (number (editing (release c i p q)) e) 0 ≡ true → reply (editing (release c i p q)) e .values ≡ releaseValues c i p q e (callDone (editing (release c i p q)) e)
 unfolding reply acceptedReply refusedReply results
 release-values c i p q e t = cc t
 
-release-zeros : (c : ℕ) (i : Guid) (p q : ℕ) (e : Entries) → eqb (number (release c i p q) e) 0 ≡ false → reply (release c i p q) e .values ≡ zeros
+release-zeros : (c : ℕ) (i : Guid) (p q : ℕ) (e : Entries) → eqb (number (editing (release c i p q)) e) 0 ≡ false → reply (editing (release c i p q)) e .values ≡ zeros
 unfolding reply acceptedReply refusedReply results
-release-zeros c i p q e t = ap (λ (b : Bool). cond b (acceptedReply (release c i p q) e) (refusedReply (number (release c i p q) e) (release c i p q) e) .values) t
+release-zeros c i p q e t = ap (λ (b : Bool). cond b (acceptedReply (editing (release c i p q)) e) (refusedReply (number (editing (release c i p q)) e) (editing (release c i p q)) e) .values) t
 
 -- what was taken and whether the interface went, by what the call looks at and what it leaves
 answer-from : (w : Counting) (c : ℕ) (t : Item) (e e′ : Entries) → number (itemCall w c t) e′ ≡ number (itemCall w c t) e → interfaceOf e′ (t .ipid) ≡ interfaceOf e (t .ipid)
@@ -340,7 +340,7 @@ answer-from adding c t e e′ n r l =
     let same = add-values c (t .ipid) (t .public) (t .private) e ∙ sym (add-values c (t .ipid) (t .public) (t .private) e′) in
     (ap (take 2) same, ap (λ (v : List ℕ). getD v 2 0) same)
 answer-from releasing c t e e′ n r l =
-    let call = release c (t .ipid) (t .public) (t .private) in
+    let call = editing (release c (t .ipid) (t .public) (t .private)) in
     ⊎-elim
     (λ z.
     let v = release-values c (t .ipid) (t .public) (t .private) e z in
@@ -386,7 +386,7 @@ record Loud (a : CountCall) (e : Entries) : Type 0 where
   interface : interfaceWent (reply (callOf a) e) ≡ flag (not (isLiveInterface (callDone (callOf a) e) (a .item .ipid)))
   live : isLiveInterface e (a .item .ipid) ≡ true
 
-release-live : (c : ℕ) (i : Guid) (p q : ℕ) (e : Entries) → number (release c i p q) e ≡ 0 → isLiveInterface e i ≡ true
+release-live : (c : ℕ) (i : Guid) (p q : ℕ) (e : Entries) → number (editing (release c i p q)) e ≡ 0 → isLiveInterface e i ≡ true
 unfolding number refusals
 release-live c i p q e h = not-false _ (passed _ 6 _ (omega arith) (passed _ 20 _ (omega arith) h .1) .0)
 
@@ -399,7 +399,7 @@ notes adding c t e =
       none = refl;
       object = ap (λ (l : List ℕ). getD l 3 0) v;
       interface = ap (λ (l : List ℕ). getD l 2 0) v;
-      objects = λ o. by-test (λ (x : Entries). isLiveObject x o ≡ isLiveObject e o) (eqb (number (add c (t .ipid) (t .public) (t .private)) e) 0) _ e (λ z. refl) (λ z. refl);
+      objects = λ o. by-test (λ (x : Entries). isLiveObject x o ≡ isLiveObject e o) (eqb (number (editing (add c (t .ipid) (t .public) (t .private))) e) 0) _ e (λ z. refl) (λ z. refl);
     })
 notes releasing c t e =
     ⊎-elim
@@ -419,9 +419,9 @@ notes releasing c t e =
       none = z;
       object = ap (λ (l : List ℕ). getD l 3 0) v;
       interface = ap (λ (l : List ℕ). getD l 2 0) v;
-      objects = λ o. ap (λ (b : Bool). isLiveObject (cond b (next (release c (t .ipid) (t .public) (t .private)) e) e) o) z;
+      objects = λ o. ap (λ (b : Bool). isLiveObject (cond b (next (editing (release c (t .ipid) (t .public) (t .private))) e) e) o) z;
     }))
-    (true-or-false (eqb (number (release c (t .ipid) (t .public) (t .private)) e) 0))
+    (true-or-false (eqb (number (editing (release c (t .ipid) (t .public) (t .private))) e) 0))
 
 noted : (a : CountCall) (e : Entries) → Quiet a e ⊎ Loud a e
 noted a e = notes (a .way) (a .client) (a .item) e

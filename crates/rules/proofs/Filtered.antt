@@ -16,7 +16,7 @@ use Rattle.bindings.proofs.Filtering.{filtered-same}
 use Rattle.lists.specs.Lists.{every, firstOr}
 use Rattle.lists.proofs.Tests.{and-left, and-right}
 use Rattle.rules.specs.Entries.{Exporter, Entries}
-use Rattle.rules.specs.Calls.{Call, Reply}
+use Rattle.rules.specs.Calls.{Call, Look, Reply}
 use Rattle.rules.specs.Sound.{sound, longestList, listsKept}
 use Rattle.rules.specs.Rules.{noExporter, exporterOf, refusals, number, results, refusedReply, acceptedReply, reply}
 use Rattle.rules.specs.Contract.{Memory, rightLengths, fit, replyTo}
@@ -42,7 +42,7 @@ no-bytes protocols = refl
 
 module _ (e : Entries) (x : ℕ) (protocols buffer : List ℕ) (few : length protocols ≤ 65535) where
   -- where the filtered list is the stored one, so is the whole reply
-  agrees : filtered protocols (exporterOf e x .bindings) ≡ exporterOf e x .bindings → reply (Call.resolveFiltered x protocols buffer) e ≡ reply (Call.resolve x buffer) e
+  agrees : filtered protocols (exporterOf e x .bindings) ≡ exporterOf e x .bindings → reply (Call.looking (Look.resolveFiltered x protocols buffer)) e ≡ reply (Call.looking (Look.resolve x buffer)) e
   unfolding reply acceptedReply refusedReply results number refusals order
   agrees same = rw (le-ltb 65535 (length protocols) few, same)
 
@@ -54,7 +54,7 @@ module _ (e : Entries) (x : ℕ) (protocols buffer : List ℕ) (few : length pro
         (λ d. filtered-same protocols (exporterOf e x .bindings) b d all)
         (first-list (λ (p : Exporter). eqb x (p .oxid)) (e .exporters) (sound-fields e s .listsKept))
 
-    replies-agree : sound e ≡ true → reply (Call.resolveFiltered x protocols buffer) e ≡ reply (Call.resolve x buffer) e
+    replies-agree : sound e ≡ true → reply (Call.looking (Look.resolveFiltered x protocols buffer)) e ≡ reply (Call.looking (Look.resolve x buffer)) e
     replies-agree s = agrees (same-list s)
 
 pub filtered-agrees : FilteredAgrees

@@ -13,7 +13,7 @@ use Rattle.bindings.specs.Bindings.{listAnswer}
 use Rattle.lists.specs.Lists.{every, distinct, holding, among}
 use Rattle.lists.specs.Guids.{sameGuid}
 use Rattle.rules.specs.Entries.{Entries, exporterPlaces, fresh, oxids, oids, listsLength}
-use Rattle.rules.specs.Calls.{Counting, adding, releasing, reset, enterExporter, removeExporter, enterObject, enterInterface, add, release, dropClient, countList, simplePing, complexPing, clock, resolve, resolveFiltered, census, members, nextStop, writeSnapshot, loadSnapshot}
+use Rattle.rules.specs.Calls.{starting, looking, editing, Counting, adding, releasing, reset, enterExporter, removeExporter, enterObject, enterInterface, add, release, dropClient, countList, simplePing, complexPing, clock, resolve, resolveFiltered, census, members, nextStop, writeSnapshot, loadSnapshot}
 use Rattle.rules.specs.Items.{Item, itemsOf, itemCall}
 use Rattle.rules.specs.Sound.{longestList, storeBytes, sound}
 use Rattle.rules.specs.Snapshot.{entriesOf, isSnapshot}
@@ -33,7 +33,7 @@ fresh-sound t = refl
 
 -- the calls whose refusals say what they need
 module _ (e : Entries) (g : Grouped e) where
-  exporter-case : (x : ℕ) (u : Guid) (b : List ℕ) → number (enterExporter x u b) e ≡ 0 → Grouped (next (enterExporter x u b) e)
+  exporter-case : (x : ℕ) (u : Guid) (b : List ℕ) → number (editing (enterExporter x u b)) e ≡ 0 → Grouped (next (editing (enterExporter x u b)) e)
   unfolding number refusals next
   exporter-case x u b h =
       let r = passed _ 3 _ (omega arith) h in
@@ -43,7 +43,7 @@ module _ (e : Entries) (g : Grouped e) where
       let n = or-false _ _ (r .0) in
       exporter-entered e _ g (n .0) (n .1) (s .0) (ltb-false longestList (length b) (l .0)) (ltb-false storeBytes (listsLength (e .exporters) + length b) (f .1))
 
-  object-case : (o x : ℕ) (i iid : Guid) (n : ℕ) (np : Bool) → number (enterObject o x i iid n np) e ≡ 0 → Grouped (next (enterObject o x i iid n np) e)
+  object-case : (o x : ℕ) (i iid : Guid) (n : ℕ) (np : Bool) → number (editing (enterObject o x i iid n np)) e ≡ 0 → Grouped (next (editing (enterObject o x i iid n np)) e)
   unfolding number refusals next
   object-case o x i iid n np h =
       let r = passed _ 3 _ (omega arith) h in
@@ -52,7 +52,7 @@ module _ (e : Entries) (g : Grouped e) where
       let f = or-false _ _ (r .0) in
       object-entered e _ _ g (f .0) (f .1) (not-false (among (oxids e) x) (s .0)) refl refl (entered-held n (c .0))
 
-  interface-case : (o : ℕ) (i iid : Guid) (n : ℕ) → number (enterInterface o i iid n) e ≡ 0 → Grouped (next (enterInterface o i iid n) e)
+  interface-case : (o : ℕ) (i iid : Guid) (n : ℕ) → number (editing (enterInterface o i iid n)) e ≡ 0 → Grouped (next (editing (enterInterface o i iid n)) e)
   unfolding number refusals next
   interface-case o i iid n h =
       let r = passed _ 3 _ (omega arith) h in
@@ -60,7 +60,7 @@ module _ (e : Entries) (g : Grouped e) where
       let c = passed _ 7 _ (omega arith) (s .1) in
       interface-entered e _ g (r .0) (not-false (among (oids e) o) (s .0)) (entered-held n (c .0))
 
-  clock-case : (t : ℕ) → number (clock t) e ≡ 0 → Grouped (next (clock t) e)
+  clock-case : (t : ℕ) → number (editing (clock t)) e ≡ 0 → Grouped (next (editing (clock t)) e)
   unfolding number refusals
   clock-case t h = clock-set e t g (ltb-false t (e .clock) (passed _ 2 _ (omega arith) h .0))
 
@@ -77,33 +77,28 @@ items-grouped w c (t ∷ ts) e g =
     items-grouped w c ts _ (by-test Grouped (eqb (number (itemCall w c t) e) 0) _ e (λ h. counted-grouped w c (t .ipid) (t .public) (t .private) e g) (λ h. g))
 
 -- an accepted load is of a snapshot, whose entries are sound
-pub loaded-snapshot : (b : List ℕ) (e : Entries) → number (loadSnapshot b) e ≡ 0 → isSnapshot b ≡ true
+pub loaded-snapshot : (b : List ℕ) (e : Entries) → number (starting (loadSnapshot b)) e ≡ 0 → isSnapshot b ≡ true
 unfolding number refusals
 loaded-snapshot b e h = not-false (isSnapshot b) (passed _ 23 _ (omega arith) h .0)
 
-pub loaded-sound : (b : List ℕ) (e : Entries) → number (loadSnapshot b) e ≡ 0 → sound (entriesOf b) ≡ true
+pub loaded-sound : (b : List ℕ) (e : Entries) → number (starting (loadSnapshot b)) e ≡ 0 → sound (entriesOf b) ≡ true
 unfolding isSnapshot
 loaded-sound b e h = clause-at _ 2 (loaded-snapshot b e h)
 
 -- each accepted call leaves sound entries
 pub keeps : Keeps
 unfolding next
-keeps (reset t) e s h = fresh-sound t
-keeps (enterExporter x u b) e s h = sound-grouped _ (exporter-case e (grouped e s) x u b h)
-keeps (removeExporter x) e s h = sound-grouped _ (exporter-removed e x (grouped e s))
-keeps (enterObject o x i iid n np) e s h = sound-grouped _ (object-case e (grouped e s) o x i iid n np h)
-keeps (enterInterface o i iid n) e s h = sound-grouped _ (interface-case e (grouped e s) o i iid n h)
-keeps (add c i p q) e s h = sound-grouped _ (counted-grouped adding c i p q e (grouped e s))
-keeps (release c i p q) e s h = sound-grouped _ (counted-grouped releasing c i p q e (grouped e s))
-keeps (dropClient c) e s h = sound-grouped _ (counts-taken e anyIpid _ (λ r. refl) (grouped e s))
+keeps (starting (reset t)) e s h = fresh-sound t
+keeps (editing (enterExporter x u b)) e s h = sound-grouped _ (exporter-case e (grouped e s) x u b h)
+keeps (editing (removeExporter x)) e s h = sound-grouped _ (exporter-removed e x (grouped e s))
+keeps (editing (enterObject o x i iid n np)) e s h = sound-grouped _ (object-case e (grouped e s) o x i iid n np h)
+keeps (editing (enterInterface o i iid n)) e s h = sound-grouped _ (interface-case e (grouped e s) o i iid n h)
+keeps (editing (add c i p q)) e s h = sound-grouped _ (counted-grouped adding c i p q e (grouped e s))
+keeps (editing (release c i p q)) e s h = sound-grouped _ (counted-grouped releasing c i p q e (grouped e s))
+keeps (editing (dropClient c)) e s h = sound-grouped _ (counts-taken e anyIpid _ (λ r. refl) (grouped e s))
 keeps (countList w c s b) e d h = sound-grouped _ (items-grouped w c (itemsOf s) e (grouped e d))
-keeps (simplePing k) e s h = sound-grouped _ (set-pinged e k (grouped e s))
-keeps (complexPing k n adds dels) e s h = sound-grouped _ (members-pinged e (eqb k 0) _ n adds dels (grouped e s))
-keeps (clock t) e s h = sound-grouped _ (clock-case e (grouped e s) t h)
-keeps (resolve x buffer) e s h = s
-keeps (resolveFiltered x protocols buffer) e s h = s
-keeps census e s h = s
-keeps (members k) e s h = s
-keeps (nextStop r) e s h = s
-keeps (writeSnapshot buffer) e s h = s
-keeps (loadSnapshot b) e s h = loaded-sound b e h
+keeps (editing (simplePing k)) e s h = sound-grouped _ (set-pinged e k (grouped e s))
+keeps (editing (complexPing k n adds dels)) e s h = sound-grouped _ (members-pinged e (eqb k 0) _ n adds dels (grouped e s))
+keeps (editing (clock t)) e s h = sound-grouped _ (clock-case e (grouped e s) t h)
+keeps (looking l) e s h = s
+keeps (starting (loadSnapshot b)) e s h = loaded-sound b e h

@@ -12,7 +12,7 @@ use Rattle.lists.specs.Guids.{nil, sameGuid}
 use Rattle.lists.proofs.Lists.{every-map, every-mono, every-mono-on, every-from-at, every-kept, keep-map, keep-passes, map-unread, map-unread-at}
 use Rattle.lists.proofs.Distinct.{eqb-decides, some-same, some-same-keep-map, sublist-whole, sublist-keep, sublist-append}
 use Rattle.rules.specs.Entries.{Exporter, Object, Interface, PingSet, Entries, oxids, ipids, listsLength, withClock, withExporters, withInterfaces, withSets, withMembers}
-use Rattle.rules.specs.Calls.{clock}
+use Rattle.rules.specs.Calls.{editing, clock}
 use Rattle.rules.specs.Sound.{storeBytes, properGuids, held, hasInterface, pingedWithin, heardWithin}
 use Rattle.rules.specs.Rules.{withoutObjects, atInterfaces, dropEmpty, next}
 use Rattle.rules.proofs.ListsLength.{bytes-kept}
@@ -146,14 +146,14 @@ later : (t now then : ℕ) → now ≤ then → leb t now ≡ true → leb t the
 later t now then h b = let l = leb-true t now b in le-leb t then (omega arith)
 
 -- sets may go before objects
-pub clock-next : (e : Entries) (t : ℕ) → next (clock t) e ≡ withoutObjects (heardWithin t) (withClock t (withSets (keep (pingedWithin t) (e .sets)) e))
+pub clock-next : (e : Entries) (t : ℕ) → next (editing (clock t)) e ≡ withoutObjects (heardWithin t) (withClock t (withSets (keep (pingedWithin t) (e .sets)) e))
 unfolding next
 clock-next e t =
     ap (λ (l : List PingSet). withClock t (withSets l (withoutObjects (heardWithin t) e)))
     (keep-map (pingedWithin t) (λ (s : PingSet). withMembers (keep (among (map (λ (o : Object). o .oid) (keep (heardWithin t) (e .objects)))) (s .members)) s) (e .sets))
 
 -- the clock set, and what is overdue gone
-pub clock-set : (e : Entries) (t : ℕ) → Grouped e → e .clock ≤ t → Grouped (next (clock t) e)
+pub clock-set : (e : Entries) (t : ℕ) → Grouped e → e .clock ≤ t → Grouped (next (editing (clock t)) e)
 clock-set e t g h =
     rw (clock-next e t)
     (objects-left (heardWithin t) (withClock t (withSets (keep (pingedWithin t) (e .sets)) e))

@@ -15,7 +15,7 @@ use Rattle.lists.proofs.Lists.{map-append}
 use Rattle.lists.proofs.First.{first-here, first-right}
 use Rattle.lists.proofs.Distinct.{eqb-decides, entry-change}
 use Rattle.rules.specs.Entries.{PingSet, Entries, setNumbers, pingedAt, setRow, withSets}
-use Rattle.rules.specs.Calls.{simplePing, complexPing}
+use Rattle.rules.specs.Calls.{editing, simplePing, complexPing}
 use Rattle.rules.specs.Sound.{sound}
 use Rattle.rules.specs.PingRows.{changeSet, pingedRow, updatedRow}
 use Rattle.rules.specs.Rules.{noSet, atSet, ping, makeSet, next, heardNow}
@@ -48,7 +48,7 @@ change-row e s f n h u = cc (at-set-row e s f h u, ping-row after s (rw (row, le
 
 module _ (e : Entries) (sd : sound e ≡ true) where
   -- a simple ping
-  pub simple-ping-row : (s : ℕ) → setRow e s < length (e .sets) → next (simplePing s) e ≡ pingedRow (setRow e s) e
+  pub simple-ping-row : (s : ℕ) → setRow e s < length (e .sets) → next (editing (simplePing s)) e ≡ pingedRow (setRow e s) e
   unfolding next
   simple-ping-row s h = ping-row e s h (sets-distinct e sd)
 
@@ -60,13 +60,13 @@ module _ (e : Entries) (sd : sound e ≡ true) where
   module _ (s n : ℕ) (adds dels : List ℕ) where
     -- a complex ping of a live set
     pub complex-ping-row : eqb s 0 ≡ false → setRow e s < length (e .sets)
-        → next (complexPing s n adds dels) e ≡ pingedRow (setRow e s) (updatedRow (setRow e s) n adds dels e)
+        → next (editing (complexPing s n adds dels)) e ≡ pingedRow (setRow e s) (updatedRow (setRow e s) n adds dels e)
     unfolding next
     complex-ping-row z h = rw z (change-row e s _ (λ p. refl) h (sets-distinct e sd))
 
     -- a complex ping that makes a set
     pub complex-ping-new : eqb s 0 ≡ true
-        → next (complexPing s n adds dels) e ≡ pingedRow (length (e .sets)) (updatedRow (length (e .sets)) n adds dels (makeSet e))
+        → next (editing (complexPing s n adds dels)) e ≡ pingedRow (length (e .sets)) (updatedRow (length (e .sets)) n adds dels (makeSet e))
     unfolding next
     complex-ping-new z =
         rw z

@@ -11,7 +11,7 @@ use Rattle.bindings.specs.Bindings.{bindingsOf, partWords, listLength, listAnsw
 use Rattle.bindings.specs.declared.Part.the-variants.{Strings, Security}
 use Rattle.references.specs.References.{referenceAnswer}
 use Rattle.rules.specs.Entries.{Interface, PingSet, Entries, fresh, withClock, withObjects, withInterfaces, withSets}
-use Rattle.rules.specs.Calls.{Call, add, release, complexPing, clock, writeSnapshot, loadSnapshot, Reply}
+use Rattle.rules.specs.Calls.{Call, starting, looking, editing, add, release, complexPing, clock, writeSnapshot, loadSnapshot, Reply}
 use Rattle.rules.specs.Sound.{sound}
 use Rattle.rules.specs.Snapshot.{sections, snapshotBytes}
 use Rattle.rules.specs.Rules.{enteredCounts, next, refusedReply, reply}
@@ -95,7 +95,7 @@ oneOfEach noping public sequence =
 
 -- a complex ping of its set: the last sequence number, then the new one
 abbrev pub pinged : (last new : ℕ) → Question
-pinged last new = called (complexPing 1 new [] []) (oneOfEach false 3 last)
+pinged last new = called (editing (complexPing 1 new [] [])) (oneOfEach false 3 last)
 
 -- new: the set's number and backoff factor 0, and the new sequence number is kept; stale: 12, and the last is
 abbrev pub isNew : ℕ → Outcome
@@ -141,25 +141,25 @@ cases =
     ∷ pinged 5 32773 is isStale 5
     ∷ pinged 5 5 is isStale 5
     -- heard at 1000: at clock 1359 live, at 1360 gone, with its set; a no-ping object stays
-    ∷ called (clock 1359) (oneOfEach false 3 5) is replied 0 (0 ∷ 0 ∷ 0 ∷ 0 ∷ []) (withClock 1359 (oneOfEach false 3 5))
-    ∷ called (clock 1360) (oneOfEach false 3 5) is replied 0 (0 ∷ 1 ∷ 1 ∷ 1 ∷ []) (withClock 1360 (withSets [] (withoutObject (oneOfEach false 3 5))))
-    ∷ called (clock 1360) (oneOfEach true 3 5) is replied 0 (0 ∷ 0 ∷ 0 ∷ 1 ∷ []) (withClock 1360 (withSets [] (oneOfEach true 3 5)))
+    ∷ called (editing (clock 1359)) (oneOfEach false 3 5) is replied 0 (0 ∷ 0 ∷ 0 ∷ 0 ∷ []) (withClock 1359 (oneOfEach false 3 5))
+    ∷ called (editing (clock 1360)) (oneOfEach false 3 5) is replied 0 (0 ∷ 1 ∷ 1 ∷ 1 ∷ []) (withClock 1360 (withSets [] (withoutObject (oneOfEach false 3 5))))
+    ∷ called (editing (clock 1360)) (oneOfEach true 3 5) is replied 0 (0 ∷ 0 ∷ 0 ∷ 1 ∷ []) (withClock 1360 (withSets [] (oneOfEach true 3 5)))
     -- counts 3 and 0, release 5 and 0: 3 taken, interface gone, and with it its object, which leaves its set
-    ∷ called (release 0 ipid 5 0) (oneOfEach false 3 5) is replied 0 (3 ∷ 0 ∷ 1 ∷ 1 ∷ []) (withSets (oneSet 5 [] ∷ []) (withoutObject (oneOfEach false 3 5)))
+    ∷ called (editing (release 0 ipid 5 0)) (oneOfEach false 3 5) is replied 0 (3 ∷ 0 ∷ 1 ∷ 1 ∷ []) (withSets (oneSet 5 [] ∷ []) (withoutObject (oneOfEach false 3 5)))
     -- count 4,294,967,295, add 1: 8; add 0 and 0: done
-    ∷ called (add 0 ipid 1 0) (oneOfEach false 4294967295 5) is replied 8 [] (oneOfEach false 4294967295 5)
-    ∷ called (add 0 ipid 0 0) (oneOfEach false 4294967295 5) is replied 0 [] (oneOfEach false 4294967295 5)
+    ∷ called (editing (add 0 ipid 1 0)) (oneOfEach false 4294967295 5) is replied 8 [] (oneOfEach false 4294967295 5)
+    ∷ called (editing (add 0 ipid 0 0)) (oneOfEach false 4294967295 5) is replied 0 [] (oneOfEach false 4294967295 5)
     -- document 02: a table fresh at clock 100 gives exactly 26 bytes, the buffer's rest is kept; 25 are too few
-    ∷ writes (writeSnapshot (replicate 27 0xFF)) (fresh 100) is wrote 0 (26 ∷ []) (freshSnapshot ++ (0xFF ∷ []))
-    ∷ writes (writeSnapshot (replicate 25 0xFF)) (fresh 100) is wrote 15 (0 ∷ []) (replicate 25 0xFF)
+    ∷ writes (looking (writeSnapshot (replicate 27 0xFF))) (fresh 100) is wrote 0 (26 ∷ []) (freshSnapshot ++ (0xFF ∷ []))
+    ∷ writes (looking (writeSnapshot (replicate 25 0xFF))) (fresh 100) is wrote 15 (0 ∷ []) (replicate 25 0xFF)
     -- these bytes are loaded; with one byte more they are the snapshot of no table
-    ∷ called (loadSnapshot freshSnapshot) (oneOfEach false 3 5) is replied 0 [] (fresh 100)
-    ∷ called (loadSnapshot (freshSnapshot ++ (0x00 ∷ []))) (oneOfEach false 3 5) is replied 23 [] (oneOfEach false 3 5)
+    ∷ called (starting (loadSnapshot freshSnapshot)) (oneOfEach false 3 5) is replied 0 [] (fresh 100)
+    ∷ called (starting (loadSnapshot (freshSnapshot ++ (0x00 ∷ [])))) (oneOfEach false 3 5) is replied 23 [] (oneOfEach false 3 5)
     -- IPIDs rise by their bytes in order: 00 01 comes before 01 00
-    ∷ called (loadSnapshot (snapshotBytes (twoInterfaces 0x0001 0x0100))) (fresh 0) is replied 0 [] (twoInterfaces 0x0100 0x0001)
-    ∷ called (loadSnapshot (sections (twoInterfaces 0x0001 0x0100))) (fresh 0) is replied 23 [] (fresh 0)
+    ∷ called (starting (loadSnapshot (snapshotBytes (twoInterfaces 0x0001 0x0100)))) (fresh 0) is replied 0 [] (twoInterfaces 0x0100 0x0001)
+    ∷ called (starting (loadSnapshot (sections (twoInterfaces 0x0001 0x0100)))) (fresh 0) is replied 23 [] (fresh 0)
     -- a member stands once
-    ∷ called (loadSnapshot (sections (withSets (oneSet 5 (0x41 ∷ 0x41 ∷ []) ∷ []) (oneOfEach false 3 5)))) (fresh 0) is replied 23 [] (fresh 0)
+    ∷ called (starting (loadSnapshot (sections (withSets (oneSet 5 (0x41 ∷ 0x41 ∷ []) ∷ []) (oneOfEach false 3 5))))) (fresh 0) is replied 23 [] (fresh 0)
     ∷ []
 
 -- every case gives what the documents say

@@ -6,7 +6,7 @@ use mathlib.Core.List.{List}
 use lib.ListN.{length}
 use lib.Dec.{eqb}
 use Rattle.rules.specs.Entries.{Entries}
-use Rattle.rules.specs.Calls.{Call, reset, enterExporter, removeExporter, enterObject, enterInterface, add, release, dropClient, countList, simplePing, complexPing, clock, resolve, resolveFiltered, census, members, nextStop, writeSnapshot, loadSnapshot, Reply}
+use Rattle.rules.specs.Calls.{Call, starting, looking, editing, countList, Reply}
 use Rattle.rules.specs.Sound.{sound}
 use Rattle.rules.specs.Rules.{number, next, refusedReply, reply}
 
@@ -25,25 +25,10 @@ Whole xs = length xs ≡ 8192
 
 -- a reset and a load look at lengths only
 abbrev pub lengthsOnly : Call → Bool
-lengthsOnly (reset t) = true
-lengthsOnly (enterExporter x u b) = false
-lengthsOnly (removeExporter x) = false
-lengthsOnly (enterObject o x i iid n np) = false
-lengthsOnly (enterInterface o i iid n) = false
-lengthsOnly (add c i p q) = false
-lengthsOnly (release c i p q) = false
-lengthsOnly (dropClient c) = false
+lengthsOnly (starting s) = true
+lengthsOnly (looking l) = false
+lengthsOnly (editing c) = false
 lengthsOnly (countList w c s b) = false
-lengthsOnly (simplePing s) = false
-lengthsOnly (complexPing s n adds dels) = false
-lengthsOnly (clock t) = false
-lengthsOnly (resolve x buffer) = false
-lengthsOnly (resolveFiltered x protocols buffer) = false
-lengthsOnly census = false
-lengthsOnly (members s) = false
-lengthsOnly (nextStop r) = false
-lengthsOnly (writeSnapshot buffer) = false
-lengthsOnly (loadSnapshot s) = true
 
 -- an accepted call leaves sound entries
 abbrev pub Keeps : Type 0

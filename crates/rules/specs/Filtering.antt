@@ -7,7 +7,7 @@ use lib.ListN.{length}
 use Rattle.fields.specs.Fields.{Bytes}
 use Rattle.bindings.specs.Filter.{allRequested}
 use Rattle.rules.specs.Entries.{Entries}
-use Rattle.rules.specs.Calls.{resolve, resolveFiltered}
+use Rattle.rules.specs.Calls.{looking, resolve, resolveFiltered}
 use Rattle.rules.specs.Sound.{sound}
 use Rattle.rules.specs.Rules.{mostListed, exporterOf, reply}
 use Rattle.rules.specs.Contract.{Memory, replyTo}
@@ -20,7 +20,7 @@ FilteredAgrees =
     → Bytes (exporterOf e x .bindings)
     → allRequested protocols (exporterOf e x .bindings) ≡ true
     → sound e ≡ true
-    → reply (resolveFiltered x protocols buffer) e ≡ reply (resolve x buffer) e
+    → reply (looking (resolveFiltered x protocols buffer)) e ≡ reply (looking (resolve x buffer)) e
 
 -- the same of every lent table, also of one that is not sound
 abbrev pub FilteredTables : (Memory → Entries) → Type 0
@@ -29,4 +29,4 @@ FilteredTables view =
     → length protocols ≤ mostListed
     → Bytes (exporterOf (view m) x .bindings)
     → allRequested protocols (exporterOf (view m) x .bindings) ≡ true
-    → replyTo view (resolveFiltered x protocols buffer) m ≡ replyTo view (resolve x buffer) m
+    → replyTo view (looking (resolveFiltered x protocols buffer)) m ≡ replyTo view (looking (resolve x buffer)) m

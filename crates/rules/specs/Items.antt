@@ -5,7 +5,7 @@ use lib.ListN.{length}
 use Rattle.kinds.specs.declared.Guid.{Guid}
 use Rattle.fields.specs.Fields.{field, guidAt}
 use Rattle.lists.specs.Lists.{tabulate}
-use Rattle.rules.specs.Calls.{Call, Counting, adding, releasing, add, release}
+use Rattle.rules.specs.Calls.{Call, editing, Counting, adding, releasing, add, release}
 
 pub record Item : Type 0 where
   pub ipid : Guid
@@ -29,5 +29,5 @@ itemsOf s = tabulate (itemCount s) (itemAt s)
 
 -- the call that an item stands for
 abbrev pub itemCall : Counting → ℕ → Item → Call
-itemCall adding c t = add c (t .ipid) (t .public) (t .private)
-itemCall releasing c t = release c (t .ipid) (t .public) (t .private)
+itemCall adding c t = editing (add c (t .ipid) (t .public) (t .private))
+itemCall releasing c t = editing (release c (t .ipid) (t .public) (t .private))

@@ -5,7 +5,7 @@ use mathlib.Core.Bool.{false}
 use mathlib.Core.List.{List}
 use lib.Dec.{eqb}
 use Rattle.rules.specs.Entries.{Entries}
-use Rattle.rules.specs.Calls.{resolve, removeExporter}
+use Rattle.rules.specs.Calls.{looking, editing, resolve, removeExporter}
 use Rattle.rules.specs.Rules.{next, reply}
 
 -- a resolve of another exporter answers as before: number, length, remote-unknown IPID and buffer
@@ -13,4 +13,4 @@ abbrev pub OthersResolve : Type 0
 OthersResolve =
     (e : Entries) (x y : ℕ) (buffer : List ℕ)
     → eqb y x ≡ false
-    → reply (resolve y buffer) (next (removeExporter x) e) ≡ reply (resolve y buffer) e
+    → reply (looking (resolve y buffer)) (next (editing (removeExporter x)) e) ≡ reply (looking (resolve y buffer)) e

@@ -14,7 +14,7 @@ use Rattle.references.specs.References.{referenceAnswer, referenceAt, isCustom,
 use Rattle.lists.specs.Lists.{keep, some, every, firstOr, among}
 use Rattle.lists.specs.Guids.{nil, sameGuid}
 use Rattle.rules.specs.Entries.{Exporter, Object, Interface, PingSet, Entries, exporterPlaces, objectPlaces, interfacePlaces, setPlaces, countLimit, sequenceLimit, fresh, oxids, oids, setNumbers, interfaceIpids, ipids, listsLength, withClock, withNext, withExporters, withObjects, withInterfaces, withSets, heardAt, publicOf, privateOf, atCount, atCounts, pingedAt, withSequence, withMembers, withMembersOf}
-use Rattle.rules.specs.Calls.{Call, Counting, adding, releasing, reset, enterExporter, removeExporter, enterObject, enterInterface, add, release, dropClient, countList, simplePing, complexPing, clock, resolve, resolveFiltered, census, members, nextStop, writeSnapshot, loadSnapshot, Reply, Results, only}
+use Rattle.rules.specs.Calls.{Call, starting, looking, editing, Counting, adding, releasing, reset, enterExporter, removeExporter, enterObject, enterInterface, add, release, dropClient, countList, simplePing, complexPing, clock, resolve, resolveFiltered, census, members, nextStop, writeSnapshot, loadSnapshot, Reply, Results, only}
 use Rattle.rules.specs.Items.{Item, itemSize, itemCount, itemsOf, itemCall}
 use Rattle.rules.specs.Sound.{longestList, storeBytes, held, hasInterface, heardWithin, pingedWithin}
 use Rattle.rules.specs.Snapshot.{snapshotBytes, entriesOf, isSnapshot}
@@ -115,36 +115,36 @@ listRefusals b e =
     ∷ []
 
 unfoldable pub refusals : Call → Entries → List Row
-refusals (reset t) e = []
-refusals (enterExporter x u b) e = (badOxid e x || badIpid e u) gives 3 ∷ listRefusals b e
-refusals (removeExporter x) e = not (isLiveExporter e x) gives 4 ∷ []
-refusals (enterObject o x i iid n np) e =
+refusals (starting (reset t)) e = []
+refusals (editing (enterExporter x u b)) e = (badOxid e x || badIpid e u) gives 3 ∷ listRefusals b e
+refusals (editing (removeExporter x)) e = not (isLiveExporter e x) gives 4 ∷ []
+refusals (editing (enterObject o x i iid n np)) e =
     (badOid e o || badIpid e i) gives 3
     ∷ not (isLiveExporter e x) gives 4
     ∷ eqb n 0 gives 7
     ∷ (full objectPlaces (e .objects) || full interfacePlaces (e .interfaces)) gives 9
     ∷ []
-refusals (enterInterface o i iid n) e =
+refusals (editing (enterInterface o i iid n)) e =
     badIpid e i gives 3
     ∷ not (isLiveObject e o) gives 5
     ∷ eqb n 0 gives 7
     ∷ full interfacePlaces (e .interfaces) gives 9
     ∷ []
-refusals (add c i p q) e =
+refusals (editing (add c i p q)) e =
     noClient c gives 20
     ∷ not (isLiveInterface e i) gives 6
     ∷ (passesCount (publicOf (interfaceOf e i) + p) || passesCount (privateOf c (interfaceOf e i) + q)) gives 8
     ∷ []
-refusals (release c i p q) e = noClient c gives 20 ∷ not (isLiveInterface e i) gives 6 ∷ []
-refusals (dropClient c) e = noClient c gives 20 ∷ []
+refusals (editing (release c i p q)) e = noClient c gives 20 ∷ not (isLiveInterface e i) gives 6 ∷ []
+refusals (editing (dropClient c)) e = noClient c gives 20 ∷ []
 refusals (countList w c s b) e =
     noClient c gives 20
     ∷ not (eqb (length s % itemSize) 0) gives 13
     ∷ ltb mostListed (itemCount s) gives 10
     ∷ ltb (length b) (itemCount s) gives 15
     ∷ []
-refusals (simplePing s) e = (eqb s 0 || not (isLiveSet e s)) gives 11 ∷ []
-refusals (complexPing s n adds dels) e =
+refusals (editing (simplePing s)) e = (eqb s 0 || not (isLiveSet e s)) gives 11 ∷ []
+refusals (editing (complexPing s n adds dels)) e =
     (tooMany adds || tooMany dels) gives 10
     ∷ cond (eqb s 0)
     (not (every (isLiveObject e) adds) gives 5
@@ -155,21 +155,21 @@ refusals (complexPing s n adds dels) e =
     ∷ staleSequence (setOf e s .sequence) n gives 12
     ∷ not (every (isLiveObject e) adds) gives 5
     ∷ [])
-refusals (clock t) e = ltb t (e .clock) gives 2 ∷ []
-refusals (resolve x buffer) e =
+refusals (editing (clock t)) e = ltb t (e .clock) gives 2 ∷ []
+refusals (looking (resolve x buffer)) e =
     not (isLiveExporter e x) gives 4
     ∷ ltb (length buffer) (length (exporterOf e x .bindings)) gives 15
     ∷ []
-refusals (resolveFiltered x protocols buffer) e =
+refusals (looking (resolveFiltered x protocols buffer)) e =
     tooMany protocols gives 10
     ∷ not (isLiveExporter e x) gives 4
     ∷ ltb (length buffer) (length (filtered protocols (exporterOf e x .bindings))) gives 15
     ∷ []
-refusals census e = []
-refusals (members s) e = not (isLiveSet e s) gives 11 ∷ []
-refusals (nextStop r) e = passes (referenceAnswer r) ∷ isCustom (field r 4 4) gives 14 ∷ []
-refusals (writeSnapshot buffer) e = ltb (length buffer) (length (snapshotBytes e)) gives 15 ∷ []
-refusals (loadSnapshot s) e = not (isSnapshot s) gives 23 ∷ []
+refusals (looking census) e = []
+refusals (looking (members s)) e = not (isLiveSet e s) gives 11 ∷ []
+refusals (looking (nextStop r)) e = passes (referenceAnswer r) ∷ isCustom (field r 4 4) gives 14 ∷ []
+refusals (looking (writeSnapshot buffer)) e = ltb (length buffer) (length (snapshotBytes e)) gives 15 ∷ []
+refusals (starting (loadSnapshot s)) e = not (isSnapshot s) gives 23 ∷ []
 
 unfoldable pub number : Call → Entries → ℕ
 number c e = order (refusals c e)
@@ -257,37 +257,32 @@ itemNumbers w c [] e = []
 itemNumbers w c (t ∷ ts) e = number (itemCall w c t) e ∷ itemNumbers w c ts (itemDone w c t e)
 
 unfoldable pub next : Call → Entries → Entries
-next (reset t) e = fresh t
-next (enterExporter x u b) e = withExporters (e .exporters ++ (record { oxid = x; unknown = u; bindings = b } ∷ [])) e
-next (removeExporter x) e =
+next (starting (reset t)) e = fresh t
+next (editing (enterExporter x u b)) e = withExporters (e .exporters ++ (record { oxid = x; unknown = u; bindings = b } ∷ [])) e
+next (editing (removeExporter x)) e =
     withExporters (keep (λ (p : Exporter). not (eqb x (p .oxid))) (e .exporters))
     (withoutObjects (λ (o : Object). not (eqb x (o .exporter))) e)
-next (enterObject o x i iid n np) e =
+next (editing (enterObject o x i iid n np)) e =
     withObjects (e .objects ++ (record { oid = o; exporter = x; noping = np; heard = e .clock } ∷ []))
     (withInterfaces (e .interfaces ++ (record { ipid = i; iid = iid; object = o; counts = enteredCounts n } ∷ [])) e)
-next (enterInterface o i iid n) e =
+next (editing (enterInterface o i iid n)) e =
     withInterfaces (e .interfaces ++ (record { ipid = i; iid = iid; object = o; counts = enteredCounts n } ∷ [])) e
-next (add c i p q) e = counted adding c i p q e
-next (release c i p q) e = counted releasing c i p q e
-next (dropClient c) e = dropEmpty (atInterfaces anyIpid (emptied c) e)
+next (editing (add c i p q)) e = counted adding c i p q e
+next (editing (release c i p q)) e = counted releasing c i p q e
+next (editing (dropClient c)) e = dropEmpty (atInterfaces anyIpid (emptied c) e)
 next (countList w c s b) e = itemsDone w c (itemsOf s) e
-next (simplePing s) e = ping s e
-next (complexPing s n adds dels) e =
+next (editing (simplePing s)) e = ping s e
+next (editing (complexPing s n adds dels)) e =
     let k : ℕ = pingSetNumber s (e .next) in
     ping k
     (atSet k (λ (p : PingSet). withSequence n (withMembers (newMembers e adds dels (p .members)) p))
     (cond (eqb s 0) (makeSet e) e))
-next (clock t) e =
+next (editing (clock t)) e =
     let f : Entries = withoutObjects (heardWithin t) e in
     withClock t (withSets (keep (pingedWithin t) (f .sets)) f)
-next (resolve x buffer) e = e
-next (resolveFiltered x protocols buffer) e = e
-next census e = e
-next (members s) e = e
-next (nextStop r) e = e
-next (writeSnapshot buffer) e = e
+next (looking l) e = e
 -- what was there is forgotten; the entries stand in the snapshot's order
-next (loadSnapshot s) e = entriesOf s
+next (starting (loadSnapshot s)) e = entriesOf s
 
 -- ---- what an accepted call answers
 
@@ -322,33 +317,33 @@ abbrev pub fronted : List ℕ → List ℕ → List ℕ
 fronted front buffer = front ++ drop (length front) buffer
 
 unfoldable pub results : Call → Entries → Results
-results (reset t) e = only []
-results (enterExporter x u b) e = only []
-results (removeExporter x) e = only []
-results (enterObject o x i iid n np) e = only []
-results (enterInterface o i iid n) e = only []
-results (add c i p q) e = only []
-results (release c i p q) e = only (releaseValues c i p q e (next (release c i p q) e))
-results (dropClient c) e = only []
+results (starting (reset t)) e = only []
+results (editing (enterExporter x u b)) e = only []
+results (editing (removeExporter x)) e = only []
+results (editing (enterObject o x i iid n np)) e = only []
+results (editing (enterInterface o i iid n)) e = only []
+results (editing (add c i p q)) e = only []
+results (editing (release c i p q)) e = only (releaseValues c i p q e (next (editing (release c i p q)) e))
+results (editing (dropClient c)) e = only []
 -- a byte for each item at the front of the buffer
 results (countList w c s b) e = record { values = []; part = []; front = itemNumbers w c (itemsOf s) e; buffer = b }
-results (simplePing s) e = only []
+results (editing (simplePing s)) e = only []
 -- the set's number, and the backoff factor
-results (complexPing s n adds dels) e = only (pingSetNumber s (e .next) ∷ 0 ∷ [])
-results (clock t) e = only (clockValues e (next (clock t) e))
+results (editing (complexPing s n adds dels)) e = only (pingSetNumber s (e .next) ∷ 0 ∷ [])
+results (editing (clock t)) e = only (clockValues e (next (editing (clock t)) e))
 -- the list's length and the remote-unknown IPID; the list at the front of the buffer
-results (resolve x buffer) e =
+results (looking (resolve x buffer)) e =
     let p : Exporter = exporterOf e x in
     record { values = length (p .bindings) ∷ p .unknown .low ∷ p .unknown .high ∷ []; part = []; front = p .bindings; buffer = buffer }
 -- the same of the list with only the requested string bindings
-results (resolveFiltered x protocols buffer) e =
+results (looking (resolveFiltered x protocols buffer)) e =
     let p : Exporter = exporterOf e x in
     let list : List ℕ = filtered protocols (p .bindings) in
     record { values = length list ∷ p .unknown .low ∷ p .unknown .high ∷ []; part = []; front = list; buffer = buffer }
-results census e = only (liveNumbers e)
-results (members s) e = only (length (setOf e s .members) ∷ [])
+results (looking census) e = only (liveNumbers e)
+results (looking (members s)) e = only (length (setOf e s .members) ∷ [])
 -- a part of the store where the OXID is live, else a part of the reference; and which of the two it is: 1 for the store
-results (nextStop r) e =
+results (looking (nextStop r)) e =
     record {
       values = flag (isLiveExporter e (oxidOf r)) ∷ [];
       part = cond (isLiveExporter e (oxidOf r)) (exporterOf e (oxidOf r) .bindings) (tailOf r);
@@ -356,8 +351,8 @@ results (nextStop r) e =
       buffer = [];
     }
 -- the snapshot's length; the snapshot at the front of the buffer
-results (writeSnapshot buffer) e = record { values = length (snapshotBytes e) ∷ []; part = []; front = snapshotBytes e; buffer = buffer }
-results (loadSnapshot s) e = only []
+results (looking (writeSnapshot buffer)) e = record { values = length (snapshotBytes e) ∷ []; part = []; front = snapshotBytes e; buffer = buffer }
+results (starting (loadSnapshot s)) e = only []
 
 -- document 01, "Answer numbers": a refusal returns its number, zero in every other result, an empty part, and keeps the buffer
 unfoldable pub refusedReply : ℕ → Call → Entries → Reply

@@ -2,7 +2,7 @@
 use fields::Written;
 use kinds::answer;
 ghost use mathlib.Core.Path.{_≡_};
-ghost use Rattle.rules.specs.Calls.{Call};
+ghost use Rattle.rules.specs.Calls.{Call, Look};
 ghost use Rattle.table.specs.View.{memory, SoundTable, Stepped, Performed};
 ghost use Rattle.saving.specs.Replies.{writtenReply};
 
@@ -21,7 +21,7 @@ fn refused(number: u32) -> Written
 // Writes the snapshot of the table at the front of buffer and keeps the rest: 0 and the snapshot's length, or 1; 15.
 pub fn write_snapshot<'a>(words: &'a [u64], store: &'a [u8], buffer: &'a mut [u8]) -> Written
     ensures { λ r. ⌜
-        Performed (Call.writeSnapshot (now (buffer .entry))) (memory (now (words .entry)) (now (store .entry)))
+        Performed (Call.looking (Look.writeSnapshot (now (buffer .entry)))) (memory (now (words .entry)) (now (store .entry)))
         (writtenReply r (now (buffer .exit))) (memory (now (words .entry)) (now (store .entry))) ⌝ }
 {
     if !judge::sound(words, store) {
@@ -34,7 +34,7 @@ pub fn write_snapshot<'a>(words: &'a [u64], store: &'a [u8], buffer: &'a mut [u8
 pub fn write_snapshot_step<'a>(words: &'a [u64], store: &'a [u8], buffer: &'a mut [u8]) -> Written
     requires { ⌜ SoundTable (memory (now words) (now store)) ⌝ }
     ensures { λ r. ⌜
-        Stepped (Call.writeSnapshot (now (buffer .entry))) (memory (now (words .entry)) (now (store .entry)))
+        Stepped (Call.looking (Look.writeSnapshot (now (buffer .entry)))) (memory (now (words .entry)) (now (store .entry)))
         (writtenReply r (now (buffer .exit))) (memory (now (words .entry)) (now (store .entry))) ⌝ }
 {
     let n = size::snapshot_length(words, store);

@@ -10,7 +10,7 @@ use lib.Dec.{eqb}
 use Rattle.lists.specs.Lists.{every}
 use Rattle.lists.proofs.Lists.{map-id-on}
 use Rattle.rules.specs.Entries.{Interface, Entries, countOf, withCounts, withInterfaces}
-use Rattle.rules.specs.Calls.{dropClient}
+use Rattle.rules.specs.Calls.{editing, dropClient}
 use Rattle.rules.specs.Rules.{noInterface, emptied, next}
 use Rattle.settling.specs.Leaving.{cleared, heldLeft, withoutLeaving}
 use Rattle.settling.specs.declared.Leaving.the-variants.{NoInterface}
@@ -44,6 +44,6 @@ module _ (c : ℕ) where
       zero-set (x ∷ xs) (suc k) = zero-set xs k
 
   -- the rule of the drop, in these steps
-  pub drop-steps : (e : Entries) → next (dropClient c) e ≡ withoutLeaving NoInterface (heldLeft (cleared c e))
+  pub drop-steps : (e : Entries) → next (editing (dropClient c)) e ≡ withoutLeaving NoInterface (heldLeft (cleared c e))
   unfolding next
   drop-steps e = refl

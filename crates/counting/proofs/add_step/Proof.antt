@@ -9,7 +9,7 @@ use lib.ListN.{length, getD, set}
 use Rattle.kinds.specs.Refusals.{order, _gives_}
 use Rattle.kinds.specs.declared.Guid.{Guid}
 use Rattle.rules.specs.Entries.{Interface, publicOf, privateOf, withInterfaces, atCounts, interfaceRow}
-use Rattle.rules.specs.Calls.{Call}
+use Rattle.rules.specs.Calls.{Call, Edit}
 use Rattle.rules.specs.Sound.{sound}
 use Rattle.rules.specs.Rules.{noInterface, interfaceOf, passesCount, refusals, number, next, results, refusedReply, acceptedReply}
 use Rattle.rules.proofs.ByRow.{interfaceIn, interface-row}
@@ -27,20 +27,20 @@ use Rattle.counting.proofs.add_step.Statement.{statement}
 use Rattle.counting.proofs.add_step.Tie as tie
 
 -- no such client
-no-client : (ws s : List ℕ) (c : ℕ) (i : Guid) (p q : ℕ) → 7 < c → 20 ≡ number (Call.add c i p q) (view (memory ws s))
+no-client : (ws s : List ℕ) (c : ℕ) (i : Guid) (p q : ℕ) → 7 < c → 20 ≡ number (Call.editing (Edit.add c i p q)) (view (memory ws s))
 unfolding number refusals
 no-client ws s c i p q h = row-gives _ _ _ refl (client-missing c h)
 
 -- the client, the row that was found, of as many as were counted, and what it holds
 module _ (ws s : List ℕ) (c : ℕ) (i : Guid) (p q : ℕ) {r n : ℕ} (client : c ≤ 7) (found : r ≡ interfaceRow (view (memory ws s)) i) (counted : n ≡ interfaceCount ws) where
   -- no interface
-  gone : n ≤ r → 6 ≡ number (Call.add c i p q) (view (memory ws s))
+  gone : n ≤ r → 6 ≡ number (Call.editing (Edit.add c i p q)) (view (memory ws s))
   unfolding number refusals
   gone h = gone-gives (interface-tested ws s i found counted) _ _ (row-passes _ _ _ refl (client-here c client)) h
 
   module _ {h : InterfaceCounts} (held : h ≡ countsAt ws r c) (live : r < n) where
     -- the rows of the sums are left
-    sums : number (Call.add c i p q) (view (memory ws s)) ≡ order (passesCount (h .public + p) gives 8 ∷ passesCount (h .private + q) gives 8 ∷ [])
+    sums : number (Call.editing (Edit.add c i p q)) (view (memory ws s)) ≡ order (passesCount (h .public + p) gives 8 ∷ passesCount (h .private + q) gives 8 ∷ [])
     unfolding number refusals
     sums =
         live-passes (interface-tested ws s i found counted) _ _ (row-passes _ _ _ refl (client-here c client)) live
@@ -51,7 +51,7 @@ module _ (ws s : List ℕ) (c : ℕ) (i : Guid) (p q : ℕ) {r n : ℕ} (client 
 
     -- the sums in the row are the entries that the rules say
     added : sound (view (memory ws s)) ≡ true
-        → changeInterface r (atCounts c (λ (m : ℕ). h .public + p) (λ (m : ℕ). h .private + q)) (view (memory ws s)) ≡ next (Call.add c i p q) (view (memory ws s))
+        → changeInterface r (atCounts c (λ (m : ℕ). h .public + p) (λ (m : ℕ). h .private + q)) (view (memory ws s)) ≡ next (Call.editing (Edit.add c i p q)) (view (memory ws s))
     added t =
         let l = interfaces-length ws in
         let b : interfaceRow (view (memory ws s)) i < length (interfacesOf ws) = omega arith in
@@ -70,7 +70,7 @@ within-count n h = lt-leb (2 ^ 32) n (omega arith)
 
 -- the rows of the sums, where the interface was found
 sums-left : (c : tie.After-interface-counts) → let a = c .before .before .before .before .before .before .before .before .before .before .args in let h = c .interface-counts .result in
-    number (Call.add (a .client) (a .ipid) (a .public) (a .private)) (view (memory (a .words .now) (a .store .now)))
+    number (Call.editing (Edit.add (a .client) (a .ipid) (a .public) (a .private))) (view (memory (a .words .now) (a .store .now)))
     ≡ order (passesCount (h .public + a .public) gives 8 ∷ passesCount (h .private + a .private) gives 8 ∷ [])
 sums-left c =
     let a = c .before .before .before .before .before .before .before .before .before .before .args in

@@ -3,7 +3,7 @@ use mathlib.Core.Path.{_≡_, refl, sym, ap, _∙_}
 use native.Mathlib.Omega.{arith}
 use Prim.Native.Nat.{ℕ, _<_, _≤_}
 use Rattle.rules.specs.Entries.{Entries, oids}
-use Rattle.rules.specs.Calls.{Call}
+use Rattle.rules.specs.Calls.{Call, Edit}
 use Rattle.rules.specs.Sound.{proper, setMembersLive}
 use Rattle.rules.specs.Rules.{refusals, number, results, refusedReply, acceptedReply}
 use Rattle.rules.proofs.SoundLaws.{sound-fields}
@@ -19,11 +19,11 @@ use Rattle.counting.proofs.drop_client_step.Statement.{statement}
 use Rattle.counting.proofs.drop_client_step.Tie as tie
 
 module _ (e : Entries) (c : ℕ) where
-  missing : 7 < c → 20 ≡ number (Call.dropClient c) e
+  missing : 7 < c → 20 ≡ number (Call.editing (Edit.dropClient c)) e
   unfolding number refusals
   missing h = row-gives _ _ _ refl (client-missing c h)
 
-  here : c ≤ 7 → 0 ≡ number (Call.dropClient c) e
+  here : c ≤ 7 → 0 ≡ number (Call.editing (Edit.dropClient c)) e
   unfolding number refusals
   here h = rows-end (row-passes _ _ _ refl (client-here c h))
 

@@ -8,7 +8,7 @@ use Rattle.kinds.specs.Refusals.{Row, order, _gives_}
 use Rattle.lists.specs.Lists.{some}
 use Rattle.lists.specs.Guids.{nil, sameGuid}
 use Rattle.rules.specs.Entries.{Entries, ipids}
-use Rattle.rules.specs.Calls.{Call}
+use Rattle.rules.specs.Calls.{Call, Edit}
 use Rattle.rules.specs.Rules.{refusals, number, listRefusals, isLiveExporter}
 use Rattle.rules.proofs.SoundLaws.{sound-fields}
 use Rattle.table.specs.View.{memory, view}
@@ -28,7 +28,7 @@ At st = view (memory (st .args .words .now) (st .args .store .now))
 
 -- the number, and the rows that are left of the refusals
 abbrev Left : tie.Start → List Row → Type 0
-Left st rows = number (Call.enterExporter (st .args .oxid .0) (st .args .unknown) (st .args .list .now)) (At st) ≡ order rows
+Left st rows = number (Call.editing (Edit.enterExporter (st .args .oxid .0) (st .args .unknown) (st .args .list .now))) (At st) ≡ order rows
 
 -- the row of 3 as three
 abbrev badIpid : tie.Start → List Row

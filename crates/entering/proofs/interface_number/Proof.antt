@@ -8,7 +8,7 @@ use lib.ListN.{length, drop}
 use Rattle.kinds.specs.Refusals.{order}
 use Rattle.kinds.specs.declared.Guid.{Guid}
 use Rattle.rules.specs.Entries.{Entries, interfacePlaces}
-use Rattle.rules.specs.Calls.{Call}
+use Rattle.rules.specs.Calls.{Call, Edit}
 use Rattle.rules.specs.Rules.{refusals, number, isLiveObject}
 use Rattle.table.specs.View.{memory, view}
 use Rattle.table.proofs.LiveRows.{interfaces-length}
@@ -25,7 +25,7 @@ At st s = view (memory (st .args .words .now) s)
 abbrev Left : ℕ → tie.Start → List ℕ → Guid → Type 0
 Left k st s iid =
     let a = st .args in
-    let call = Call.enterInterface (a .oid .0) (a .ipid) iid (a .public) in
+    let call = Call.editing (Edit.enterInterface (a .oid .0) (a .ipid) iid (a .public)) in
     number call (At st s) ≡ order (drop k (refusals call (At st s)))
 
 -- tests of the rows

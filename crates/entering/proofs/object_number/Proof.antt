@@ -11,7 +11,7 @@ use Rattle.kinds.specs.declared.Guid.{Guid}
 use Rattle.lists.specs.Lists.{some}
 use Rattle.lists.specs.Guids.{nil, sameGuid}
 use Rattle.rules.specs.Entries.{Entries, ipids, objectPlaces, interfacePlaces}
-use Rattle.rules.specs.Calls.{Call}
+use Rattle.rules.specs.Calls.{Call, Edit}
 use Rattle.rules.specs.Rules.{refusals, number, isLiveExporter, isLiveObject}
 use Rattle.table.specs.View.{memory, view}
 use Rattle.table.proofs.LiveRows.{objects-length, interfaces-length}
@@ -29,7 +29,7 @@ abbrev Left : ℕ → tie.Start → List ℕ → Guid → Bool → Type 0
 Left k st s iid np =
     let a = st .args in
     let e = At st s in
-    number (Call.enterObject (a .oid .0) (a .oxid .0) (a .ipid) iid (a .public) np) e
+    number (Call.editing (Edit.enterObject (a .oid .0) (a .oxid .0) (a .ipid) iid (a .public) np)) e
     ≡ order
     (drop k
     (eqb (a .oid .0) 0 gives 3
@@ -62,7 +62,7 @@ module _ (s : List ℕ) (iid : Guid) (np : Bool) where
       let a = st .args in
       let e = At st s in
       identifier-rows (eqb (a .oid .0) 0) (isLiveObject e (a .oid .0)) (sameGuid (a .ipid) nil || some (sameGuid (a .ipid)) (ipids e)) 3
-      (drop 1 (refusals (Call.enterObject (a .oid .0) (a .oxid .0) (a .ipid) iid (a .public) np) e))
+      (drop 1 (refusals (Call.editing (Edit.enterObject (a .oid .0) (a .oxid .0) (a .ipid) iid (a .public) np)) e))
       ∙ rw (two-rows (leb objectPlaces (length (e .objects))) (leb interfacePlaces (length (e .interfaces))) 9 [])
 
   left-1 : (c : tie.Else1) → Left 1 (c .before .before .before) s iid np

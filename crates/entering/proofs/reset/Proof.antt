@@ -5,7 +5,7 @@ use borrow.Author.Tests.{eq-eqb, ne-eqb}
 use mathlib.Core.Path.{_≡_}
 use lib.ListN.{length}
 use Rattle.kinds.specs.Refusals.{order}
-use Rattle.rules.specs.Calls.{Call}
+use Rattle.rules.specs.Calls.{Call, Start}
 use Rattle.rules.specs.Rules.{refusals, number, next, results, refusedReply, acceptedReply}
 use Rattle.rules.specs.Contract.{fit, soundMemory}
 use Rattle.rules.proofs.Performing.{unfit, accepted, fit-lengths}
@@ -19,13 +19,13 @@ returns : tie.Need-returns
 unfolding refusedReply results fit
 returns c =
     let a = c .before .before .before .args in
-    unfit view (Call.reset (a .time)) (memory (a .words .now) (a .store .now)) (rw (ne-eqb _ _ (c .if1 .taken)))
+    unfit view (Call.starting (Start.reset (a .time))) (memory (a .words .now) (a .store .now)) (rw (ne-eqb _ _ (c .if1 .taken)))
 
 returns-2 : tie.Need-returns-2
 unfolding refusedReply results fit
 returns-2 c =
     let a = c .before .before .before .before .args in
-    unfit view (Call.reset (a .time)) (memory (a .words .now) (a .store .now)) (rw (eq-eqb _ _ (c .before .if1 .left), ne-eqb _ _ (c .if2 .taken)))
+    unfit view (Call.starting (Start.reset (a .time))) (memory (a .words .now) (a .store .now)) (rw (eq-eqb _ _ (c .before .if1 .left), ne-eqb _ _ (c .if2 .taken)))
 
 returns-3 : tie.Need-returns-3
 unfolding acceptedReply results number refusals order next soundMemory
@@ -36,8 +36,8 @@ returns-3 c =
     let bytes = e .if2 .left in
     let view-is = c .before .before .clear .ensures (a .store .now) in
     let l : length (c .before .before .clear .last .0) ≡ 8192 = omega arith in
-    accepted view (Call.reset (a .time)) (memory (a .words .now) (a .store .now)) _
-    (fit-lengths view (Call.reset (a .time)) (memory (a .words .now) (a .store .now)) refl size bytes) refl
+    accepted view (Call.starting (Start.reset (a .time))) (memory (a .words .now) (a .store .now)) _
+    (fit-lengths view (Call.starting (Start.reset (a .time))) (memory (a .words .now) (a .store .now)) refl size bytes) refl
     (rw (eq-eqb _ _ l, eq-eqb _ _ bytes, view-is) (fresh-sound (a .time)))
     view-is
 

@@ -5,7 +5,7 @@ use mathlib.Core.Bool.{true}
 use native.Mathlib.Omega.{arith}
 use borrow.Author.Tests.{eq-eqb, ne-eqb, not-true, not-false}
 use lib.ListN.{length}
-use Rattle.rules.specs.Calls.{Call}
+use Rattle.rules.specs.Calls.{Call, Start}
 use Rattle.rules.specs.Rules.{results, refusedReply, acceptedReply}
 use Rattle.rules.proofs.Performing.{unfit}
 use Rattle.rules.specs.Contract.{fit}
@@ -18,13 +18,13 @@ returns : tie.Need-returns
 unfolding refusedReply results fit
 returns c =
     let a = c .before .before .before .before .args in
-    unfit view (Call.loadSnapshot (a .snapshot .now)) (memory (a .words .now) (a .store .now)) (rw (ne-eqb _ _ (c .if1 .taken)))
+    unfit view (Call.starting (Start.loadSnapshot (a .snapshot .now))) (memory (a .words .now) (a .store .now)) (rw (ne-eqb _ _ (c .if1 .taken)))
 
 returns-2 : tie.Need-returns-2
 unfolding refusedReply results fit
 returns-2 c =
     let a = c .before .before .before .before .before .args in
-    unfit view (Call.loadSnapshot (a .snapshot .now)) (memory (a .words .now) (a .store .now)) (rw (eq-eqb _ _ (c .before .if1 .left), ne-eqb _ _ (c .if2 .taken)))
+    unfit view (Call.starting (Start.loadSnapshot (a .snapshot .now))) (memory (a .words .now) (a .store .now)) (rw (eq-eqb _ _ (c .before .if1 .left), ne-eqb _ _ (c .if2 .taken)))
 
 returns-3 : tie.Need-returns-3
 unfolding refusedReply results

@@ -8,7 +8,7 @@ use lib.Dec.{leb, ltb}
 use lib.ListN.{length, drop}
 use Rattle.kinds.specs.Refusals.{order}
 use Rattle.rules.specs.Entries.{Entries, setPlaces}
-use Rattle.rules.specs.Calls.{Call}
+use Rattle.rules.specs.Calls.{Call, Edit}
 use Rattle.rules.specs.Rules.{number, isLiveSet, setOf, staleSequence}
 use Rattle.table.specs.View.{memory, view}
 use Rattle.table.proofs.LiveRows.{sets-length}
@@ -24,7 +24,7 @@ At st s = view (memory (st .args .words .now) s)
 
 -- the number that the rules give
 abbrev Number : tie.Start → List ℕ → ℕ
-Number st s = number (Call.complexPing (st .args .set .0) (st .args .sequence) (st .args .adds .now) (st .args .deletes .now)) (At st s)
+Number st s = number (Call.editing (Edit.complexPing (st .args .set .0) (st .args .sequence) (st .args .adds .now) (st .args .deletes .now))) (At st s)
 
 -- the rows of set 0, and those of another set
 new-left : (c : tie.Then3) (s : List ℕ) → Number (c .before .before .before .before .before .before .before) s ≡ order (newRows (c .before .before .before .before .before .before .before .args .set .0) (c .before .before .before .before .before .before .before .args .sequence) (c .before .before .before .before .before .before .before .args .adds .now) (c .before .before .before .before .before .before .before .args .deletes .now) (At (c .before .before .before .before .before .before .before) s))

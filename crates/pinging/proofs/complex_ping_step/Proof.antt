@@ -1,7 +1,7 @@
 -- `pinging::complex_ping_step`: what its number refuses; else the set's row is found or made, updated and pinged.
 use mathlib.Core.Path.{_≡_, refl, sym, _∙_}
 use native.Mathlib.Omega.{arith}
-use Rattle.rules.specs.Calls.{Call}
+use Rattle.rules.specs.Calls.{Call, Edit}
 use Rattle.rules.specs.Rules.{number, results, refusedReply, acceptedReply}
 use Rattle.table.specs.View.{memory, view, SoundTable}
 use Rattle.table.proofs.LiveRows.{sets-length}
@@ -24,7 +24,7 @@ returns c =
 sound-here : (c : tie.Else1) → SoundTable (memory (c .before .before .before .before .before .before .before .args .words .now) (c .before .before .before .before .before .before .before .args .store .now))
 sound-here c = c .before .before .before .before .before .before .before .pre
 
-accepted : (c : tie.Else1) → let a = c .before .before .before .before .before .before .before .args in number (Call.complexPing (a .set .0) (a .sequence) (a .adds .now) (a .deletes .now)) (view (memory (a .words .now) (a .store .now))) ≡ 0
+accepted : (c : tie.Else1) → let a = c .before .before .before .before .before .before .before .args in number (Call.editing (Edit.complexPing (a .set .0) (a .sequence) (a .adds .now) (a .deletes .now))) (view (memory (a .words .now) (a .store .now))) ≡ 0
 accepted c = sym (c .before .complex-number .ensures (c .before .before .before .before .before .before .before .args .store .now)) ∙ c .if1 .left
 
 ping-set-row-requires : tie.Need-ping-set-row-requires

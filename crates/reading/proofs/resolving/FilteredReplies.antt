@@ -18,7 +18,7 @@ use Rattle.bindings.proofs.ListAnswers.{front-list}
 use Rattle.bindings.proofs.FilterWriting.{answer-room, answer-done, write-refused, write-done}
 use Rattle.lists.proofs.Tests.{below-or-not}
 use Rattle.rules.specs.Entries.{Exporter, exporterRow}
-use Rattle.rules.specs.Calls.{Call}
+use Rattle.rules.specs.Calls.{Call, Look}
 use Rattle.rules.specs.Sound.{listsKept}
 use Rattle.rules.specs.Rules.{noExporter, isLiveExporter, exporterOf, tooMany, refusals, number, results, acceptedReply}
 use Rattle.table.specs.View.{exporterCount, listFrom, exportersOf, memory, view}
@@ -53,23 +53,23 @@ module _ (protocols list : List ℕ) (n : ℕ) {w : Filtered} (e : w ≡ writeFi
 
 module _ (ws s protocols buffer : List ℕ) (x : ℕ) where
   -- more protocols than the limit
-  pub too-many : tooMany protocols ≡ true → 10 ≡ number (Call.resolveFiltered x protocols buffer) (view (memory ws s))
+  pub too-many : tooMany protocols ≡ true → 10 ≡ number (Call.looking (Look.resolveFiltered x protocols buffer)) (view (memory ws s))
   unfolding number refusals
   too-many h = row-gives (tooMany protocols) 10 _ refl h
 
   module _ (few : tooMany protocols ≡ false) {r : ℕ} (found : r ≡ exporterRow (view (memory ws s)) x) where
-    rows-left : number (Call.resolveFiltered x protocols buffer) (view (memory ws s))
+    rows-left : number (Call.looking (Look.resolveFiltered x protocols buffer)) (view (memory ws s))
         ≡ order (not (isLiveExporter (view (memory ws s)) x) gives 4 ∷ ltb (length buffer) (length (filtered protocols (exporterOf (view (memory ws s)) x .bindings))) gives 15 ∷ [])
     unfolding number refusals
     rows-left = row-passes (tooMany protocols) 10 _ refl few
 
     module _ {n : ℕ} (counted : n ≡ exporterCount ws) where
-      pub gone : n ≤ r → 4 ≡ number (Call.resolveFiltered x protocols buffer) (view (memory ws s))
+      pub gone : n ≤ r → 4 ≡ number (Call.looking (Look.resolveFiltered x protocols buffer)) (view (memory ws s))
       gone h = gone-gives (exporter-tested ws s x found counted) 4 _ rows-left h
 
       -- the row of the filtered list's length is left
       pub length-left : {list : List ℕ} → list ≡ getD (exportersOf ws s) r noExporter .bindings → r < n
-          → number (Call.resolveFiltered x protocols buffer) (view (memory ws s)) ≡ order (ltb (length buffer) (length (filtered protocols list)) gives 15 ∷ [])
+          → number (Call.looking (Look.resolveFiltered x protocols buffer)) (view (memory ws s)) ≡ order (ltb (length buffer) (length (filtered protocols list)) gives 15 ∷ [])
       length-left held live =
           live-passes (exporter-tested ws s x found counted) 4 _ rows-left live
           ∙ ap (λ (l : List ℕ). order (ltb (length buffer) (length (filtered protocols l)) gives 15 ∷ [])) (sym (held ∙ ap (λ (p : Exporter). p .bindings) (exporter-in-row ws s x found)))
@@ -77,7 +77,7 @@ module _ (ws s protocols buffer : List ℕ) (x : ℕ) where
     -- the list, the IPID and the buffer are those of the rules
     pub answered : {list after : List ℕ} {u : Guid} {k : ℕ} → list ≡ getD (exportersOf ws s) r noExporter .bindings → u ≡ getD (exportersOf ws s) r noExporter .unknown
         → after ≡ written buffer 0 (filtered protocols list) → k ≡ length (filtered protocols list) → k ≤ length buffer
-        → resolveReply (record { answer = 0; length = k; unknown = u }) after ≡ acceptedReply (Call.resolveFiltered x protocols buffer) (view (memory ws s))
+        → resolveReply (record { answer = 0; length = k; unknown = u }) after ≡ acceptedReply (Call.looking (Look.resolveFiltered x protocols buffer)) (view (memory ws s))
     unfolding acceptedReply results
     answered {list} held unknown copied size fits =
         rw (← exporter-in-row ws s x found, ← held, ← unknown, copied, size, written-front buffer (filtered protocols list) (rw (← size) fits))

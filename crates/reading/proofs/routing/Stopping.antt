@@ -18,7 +18,7 @@ use Rattle.references.specs.declared.Reference.{Reference}
 use Rattle.references.proofs.Forms.{accepted, flags-at, tail-number, tail-within, tail-bytes}
 use Rattle.lists.specs.Lists.{firstIndex}
 use Rattle.rules.specs.Entries.{Entries, oxids, exporterRow}
-use Rattle.rules.specs.Calls.{Call, Reply}
+use Rattle.rules.specs.Calls.{Call, Look, Reply}
 use Rattle.rules.specs.Sound.{listsKept}
 use Rattle.rules.specs.Rules.{isLiveExporter, noExporter, oxidOf, refusals, number, next, results, refusedReply, acceptedReply}
 use Rattle.rules.specs.Contract.{Memory, replyTo}
@@ -39,7 +39,7 @@ module _ (reference : List ℕ) {x : Place} (own : x ≡ tailPlace reference) wh
   own-number = ap (λ (p : Place). p .answer) own ∙ tail-number reference
 
   -- its refusal is passed on
-  pub reference-refused : (e : Entries) → (x .answer ≡ 0 → ⊥) → x .answer ≡ number (Call.nextStop reference) e
+  pub reference-refused : (e : Entries) → (x .answer ≡ 0 → ⊥) → x .answer ≡ number (Call.looking (Look.nextStop reference)) e
   unfolding number refusals
   reference-refused e bad =
       let n : ℕ = referenceAnswer reference in
@@ -51,7 +51,7 @@ module _ (reference : List ℕ) {x : Place} (own : x ≡ tailPlace reference) wh
     good-reference = sym own-number ∙ good
 
     -- the row of the custom form is left
-    pub form-left : (e : Entries) → number (Call.nextStop reference) e ≡ order (isCustom (field reference 4 4) gives 14 ∷ [])
+    pub form-left : (e : Entries) → number (Call.looking (Look.nextStop reference)) e ≡ order (isCustom (field reference 4 4) gives 14 ∷ [])
     unfolding number refusals
     form-left e = row-passes (differ (referenceAnswer reference) 0) (referenceAnswer reference) _ refl (eq-differ (referenceAnswer reference) 0 good-reference)
 
@@ -76,15 +76,15 @@ module _ (ws s : List ℕ) (i : ℕ) (live : i < exporterCount ws) (kept : lists
 
 module _ (ws s reference : List ℕ) where
   -- a refusal
-  pub refused-stop : (n : ℕ) → (n ≡ 0 → ⊥) → Performed (Call.nextStop reference) (memory ws s) (refusedReply n (Call.nextStop reference) (view (memory ws s))) (memory ws s)
+  pub refused-stop : (n : ℕ) → (n ≡ 0 → ⊥) → Performed (Call.looking (Look.nextStop reference)) (memory ws s) (refusedReply n (Call.looking (Look.nextStop reference)) (view (memory ws s))) (memory ws s)
       → StopFound (memory ws s) reference (refusedStop n)
   unfolding refusedReply results stopPlace
   refused-stop n z h =
-      let e : replyTo view (Call.nextStop reference) (memory ws s) .number ≡ n = sym (ap (λ (r : Reply). r .number) (h .answered)) in
+      let e : replyTo view (Call.looking (Look.nextStop reference)) (memory ws s) .number ≡ n = sym (ap (λ (r : Reply). r .number) (h .answered)) in
       record { performed = h; place = rw (e, ne-eqb n 0 z); within = (omega arith, omega arith) }
 
-  module _ (h : Performed (Call.nextStop reference) (memory ws s) (acceptedReply (Call.nextStop reference) (view (memory ws s))) (memory ws s)) where
-    accepted-number : replyTo view (Call.nextStop reference) (memory ws s) .number ≡ 0
+  module _ (h : Performed (Call.looking (Look.nextStop reference)) (memory ws s) (acceptedReply (Call.looking (Look.nextStop reference)) (view (memory ws s))) (memory ws s)) where
+    accepted-number : replyTo view (Call.looking (Look.nextStop reference)) (memory ws s) .number ≡ 0
     unfolding acceptedReply
     accepted-number = sym (ap (λ (r : Reply). r .number) (h .answered))
 
@@ -119,7 +119,7 @@ found-part found store bytes =
 -- ---- the number and the part, as one call
 
 -- a place is in the store where nothing is refused and the OXID is live
-in-store : (m : Memory) (reference : List ℕ) (k : ℕ) → k ≡ replyTo view (Call.nextStop reference) m .number
+in-store : (m : Memory) (reference : List ℕ) (k : ℕ) → k ≡ replyTo view (Call.looking (Look.nextStop reference)) m .number
     → stopPlace m reference .in_store ≡ cond (eqb k 0) (isLiveExporter (view m) (oxidOf reference)) false
 unfolding stopPlace
 in-store m reference k e = rw (sym e) (picked (eqb k 0) (isLiveExporter (view m) (oxidOf reference)))
@@ -129,26 +129,26 @@ in-store m reference k e = rw (sym e) (picked (eqb k 0) (isLiveExporter (view m)
     picked true false = refl
     picked false b = refl
 
-module _ (m : Memory) (reference : List ℕ) {n : ℕ} {part : List ℕ} (e : n ≡ replyTo view (Call.nextStop reference) m .number) (f : part ≡ replyTo view (Call.nextStop reference) m .part) where
+module _ (m : Memory) (reference : List ℕ) {n : ℕ} {part : List ℕ} (e : n ≡ replyTo view (Call.looking (Look.nextStop reference)) m .number) (f : part ≡ replyTo view (Call.looking (Look.nextStop reference)) m .part) where
   -- they are those of the reply with which the call is performed, and so is the slice
-  as-performed : {k : ℕ} {i : Bool} {b : List ℕ} → Performed (Call.nextStop reference) m (stopReply k i b) m → stopPlace m reference .in_store ≡ i
-      → Performed (Call.nextStop reference) m (stopReply n (stopPlace m reference .in_store) part) m
+  as-performed : {k : ℕ} {i : Bool} {b : List ℕ} → Performed (Call.looking (Look.nextStop reference)) m (stopReply k i b) m → stopPlace m reference .in_store ≡ i
+      → Performed (Call.looking (Look.nextStop reference)) m (stopReply n (stopPlace m reference .in_store) part) m
   as-performed h p = rw (p, e, f, ← h .answered) h
 
-  by-outcome : (sound accepted : Bool) → soundMemory m ≡ sound → eqb (number (Call.nextStop reference) (view m)) 0 ≡ accepted
-      → Performed (Call.nextStop reference) m (stopReply n (stopPlace m reference .in_store) part) m
+  by-outcome : (sound accepted : Bool) → soundMemory m ≡ sound → eqb (number (Call.looking (Look.nextStop reference)) (view m)) 0 ≡ accepted
+      → Performed (Call.looking (Look.nextStop reference)) m (stopReply n (stopPlace m reference .in_store) part) m
   unfolding next refusedReply acceptedReply results
   by-outcome false a s t =
-      let h = unsound view (Call.nextStop reference) m refl s in
+      let h = unsound view (Call.looking (Look.nextStop reference)) m refl s in
       as-performed {i = false} h (in-store m reference 1 (ap (λ (r : Reply). r .number) (h .answered)))
   by-outcome true false s t =
-      let h : Performed (Call.nextStop reference) m (refusedReply (number (Call.nextStop reference) (view m)) (Call.nextStop reference) (view m)) m =
+      let h : Performed (Call.looking (Look.nextStop reference)) m (refusedReply (number (Call.looking (Look.nextStop reference)) (view m)) (Call.looking (Look.nextStop reference)) (view m)) m =
       step-call refl (table-fields view m s) (refused-step _ refl (eqb-false _ _ t)) in
       as-performed {i = false} h (in-store m reference _ (ap (λ (r : Reply). r .number) (h .answered)) ∙ rw t)
   by-outcome true true s t =
-      let h : Performed (Call.nextStop reference) m (acceptedReply (Call.nextStop reference) (view m)) m =
+      let h : Performed (Call.looking (Look.nextStop reference)) m (acceptedReply (Call.looking (Look.nextStop reference)) (view m)) m =
       step-call refl (table-fields view m s) (accepted-step _ refl (eqb-true _ _ t) m refl) in
       as-performed h (in-store m reference 0 (ap (λ (r : Reply). r .number) (h .answered)))
 
 pub one-call : OneCall
-one-call m reference n part e f = by-outcome m reference e f (soundMemory m) (eqb (number (Call.nextStop reference) (view m)) 0) refl refl
+one-call m reference n part e f = by-outcome m reference e f (soundMemory m) (eqb (number (Call.looking (Look.nextStop reference)) (view m)) 0) refl refl

@@ -7,7 +7,7 @@ use native.Mathlib.Nat.{zero-add}
 use borrow.Author.Tests.{lt-ltb, le-ltb}
 use lib.ListN.{length}
 use Rattle.fields.proofs.Fields.{written-front}
-use Rattle.rules.specs.Calls.{Call}
+use Rattle.rules.specs.Calls.{Call, Look}
 use Rattle.rules.specs.Rules.{refusals, number, next, results, refusedReply, acceptedReply}
 use Rattle.rules.specs.Snapshot.{snapshotBytes}
 use Rattle.table.specs.View.{memory, view}
@@ -21,13 +21,13 @@ use Rattle.saving.proofs.write_snapshot_step.Tie as tie
 -- n is the snapshot's length
 module _ (ws store buffer : List ℕ) {n : ℕ} (counted : n ≡ length (snapshotBytes (view (memory ws store)))) where
   -- the buffer is shorter
-  short : length buffer < n → 15 ≡ number (Call.writeSnapshot buffer) (view (memory ws store))
+  short : length buffer < n → 15 ≡ number (Call.looking (Look.writeSnapshot buffer)) (view (memory ws store))
   unfolding number refusals
   short h = row-gives _ 15 [] refl (lt-ltb (length buffer) (length (snapshotBytes (view (memory ws store)))) (omega arith))
 
   -- length and buffer are those of the rules
   answered : {after : List ℕ} {end : ℕ} → Wrote buffer 0 (snapshotBytes (view (memory ws store))) after end → n ≤ length buffer
-      → writtenReply (record { answer = 0; length = end }) after ≡ acceptedReply (Call.writeSnapshot buffer) (view (memory ws store))
+      → writtenReply (record { answer = 0; length = end }) after ≡ acceptedReply (Call.looking (Look.writeSnapshot buffer)) (view (memory ws store))
   unfolding acceptedReply results
   answered w fits =
       let room : length (snapshotBytes (view (memory ws store))) ≤ length buffer = omega arith in
@@ -36,7 +36,7 @@ module _ (ws store buffer : List ℕ) {n : ℕ} (counted : n ≡ length (snapsho
       rw (whole, size)
 
   -- the buffer is long enough
-  enough : n ≤ length buffer → 0 ≡ number (Call.writeSnapshot buffer) (view (memory ws store))
+  enough : n ≤ length buffer → 0 ≡ number (Call.looking (Look.writeSnapshot buffer)) (view (memory ws store))
   unfolding number refusals
   enough fits = rows-end (row-passes _ 15 [] refl (le-ltb (length buffer) (length (snapshotBytes (view (memory ws store)))) (omega arith)))
 

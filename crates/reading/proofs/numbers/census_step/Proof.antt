@@ -3,7 +3,7 @@ use mathlib.Core.Path.{_≡_, refl, subst}
 use mathlib.Core.List.{List, [], _∷_}
 use Prim.Native.Nat.{ℕ}
 use Rattle.kinds.specs.Refusals.{order}
-use Rattle.rules.specs.Calls.{Call}
+use Rattle.rules.specs.Calls.{Call, Look}
 use Rattle.rules.specs.Rules.{liveNumbers, refusals, number, next, results, acceptedReply}
 use Rattle.table.specs.View.{memory, view, Stepped}
 use Rattle.table.proofs.LiveRows.{exporters-length, objects-length, interfaces-length, sets-length}
@@ -21,7 +21,7 @@ returns c =
     let counts : liveNumbers (view m) ≡ c .before .before .before .exporter-count .result ∷ c .before .before .object-count .result ∷ c .before .interface-count .result ∷ c .set-count .result ∷ [] =
     rw (exporters-length ws (a .store .now), objects-length ws, interfaces-length ws, sets-length ws)
     (cc (c .before .before .before .exporter-count .ensures .0, c .before .before .object-count .ensures .0, c .before .interface-count .ensures .0, c .set-count .ensures .0)) in
-    subst (λ (vs : List ℕ). Stepped Call.census m (record { number = 0; values = vs; part = []; buffer = [] }) m) counts (accepted-step 0 refl refl m refl)
+    subst (λ (vs : List ℕ). Stepped (Call.looking Look.census) m (record { number = 0; values = vs; part = []; buffer = [] }) m) counts (accepted-step 0 refl refl m refl)
 
 pub census-step-spec : {M : Type 1} → statement M
 census-step-spec =

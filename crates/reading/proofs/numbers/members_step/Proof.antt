@@ -7,7 +7,7 @@ use lib.ListN.{length, getD, length-map}
 use Rattle.columns.specs.Members.{memberRows}
 use Rattle.columns.specs.declared.members.Members.{Members}
 use Rattle.rules.specs.Entries.{PingSet, setRow}
-use Rattle.rules.specs.Calls.{Call}
+use Rattle.rules.specs.Calls.{Call, Look}
 use Rattle.rules.specs.Rules.{noSet, setOf, refusals, number, next, results, refusedReply, acceptedReply}
 use Rattle.rules.proofs.ByRow.{set-row}
 use Rattle.table.specs.View.{setCount, setsOf, memory, view, Stepped, membersAt}
@@ -19,11 +19,11 @@ use Rattle.reading.proofs.numbers.members_step.Tie as tie
 
 -- the row that was found, of as many as were counted
 module _ (ws s : List ℕ) (x : ℕ) {r n : ℕ} (found : r ≡ setRow (view (memory ws s)) x) (counted : n ≡ setCount ws) where
-  gone : n ≤ r → 11 ≡ number (Call.members x) (view (memory ws s))
+  gone : n ≤ r → 11 ≡ number (Call.looking (Look.members x)) (view (memory ws s))
   unfolding number refusals
   gone h = gone-gives (set-tested ws s x found counted) _ _ refl h
 
-  here : r < n → 0 ≡ number (Call.members x) (view (memory ws s))
+  here : r < n → 0 ≡ number (Call.looking (Look.members x)) (view (memory ws s))
   unfolding number refusals
   here h = rows-end (live-passes (set-tested ws s x found counted) _ _ refl h)
 
@@ -49,7 +49,7 @@ returns-2 c =
     let found = c .before .before .before .before .set-row .ensures (a .store .now) in
     let counted = c .before .before .before .set-count .ensures .0 in
     let inside = c .before .before .if1 .left in
-    subst (λ (k : ℕ). Stepped (Call.members (a .set .0)) m (record { number = 0; values = k ∷ []; part = []; buffer = [] }) m)
+    subst (λ (k : ℕ). Stepped (Call.looking (Look.members (a .set .0))) m (record { number = 0; values = k ∷ []; part = []; buffer = [] }) m)
     (members (a .words .now) (a .store .now) (a .set .0) found counted inside (c .before .members .result) (c .before .members .ensures) ∙ sym (c .size .ensures))
     (accepted-step 0 (here (a .words .now) (a .store .now) (a .set .0) found counted inside) refl m refl)
 

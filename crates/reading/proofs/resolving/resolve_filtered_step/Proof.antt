@@ -8,7 +8,7 @@ use lib.ListN.{length}
 use Rattle.kinds.specs.Refusals.{order, _gives_}
 use Rattle.bindings.specs.Bindings.{listAnswer}
 use Rattle.bindings.specs.Filter.{filtered}
-use Rattle.rules.specs.Calls.{Call}
+use Rattle.rules.specs.Calls.{Call, Look}
 use Rattle.rules.specs.Rules.{number, next, results, refusedReply}
 use Rattle.rules.proofs.SoundLaws.{sound-fields}
 use Rattle.table.specs.View.{memory, view}
@@ -49,7 +49,7 @@ list-requires c κs =
 
 -- the row of the filtered list's length, where the exporter was found
 list-left : (c : tie.After-list) → let a = c .before .before .before .before .before .before .before .before .before .args in
-    number (Call.resolveFiltered (a .oxid .0) (a .protocols .now) (a .buffer .now)) (view (memory (a .words .now) (a .store .now)))
+    number (Call.looking (Look.resolveFiltered (a .oxid .0) (a .protocols .now) (a .buffer .now))) (view (memory (a .words .now) (a .store .now)))
     ≡ order (ltb (length (a .buffer .now)) (length (filtered (a .protocols .now) (c .list .result .now))) gives 15 ∷ [])
 list-left c =
     let a = c .before .before .before .before .before .before .before .before .before .args in

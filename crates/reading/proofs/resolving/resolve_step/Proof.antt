@@ -11,7 +11,7 @@ use Rattle.kinds.specs.declared.Guid.{Guid}
 use Rattle.fields.specs.Fields.{written}
 use Rattle.fields.proofs.Fields.{written-front}
 use Rattle.rules.specs.Entries.{Exporter, exporterRow}
-use Rattle.rules.specs.Calls.{Call}
+use Rattle.rules.specs.Calls.{Call, Look}
 use Rattle.rules.specs.Rules.{noExporter, refusals, number, next, results, refusedReply, acceptedReply}
 use Rattle.rules.proofs.SoundLaws.{sound-fields}
 use Rattle.rules.proofs.ByRow.{exporter-row}
@@ -26,13 +26,13 @@ use Rattle.reading.proofs.resolving.resolve_step.Tie as tie
 module _ (ws s buffer : List ℕ) (x : ℕ) {r : ℕ} (found : r ≡ exporterRow (view (memory ws s)) x) where
   module _ {n : ℕ} (counted : n ≡ exporterCount ws) where
     -- no exporter
-    gone : n ≤ r → 4 ≡ number (Call.resolve x buffer) (view (memory ws s))
+    gone : n ≤ r → 4 ≡ number (Call.looking (Look.resolve x buffer)) (view (memory ws s))
     unfolding number refusals
     gone h = gone-gives (exporter-tested ws s x found counted) _ _ refl h
 
     -- the row of the list's length is left
     length-left : {list : List ℕ} → list ≡ getD (exportersOf ws s) r noExporter .bindings → r < n
-        → number (Call.resolve x buffer) (view (memory ws s)) ≡ order (ltb (length buffer) (length list) gives 15 ∷ [])
+        → number (Call.looking (Look.resolve x buffer)) (view (memory ws s)) ≡ order (ltb (length buffer) (length list) gives 15 ∷ [])
     unfolding number refusals
     length-left held live =
         live-passes (exporter-tested ws s x found counted) _ _ refl live
@@ -41,7 +41,7 @@ module _ (ws s buffer : List ℕ) (x : ℕ) {r : ℕ} (found : r ≡ exporterRow
   -- the list, the IPID and the buffer are those of the rules
   answered : {list after : List ℕ} {u : Guid} → list ≡ getD (exportersOf ws s) r noExporter .bindings → u ≡ getD (exportersOf ws s) r noExporter .unknown
       → after ≡ written buffer 0 list → length list ≤ length buffer
-      → resolveReply (record { answer = 0; length = length list; unknown = u }) after ≡ acceptedReply (Call.resolve x buffer) (view (memory ws s))
+      → resolveReply (record { answer = 0; length = length list; unknown = u }) after ≡ acceptedReply (Call.looking (Look.resolve x buffer)) (view (memory ws s))
   unfolding acceptedReply results
   answered {list} held unknown copied fits = rw (← exporter-in-row ws s x found, ← held, ← unknown, copied, written-front buffer list fits)
 
@@ -67,7 +67,7 @@ list-requires c κs =
 
 -- the row of the list's length, where the exporter was found
 list-left : (c : tie.After-list) → let a = c .before .before .before .before .before .before .before .args in
-    number (Call.resolve (a .oxid .0) (a .buffer .now)) (view (memory (a .words .now) (a .store .now)))
+    number (Call.looking (Look.resolve (a .oxid .0) (a .buffer .now))) (view (memory (a .words .now) (a .store .now)))
     ≡ order (ltb (length (a .buffer .now)) (length (c .list .result .now)) gives 15 ∷ [])
 list-left c =
     let a = c .before .before .before .before .before .before .before .args in

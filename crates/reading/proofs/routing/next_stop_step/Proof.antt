@@ -4,7 +4,7 @@ use native.Mathlib.Omega.{arith}
 use borrow.Author.Tests.{eq-eqb, ne-eqb, lt-ltb, le-ltb}
 use Rattle.fields.specs.Fields.{field}
 use Rattle.references.specs.declared.Reference.{Reference}
-use Rattle.rules.specs.Calls.{Call}
+use Rattle.rules.specs.Calls.{Call, Look}
 use Rattle.rules.specs.Rules.{oxidOf, next, acceptedReply}
 use Rattle.rules.proofs.SoundLaws.{sound-fields}
 use Rattle.table.specs.View.{memory, view, SoundTable, Performed}
@@ -42,7 +42,7 @@ other c z = c .if2 .left (named (c .before .before) ∙ z)
 
 accepted : (c : tie.Else2) → let a = c .before .before .before .before .before .before .before .before .before .args in
     let m = memory (a .words .now) (a .store .now) in
-    Performed (Call.nextStop (a .reference .now)) m (acceptedReply (Call.nextStop (a .reference .now)) (view m)) m
+    Performed (Call.looking (Look.nextStop (a .reference .now))) m (acceptedReply (Call.looking (Look.nextStop (a .reference .now))) (view m)) m
 unfolding next
 accepted c =
     let left = form-left _ (c .before .before .before .before .before .tail-place .ensures) (c .before .before .before .if1 .left) _ in
