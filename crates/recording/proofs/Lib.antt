@@ -1,0 +1,9 @@
+pub mod Framing
+pub mod Places
+pub mod Walking
+pub mod Tables
+pub mod Numbers
+pub mod Formed
+pub mod ReadingBack
+pub mod Givens
+pub mod Cases

@@ -1,0 +1,4 @@
+pub mod Recording
+pub mod Places
+pub mod Statements
+pub mod Cases
