@@ -1,0 +1,4 @@
+pub mod Sums
+pub mod Nine
+pub mod Balanced
+pub mod Sides

@@ -1,0 +1,66 @@
+-- Sums of counts: of a list of which one is changed, of interfaces that are kept, changed and entered.
+use Prim.Native.Nat.{ℕ, zero, suc, _+_, _<_}
+use mathlib.Core.Path.{_≡_, refl}
+use mathlib.Core.Bool.{Bool, false, not}
+use mathlib.Core.List.{List, [], _∷_, _++_}
+use mathlib.Core.Logic.{⊎-elim}
+use native.Mathlib.Omega.{arith}
+use borrow.Author.Tests.{eqb-true, not-false}
+use lib.ListN.{length, getD, set}
+use lib.Dec.{eqb}
+use Rattle.lists.specs.Lists.{keep, some}
+use Rattle.lists.proofs.Tests.{true-or-false, or-left, or-right}
+use Rattle.rules.specs.Entries.{Interface}
+use Rattle.rules.specs.Sound.{held}
+use Rattle.balance.specs.Balance.{total, countsHeld}
+
+-- one number changed
+pub total-set : (ns : List ℕ) (k v : ℕ) → k < length ns → total (set ns k v) + getD ns k 0 ≡ total ns + v
+unfolding total
+total-set [] k v h = absurd (omega arith)
+total-set (n ∷ ns) zero v h = omega arith
+total-set (n ∷ ns) (suc k) v h = let r = total-set ns k v (omega arith) in omega arith
+
+-- no number but zero
+total-none : (ns : List ℕ) → some (λ (n : ℕ). not (eqb n 0)) ns ≡ false → total ns ≡ 0
+unfolding total some
+total-none [] h = refl
+total-none (n ∷ ns) h =
+    let z = eqb-true n 0 (not-false (eqb n 0) (or-left (not (eqb n 0)) (some (λ (n : ℕ). not (eqb n 0)) ns) h)) in
+    let r = total-none ns (or-right (not (eqb n 0)) (some (λ (n : ℕ). not (eqb n 0)) ns) h) in
+    omega arith
+
+-- interfaces in two parts
+pub held-append : (xs ys : List Interface) → countsHeld (xs ++ ys) ≡ countsHeld xs + countsHeld ys
+unfolding countsHeld
+held-append [] ys = omega arith
+held-append (x ∷ xs) ys = let r = held-append xs ys in omega arith
+
+-- those that pass a test and those that don't
+pub held-split : (p : Interface → Bool) (xs : List Interface) → countsHeld (keep p xs) + countsHeld (keep (λ (i : Interface). not (p i)) xs) ≡ countsHeld xs
+unfolding countsHeld keep
+held-split p [] = omega arith
+held-split p (x ∷ xs) =
+    let r = held-split p xs in
+    ⊎-elim
+    (λ t. rw t (omega arith))
+    (λ f. rw f (omega arith))
+    (true-or-false (p x))
+
+-- one interface changed
+pub held-set : (is : List Interface) (d x : Interface) (k : ℕ) → k < length is → countsHeld (set is k x) + total (getD is k d .counts) ≡ countsHeld is + total (x .counts)
+unfolding countsHeld
+held-set [] d x k h = absurd (omega arith)
+held-set (i ∷ is) d x zero h = omega arith
+held-set (i ∷ is) d x (suc k) h = let r = held-set is d x k (omega arith) in omega arith
+
+-- an interface without references counts nothing
+pub held-kept : (is : List Interface) → countsHeld (keep held is) ≡ countsHeld is
+unfolding countsHeld keep
+held-kept [] = refl
+held-kept (i ∷ is) =
+    let r = held-kept is in
+    ⊎-elim
+    (λ t. rw t (omega arith))
+    (λ f. let z = total-none (i .counts) f in rw f (omega arith))
+    (true-or-false (held i))
