@@ -1,0 +1,41 @@
+-- `replay::plain::add`: the step, and the recorded answer compared.
+use mathlib.Core.Path.{_≡_, refl, sym, subst}
+use native.Mathlib.Omega.{arith}
+use lib.ListN.{length}
+use Rattle.fields.specs.Fields.{field, guidAt}
+use Rattle.rules.specs.Calls.{editing, add}
+use Rattle.rules.specs.Rules.{results}
+use Rattle.table.specs.View.{memory}
+use Rattle.replay.specs.Steps.{CallDone}
+use Rattle.replay.specs.declared.Step.{Step}
+use Rattle.replay.proofs.Doing.{number-done}
+use borrow.Author.Needs.{needs}
+use Rattle.replay.proofs.plain.add.Statement.{statement}
+use Rattle.replay.proofs.plain.add.Tie as tie
+
+returns : tie.Need-returns
+unfolding results
+returns c =
+    let start = c .before .before .before .before .before .before .before .before .before .before .before .before .before .before in
+    let done = c .before .before .before in
+    let t = start .pre .0 in
+    let words : length (done .add-step .last .0) ≡ 8192 = omega arith in
+    let st = rw (done .before .before .before .before .read-u32 .ensures, done .before .before .before .read-guid .ensures, done .before .before .read-u322 .ensures, done .before .read-u323 .ensures) at (done .add-step .ensures) in
+    subst
+    (λ (d : Step).
+    CallDone (editing (add (field (start .args .call .now) 1 4) (guidAt (start .args .call .now) 5) (field (start .args .call .now) 21 4) (field (start .args .call .now) 25 4))) (start .args .answer .now) (start .args .shown .now) (memory (start .args .words .now) (start .args .store .now)) d (memory (done .add-step .last .0) (start .args .store .now)))
+    (sym (c .step-of .ensures))
+    (number-done (editing (add (field (start .args .call .now) 1 4) (guidAt (start .args .call .now) 5) (field (start .args .call .now) 21 4) (field (start .args .call .now) 25 4))) _ _ _ (start .args .answer .now) (start .args .shown .now) t st refl refl refl refl (start .pre .1) words (t .store))
+
+pub add-spec : {M : Type 1} → statement M
+add-spec =
+    tie.close
+    (tie.spec
+    (λ c κs. search needs)
+    (λ c κs. search needs)
+    (λ c κs. search needs)
+    (λ c κs. search needs)
+    (λ c κs. search needs)
+    (λ c κs. search needs)
+    (λ c. search needs)
+    returns)

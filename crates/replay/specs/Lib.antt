@@ -1,0 +1,4 @@
+pub mod Replay
+pub mod Steps
+pub mod Statements
+pub mod Cases
