@@ -1,23 +1,26 @@
 -- The members of a set by the rows of the objects, and how they change in a complex ping.
-use Prim.Native.Nat.{ℕ, _<_, _≤_}
+use Prim.Native.Nat.{ℕ, _+_, _<_, _≤_}
 use mathlib.Core.Path.{_≡_, refl, sym, ap, _∙_}
 use mathlib.Core.Bool.{Bool, true, false, cond, not, _&&_, _||_, and-false, or-true}
 use mathlib.Core.List.{List, [], _∷_, _++_}
 use mathlib.Core.Logic.{⊎-elim}
 use native.Mathlib.Omega.{arith}
+use native.Mathlib.Numerals.{add-one}
 use borrow.Author.Tests.{eqb-true, eq-eqb, ne-eqb, lt-ltb, le-ltb}
 use lib.Dec.{eqb, ltb}
-use lib.ListN.{length, getD}
+use lib.ListN.{length, getD, take, drop, take-append-drop}
+use lib.Seq.{take-suc, take-length}
 use Rattle.kinds.proofs.Refusing.{true-false}
-use Rattle.lists.specs.Lists.{keep, some, firstIndex, among}
+use Rattle.lists.specs.Lists.{keep, some, every, firstIndex, among}
 use Rattle.columns.specs.Members.{hasMember, InWords, MemberPut}
 use Rattle.columns.specs.declared.members.Members.{Members}
 use Rattle.lists.proofs.Tests.{true-or-false, below-or-not}
-use Rattle.lists.proofs.Lists.{some-one, some-append}
+use Rattle.lists.proofs.Lists.{every-append, every-nil, every-snoc, some-one, some-append}
 use Rattle.lists.proofs.First.{first-at}
 use Rattle.lists.proofs.Distinct.{eqb-decides, first-same}
 use Rattle.rules.specs.Sound.{proper}
-use Rattle.pinging.specs.Pinging.{MembersUpdated}
+use Rattle.pinging.specs.Pinging.{MembersUpdated, OneListed, AllListed}
+use Rattle.pinging.specs.declared.Listed.{Listed}
 use Rattle.table.specs.View.{memberValues}
 use Rattle.calls.proofs.Members.{ids-distinct, member-among, members-kept}
 
@@ -101,6 +104,45 @@ module _ (ids : List ℕ) (p : proper ids ≡ true) where
         later true true true w = refl
         later true true false w = refl
         later true false b w = refl
+
+  -- ---- a list that is read element by element, whatever holds it
+
+  module _ (member : Bool) (m : Members) where
+    -- none
+    pub listed-none : InWords m → AllListed member ids [] m (record { members = m; live = true })
+    listed-none w = record { members = λ t. put-nil member m w; live = sym (rw (every-nil (among ids), or-true (not member))) }
+
+    module _ (listed : List ℕ) (k : ℕ) {r r′ : Listed} {oid : ℕ} (before : AllListed member ids (take k listed) m r) (live : r .live ≡ true) (h : k < length listed) (e : oid ≡ getD listed k 0) (one : OneListed member ids oid r r′) where
+      -- one more
+      pub listed-next : AllListed member ids (take (k + 1) listed) m r′
+      listed-next =
+          rw (add-one k, take-suc listed k 0 h, ← e)
+          (record {
+            members = λ t. put-snoc member (take k listed) oid (before .members live) (one .members);
+            live = one .live live ∙ both member (every (among ids) (take k listed)) (among ids oid) (sym live ∙ before .live) ∙ ap (_||_ (not member)) (sym (every-snoc (among ids) (take k listed) oid));
+          })
+        where
+          both : (t a b : Bool) → true ≡ (not t || a) → (not t || b) ≡ (not t || (a && b))
+          both false a b e = refl
+          both true true b e = refl
+          both true false b e = absurd (true-false e)
+
+      -- one that is to be added and not live: the others do not matter
+      pub listed-dead : r′ .live ≡ false → AllListed member ids listed m r′
+      listed-dead d =
+          record {
+            members = λ t. absurd (true-false (sym t ∙ d));
+            live = d ∙ past member (every (among ids) (take (k + 1) listed)) (every (among ids) (drop (k + 1) listed)) (sym d ∙ listed-next .live) ∙ ap (_||_ (not member)) (sym (every-append (among ids) (take (k + 1) listed) (drop (k + 1) listed)) ∙ ap (every (among ids)) (take-append-drop (k + 1) listed));
+          }
+        where
+          past : (t a b : Bool) → false ≡ (not t || a) → false ≡ (not t || (a && b))
+          past false a b e = absurd (true-false (sym e))
+          past true true b e = absurd (true-false (sym e))
+          past true false b e = refl
+
+    -- all
+    pub listed-all : (listed : List ℕ) (k : ℕ) {r : Listed} → AllListed member ids (take k listed) m r → k ≡ length listed → AllListed member ids listed m r
+    listed-all listed k before e = rw (e, take-length listed) at before
 
   -- adds, then deletes: the OIDs that stay or join, and are not deleted
   pub new-members : (adds dels : List ℕ) (m a r : Members) → length ids ≤ 128 → ((j : ℕ) → length ids ≤ j → hasMember m j ≡ false) → MembersUpdated true ids adds m a → MembersUpdated false ids dels a r

@@ -8,17 +8,18 @@ use std::num;
 use table::find;
 ghost use mathlib.Core.Path.{_≡_};
 ghost use mathlib.Core.Bool.{true};
-ghost use mathlib.Core.List.{[], _∷_};
-ghost use Prim.Native.Nat.{_-_, _^_, _<_};
+ghost use mathlib.Core.List.{List, []};
+ghost use Prim.Native.Nat.{ℕ, _-_, _^_, _<_};
+ghost use Rattle.kinds.specs.Refusals.{order};
 ghost use Rattle.rules.specs.Entries.{oids, setPlaces};
 ghost use Rattle.rules.specs.Sound.{proper};
-ghost use Rattle.rules.specs.Rules.{staleSequence, pingSetNumber, number, heardNow};
+ghost use Rattle.rules.specs.Rules.{staleSequence, pingSetNumber, heardNow};
 ghost use Rattle.rules.specs.Calls.{Call, Edit, numbered};
-ghost use Rattle.rules.specs.PingRows.{pingedRow, updatedRow};
-ghost use Rattle.table.specs.View.{objectCount, setCount, memory, SoundTable, Stepped, Performed, Holds, oidsOf, membersLiveIn, nextOf, memberValues};
+ghost use Rattle.rules.specs.PingRows.{pingedRow};
+ghost use Rattle.table.specs.View.{objectCount, setCount, memory, view, SoundTable, Stepped, Performed, Holds, oidsOf, membersBelow, nextOf, memberValues};
 ghost use Rattle.edit.specs.Edits.{Became};
 ghost use Rattle.pinging.specs.Replies.{pingReply};
-ghost use Rattle.pinging.specs.Pinging.{heardRow, pingSetRow, withPingSet, MembersUpdated};
+ghost use Rattle.pinging.specs.Pinging.{heardRow, pingSetRow, withPingSet, isPingSet, earlyRows, lateRows, oidsIn, OneListed, AllListed, MembersBefore, updatedTo, Reduced};
 ghost use Rattle.rules.specs.Contract.{Whole};
 
 // Object i is heard now, where it is a member.
@@ -99,34 +100,18 @@ fn is_stale(last: u16, new: u16) -> bool
     32767 < ahead
 }
 
-// The number of a complex ping: 10; of a set other than 0: 11; 12; 5; of set 0: 5; 9; 18.
-fn complex_number<'a>(
-    words: &'a [u64],
-    set: SetId,
-    sequence: u16,
-    adds: &'a [u64],
-    deletes: &'a [u64],
-) -> u32
+// The number of a complex ping before an id is looked at, by the lengths of its lists: 10; of a set other than 0: 11; 12.
+fn early_number(words: &[u64], set: SetId, sequence: u16, adds: usize, deletes: usize) -> u32
     requires { ⌜ Whole (now words) ⌝ }
-    ensures { λ r. ⌜
-        Holds (λ e. r ≡ number (Call.editing (Edit.complexPing (set .0) sequence (now (adds .entry)) (now (deletes .entry)))) e) (now (words .entry)) ⌝ }
+    ensures { λ r. ⌜ Holds (λ e. r ≡ order (earlyRows (set .0) sequence adds deletes e)) (now (words .entry)) ⌝ }
 {
-    if answer::MOST_LISTED < adds.len() {
+    if answer::MOST_LISTED < adds {
         return answer::TOO_MANY;
     }
-    if answer::MOST_LISTED < deletes.len() {
+    if answer::MOST_LISTED < deletes {
         return answer::TOO_MANY;
     }
     if set.0 == 0 {
-        if !find::are_live(words, adds) {
-            return answer::NO_OBJECT;
-        }
-        if limits::SET_PLACES <= find::set_count(words) {
-            return answer::NO_PLACE;
-        }
-        if find::next_set(words) == 0xFFFFFFFFFFFFFFFF {
-            return answer::SETS_USED_UP;
-        }
         return answer::DONE;
     }
     let i = find::set_row(words, set);
@@ -136,60 +121,117 @@ fn complex_number<'a>(
     if is_stale(find::sequence(words, i), sequence) {
         return answer::STALE;
     }
-    if !find::are_live(words, adds) {
-        return answer::NO_OBJECT;
+    answer::DONE
+}
+
+// The rest of it, once every id to be added is live: of set 0: 9; 18.
+fn late_number(words: &[u64], set: SetId) -> u32
+    requires { ⌜ Whole (now words) ⌝ }
+    ensures { λ r. ⌜ Holds (λ e. r ≡ order (lateRows (set .0) e)) (now (words .entry)) ⌝ }
+{
+    if set.0 == 0 {
+        if limits::SET_PLACES <= find::set_count(words) {
+            return answer::NO_PLACE;
+        }
+        if find::next_set(words) == 0xFFFFFFFFFFFFFFFF {
+            return answer::SETS_USED_UP;
+        }
+        return answer::DONE;
     }
     answer::DONE
 }
 
-// The members with the object of one OID, or without it; an OID that is not live changes nothing.
-fn update_member(words: &[u64], members: Members, oid: Oid, member: bool) -> Members
+// What is left of a list of OIDs: the members with its objects, or without them; not live where an OID to be added is not, and then
+// the members do not matter.
+struct Listed {
+    members: Members,
+    live: bool,
+}
+
+// One more OID; one that is not live changes no member.
+fn update_member(words: &[u64], listed: Listed, oid: Oid, member: bool) -> Listed
     requires { ⌜ Whole (now words) × (proper (oidsOf (now words)) ≡ true) ⌝ }
-    ensures { λ r. ⌜ Holds (λ e. MembersUpdated «member» (oids e) (oid .0 ∷ []) members r) (now (words .entry)) ⌝ }
+    ensures { λ r. ⌜ Holds (λ e. OneListed «member» (oids e) (oid .0) listed r) (now (words .entry)) ⌝ }
 {
+    let members = listed.members;
     let row = find::object_row(words, oid);
     if find::object_count(words) <= row {
-        return members;
+        return Listed {
+            members: members,
+            live: !member,
+        };
     }
-    members.put(row, member)
+    Listed {
+        members: members.put(row, member),
+        live: listed.live,
+    }
 }
 
-// The members with the objects of a list, or without them.
-fn update_members<'a>(
-    words: &'a [u64],
-    members: Members,
-    listed: &'a [u64],
-    member: bool,
-) -> Members
+// The OIDs of a list; of one to be added no further than the first that is not live.
+fn update_members<'a>(words: &'a [u64], members: Members, ids: &'a [u64], member: bool) -> Listed
     requires { ⌜ Whole (now words) × (proper (oidsOf (now words)) ≡ true) ⌝ }
-    ensures { λ r. ⌜ Holds (λ e. MembersUpdated «member» (oids e) (now (listed .entry)) members r) (now (words .entry)) ⌝ }
+    ensures { λ r. ⌜ Holds (λ e. AllListed «member» (oids e) (now (ids .entry)) members r) (now (words .entry)) ⌝ }
 {
-    let mut left = members;
+    let mut listed = Listed {
+        members: members,
+        live: true,
+    };
     let mut k = 0;
-    while k < listed.len() {
-        left = update_member(words, left, Oid(listed[k]), member);
+    while k < ids.len() {
+        listed = update_member(words, listed, Oid(ids[k]), member);
+        if !listed.live {
+            return listed;
+        }
         k += 1;
     }
-    left
+    listed
 }
 
-// Set i gets the sequence number and the members of a complex ping.
-fn update_set<'a>(
-    words: &'a mut [u64],
-    i: usize,
-    sequence: u16,
-    adds: &'a [u64],
-    deletes: &'a [u64],
-)
-    requires { ⌜
-        Whole (now words) × (i < setCount (now words))
-        × (proper (oidsOf (now words)) ≡ true) × (membersLiveIn (now words) ≡ true) ⌝ }
-    ensures { λ _. ⌜ Became (updatedRow i sequence (now (adds .entry)) (now (deletes .entry))) (now (words .entry)) (now (words .exit)) ⌝ }
+// The same of OIDs in bytes.
+fn update_members_bytes<'a>(
+    words: &'a [u64],
+    members: Members,
+    bytes: &'a [u8],
+    member: bool,
+) -> Listed
+    requires { ⌜ Whole (now words) × (proper (oidsOf (now words)) ≡ true) ⌝ }
+    ensures { λ r. ⌜ Holds (λ e. AllListed «member» (oids e) (oidsIn (now (bytes .entry))) members r) (now (words .entry)) ⌝ }
 {
-    let before = find::members(words, i);
-    let joined = update_members(words, before, adds, true);
-    let left = update_members(words, joined, deletes, false);
-    edit::set_members(words, i, left);
+    let mut listed = Listed {
+        members: members,
+        live: true,
+    };
+    let n = bytes.len() / 8;
+    let mut k = 0;
+    while k < n {
+        listed = update_member(words, listed, Oid(fields::read_u64(bytes, 8 * k)), member);
+        if !listed.live {
+            return listed;
+        }
+        k += 1;
+    }
+    listed
+}
+
+// The members of the set that a complex ping is about; set 0 has none.
+fn members_before(words: &[u64], set: SetId) -> Members
+    requires { ⌜
+        Whole (now words) × (isPingSet (set .0) (view (memory (now words) [])) ≡ true)
+        × (membersBelow (now words) ≡ true) ⌝ }
+    ensures { λ r. ⌜ Holds (λ e. MembersBefore (set .0) e r) (now (words .entry)) ⌝ }
+{
+    if set.0 == 0 {
+        return Members { low: 0, high: 0 };
+    }
+    find::members(words, find::set_row(words, set))
+}
+
+// Set i gets a sequence number and members.
+fn update_set(words: &mut [u64], i: usize, sequence: u16, members: Members)
+    requires { ⌜ Whole (now words) × (i < setCount (now words)) ⌝ }
+    ensures { λ _. ⌜ Became (updatedTo i sequence members) (now (words .entry)) (now (words .exit)) ⌝ }
+{
+    edit::set_members(words, i, members);
     edit::set_sequence(words, i, sequence);
 }
 
@@ -272,13 +314,74 @@ pub fn complex_ping_step<'a>(
         Stepped (Call.editing (Edit.complexPing (set .0) sequence (now (adds .entry)) (now (deletes .entry))))
         (memory (now (words .entry)) (now (store .entry))) (pingReply r) (memory (now (words .exit)) (now (store .entry))) ⌝ }
 {
-    let number = complex_number(words, set, sequence, adds, deletes);
+    let number = early_number(words, set, sequence, adds.len(), deletes.len());
+    if number != answer::DONE {
+        return refused(number);
+    }
+    let before = members_before(words, set);
+    let joined = update_members(words, before, adds, true);
+    if !joined.live {
+        return refused(answer::NO_OBJECT);
+    }
+    let members = joined.members;
+    let left = update_members(words, members, deletes, false);
+    let after = left.members;
+    ping_listed(words, store, set, sequence, after)
+}
+
+// The same of OIDs in bytes, eight for each, little-endian, in any place.
+pub fn complex_ping_bytes_step<'a>(
+    words: &'a mut [u64],
+    store: &'a [u8],
+    set: SetId,
+    sequence: u16,
+    adds: &'a [u8],
+    deletes: &'a [u8],
+) -> Pinged
+    requires { ⌜ SoundTable (memory (now words) (now store)) ⌝ }
+    ensures { λ r. ⌜
+        Stepped (Call.editing (Edit.complexPing (set .0) sequence (oidsIn (now (adds .entry))) (oidsIn (now (deletes .entry)))))
+        (memory (now (words .entry)) (now (store .entry))) (pingReply r) (memory (now (words .exit)) (now (store .entry))) ⌝ }
+{
+    let number = early_number(words, set, sequence, adds.len() / 8, deletes.len() / 8);
+    if number != answer::DONE {
+        return refused(number);
+    }
+    let before = members_before(words, set);
+    let joined = update_members_bytes(words, before, adds, true);
+    if !joined.live {
+        return refused(answer::NO_OBJECT);
+    }
+    let members = joined.members;
+    let left = update_members_bytes(words, members, deletes, false);
+    let after = left.members;
+    ping_listed(words, store, set, sequence, after)
+}
+
+// The rest of it, by the members that are left of the lists.
+fn ping_listed<'a>(
+    words: &'a mut [u64],
+    store: &'a [u8],
+    set: SetId,
+    sequence: u16,
+    members: Members,
+) -> Pinged
+    requires { ⌜
+        SoundTable (memory (now words) (now store))
+        × (isPingSet (set .0) (view (memory (now words) (now store))) ≡ true) ⌝ }
+    ensures { λ r. ⌜
+        ((adds dels : List ℕ)
+        → Reduced (set .0) sequence adds dels (view (memory (now (words .entry)) (now (store .entry)))) members
+        → Stepped (Call.editing (Edit.complexPing (set .0) sequence adds dels)) (memory (now (words .entry)) (now (store .entry)))
+        (pingReply r) (memory (now (words .exit)) (now (store .entry)))) ⌝ }
+{
+    let number = late_number(words, set);
     if number != answer::DONE {
         return refused(number);
     }
     let pinged = ping_set_number(words, set);
     let i = ping_set_row(words, set);
-    update_set(words, i, sequence, adds, deletes);
+    update_set(words, i, sequence, members);
     ping_row(words, i);
     Pinged {
         answer: answer::DONE,
