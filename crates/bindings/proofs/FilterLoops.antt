@@ -13,7 +13,7 @@ use Rattle.fields.proofs.Fields.{written-none, written-two}
 use Rattle.lists.specs.Lists.{keep, some, among}
 use Rattle.bindings.specs.Bindings.{words, firstBinding, joined}
 use Rattle.bindings.specs.ListBytes.{wordBytes}
-use Rattle.bindings.specs.Filter.{requested, chosen}
+use Rattle.bindings.specs.Filter.{requested, chosen, towersOf}
 use Rattle.bindings.specs.declared.Part.the-variants.{Strings}
 use Rattle.bindings.proofs.Parts.{words-none, words-more, after, binding-front, drop-words, bindings-none, bindings-end, bindings-more}
 use Rattle.bindings.proofs.ListBytes.{length-bytes, bytes-append, bytes-then}
@@ -38,6 +38,10 @@ unfolding joined
 kept-first true x xs = refl
 kept-first false x xs = refl
 
+kept-tower : (b : Bool) (w : ℕ) (ws : List ℕ) → cond b (w ∷ ws) ws ≡ chosen b (w ∷ []) ++ ws
+kept-tower true w ws = refl
+kept-tower false w ws = refl
+
 length-chosen : (b : Bool) (x : List ℕ) (m : ℕ) → m ≡ length x → length (chosen b x) ≡ cond b m 0
 length-chosen true x m e = sym e
 length-chosen false x m e = refl
@@ -52,6 +56,10 @@ module _ (protocols s : List ℕ) (at n : ℕ) where
   unfolding requested keep joined
   requested-none z = rw (words-none s at n z, bindings-none Strings)
 
+  pub towers-none : n ≡ 0 → towersOf protocols (words s at n) ≡ []
+  unfolding keep
+  towers-none z = rw (words-none s at n z, bindings-none Strings)
+
   module _ (h : 0 < n) where
     next : words s at n ≡ field s at 2 ∷ words s (at + 2) (n - 1)
     next = words-more s at n (n - 1) (omega arith)
@@ -59,6 +67,10 @@ module _ (protocols s : List ℕ) (at n : ℕ) where
     pub requested-end : field s at 2 ≡ 0 → joined (requested protocols (words s at n)) ≡ []
     unfolding requested keep joined
     requested-end z = rw (next, z, bindings-end Strings (words s (at + 2) (n - 1)))
+
+    pub towers-end : field s at 2 ≡ 0 → towersOf protocols (words s at n) ≡ []
+    unfolding keep
+    towers-end z = rw (next, z, bindings-end Strings (words s (at + 2) (n - 1)))
 
     module _ (z : field s at 2 ≡ 0 → ⊥) (m : ℕ) (e : m ≡ length (firstBinding Strings (words s at n))) (l : m ≤ n) where
       left : after Strings (words s at n) ≡ words s (at + 2 * m) (n - m)
@@ -70,6 +82,14 @@ module _ (protocols s : List ℕ) (at n : ℕ) where
 
       pub requested-more : joined (requested protocols (words s at n)) ≡ chosen (among protocols (field s at 2)) (firstBinding Strings (words s at n)) ++ joined (requested protocols (words s (at + 2 * m) (n - m)))
       requested-more = ap joined requested-next ∙ kept-first (among protocols (field s at 2)) (firstBinding Strings (words s at n)) (requested protocols (words s (at + 2 * m) (n - m)))
+
+      -- by their towers
+      towers-next : towersOf protocols (words s at n) ≡ cond (among protocols (field s at 2)) (field s at 2 ∷ towersOf protocols (words s (at + 2 * m) (n - m))) (towersOf protocols (words s (at + 2 * m) (n - m)))
+      unfolding keep firstBinding
+      towers-next = rw (← left, next, bindings-more Strings (field s at 2) (words s (at + 2) (n - 1)) z)
+
+      pub towers-more : towersOf protocols (words s at n) ≡ chosen (among protocols (field s at 2)) (field s at 2 ∷ []) ++ towersOf protocols (words s (at + 2 * m) (n - m))
+      towers-more = towers-next ∙ kept-tower (among protocols (field s at 2)) (field s at 2) (towersOf protocols (words s (at + 2 * m) (n - m)))
 
       -- by their number of words
       pub counted-more : length (joined (requested protocols (words s at n))) ≡ cond (among protocols (field s at 2)) m 0 + length (joined (requested protocols (words s (at + 2 * m) (n - m))))

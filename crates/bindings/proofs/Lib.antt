@@ -5,3 +5,4 @@ pub mod ListBytes
 pub mod Filtering
 pub mod FilterLoops
 pub mod FilterWriting
+pub mod FilterTowers

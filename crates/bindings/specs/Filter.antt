@@ -1,13 +1,13 @@
 -- A binding list with only the string bindings of the requested protocols (document 02, request 6).
-use Prim.Native.Nat.{ℕ}
+use Prim.Native.Nat.{ℕ, _*_, _/_}
 use mathlib.Core.Path.{_≡_}
 use mathlib.Core.Bool.{Bool, true, cond}
-use mathlib.Core.List.{List, [], _∷_, _++_}
+use mathlib.Core.List.{List, [], _∷_, _++_, map}
 use lib.ListN.{length, getD}
 use lib.Dec.{eqb, ltb}
 use Rattle.kinds.specs.Refusals.{_gives_, passes, order}
-use Rattle.fields.specs.Fields.{Bytes}
-use Rattle.lists.specs.Lists.{keep, every, among}
+use Rattle.fields.specs.Fields.{field, Bytes}
+use Rattle.lists.specs.Lists.{keep, every, tabulate, among}
 use Rattle.bindings.specs.Bindings.{bindingsOf, joined, partWords, isBare, listAnswer}
 use Rattle.bindings.specs.ListBytes.{partsBytes}
 use Rattle.bindings.specs.declared.filter.Filtered.{Filtered}
@@ -25,6 +25,14 @@ requested protocols ws = keep (isRequested protocols) (bindingsOf Strings ws)
 unfoldable pub filtered : List ℕ → List ℕ → List ℕ
 filtered protocols s =
     cond (isBare s) s (partsBytes (joined (requested protocols (partWords s Strings)) ++ (0 ∷ [])) (partWords s Security))
+
+-- words in bytes, two for each
+abbrev pub wordsIn : List ℕ → List ℕ
+wordsIn s = tabulate (length s / 2) (λ k. field s (2 * k) 2)
+
+-- the towers of a string part's bindings that are requested
+abbrev pub towersOf : List ℕ → List ℕ → List ℕ
+towersOf protocols ws = keep (among protocols) (map (λ (b : List ℕ). getD b 0 0) (bindingsOf Strings ws))
 
 -- ---- writing it into a buffer of n bytes
 
@@ -65,3 +73,7 @@ FilteredSame = (protocols s : List ℕ) → Bytes s → listAnswer s ≡ 0 → a
 -- an empty request gives an empty string part
 abbrev pub FilteredNone : Type 0
 FilteredNone = (s : List ℕ) → Bytes s → listAnswer s ≡ 0 → bindingsOf Strings (partWords (filtered [] s) Strings) ≡ []
+
+-- of the protocols only the towers that the list has matter
+abbrev pub FilteredByTowers : Type 0
+FilteredByTowers = (protocols s : List ℕ) → filtered (towersOf protocols (partWords s Strings)) s ≡ filtered protocols s

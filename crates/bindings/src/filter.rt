@@ -5,13 +5,14 @@ use crate::list_answer;
 use kinds::answer;
 ghost use mathlib.Core.Path.{_≡_};
 ghost use mathlib.Core.Bool.{cond};
-ghost use Prim.Native.Nat.{_+_, _*_, _≤_};
-ghost use lib.ListN.{length};
+ghost use mathlib.Core.List.{[], _∷_, _++_};
+ghost use Prim.Native.Nat.{_+_, _*_, _<_, _≤_};
+ghost use lib.ListN.{length, take};
 ghost use Rattle.lists.specs.Lists.{among};
 ghost use Rattle.fields.specs.Fields.{written, stored};
-ghost use Rattle.bindings.specs.Bindings.{words, joined, listAnswer};
+ghost use Rattle.bindings.specs.Bindings.{words, joined, split, listAnswer};
 ghost use Rattle.bindings.specs.ListBytes.{wordBytes};
-ghost use Rattle.bindings.specs.Filter.{requested, filtered, chosen, writeFiltered};
+ghost use Rattle.bindings.specs.Filter.{requested, filtered, chosen, wordsIn, towersOf, writeFiltered};
 
 // A writer's answer, and the number of bytes that it wrote.
 #[repr(C)]
@@ -31,6 +32,58 @@ fn is_requested(protocols: &[u16], tower: u16) -> bool
         i += 1;
     }
     false
+}
+
+// The same of protocols in bytes, two for each.
+fn is_requested_bytes(protocols: &[u8], tower: u16) -> bool
+    ensures { λ r. ⌜ r ≡ among (wordsIn (now (protocols .entry))) tower ⌝ }
+{
+    let n = protocols.len() / 2;
+    let mut i = 0;
+    while i < n {
+        if tower == fields::word(protocols, 2 * i) {
+            return true;
+        }
+        i += 1;
+    }
+    false
+}
+
+// Puts a tower at n where it is wanted, and gives the place after it.
+fn put_tower(towers: &mut [u16], n: usize, tower: u16, wanted: bool) -> usize
+    requires { ⌜ n < length (now towers) ⌝ }
+    ensures { λ r. ⌜
+        (r ≤ n + 1) × (take r (now (towers .exit)) ≡ take n (now (towers .entry)) ++ chosen wanted (tower ∷ [])) ⌝ }
+{
+    if wanted {
+        towers[n] = tower;
+        return n + 1;
+    }
+    n
+}
+
+// Puts the towers of a list's string bindings that are requested at the front of towers, and gives their number: of protocols in bytes
+// they alone matter for the list.
+pub fn requested_towers(s: &[u8], protocols: &[u8], towers: &mut [u16]) -> usize
+    requires { ⌜ (listAnswer (now s) ≡ 0) × (split (now s) ≤ length (now towers)) ⌝ }
+    ensures { λ r. ⌜
+        (r ≤ length (now (towers .exit)))
+        × (take r (now (towers .exit)) ≡ towersOf (wordsIn (now (protocols .entry))) (words (now (s .entry)) 4 (split (now (s .entry))))) ⌝ }
+{
+    let mut i = 4;
+    let mut left = fields::read_u16(s, 2) as usize;
+    let mut n = 0;
+    while 0 < left {
+        let tower = fields::word(s, i);
+        if tower == 0 {
+            return n;
+        }
+        n = put_tower(towers, n, tower, is_requested_bytes(protocols, tower));
+        let m = binding_words(s, i, left, Part::Strings);
+        i += 2 * m;
+        left -= m;
+    }
+    n
 }
 
 // The m words of a binding, or none where its tower is not requested.

@@ -8,6 +8,7 @@ pub use numbers::members_step;
 pub use resolving::Resolved;
 pub use resolving::resolve;
 pub use resolving::resolve_filtered;
+pub use resolving::resolve_filtered_bytes_step;
 pub use resolving::resolve_filtered_step;
 pub use resolving::resolve_step;
 pub use routing::StopPlace;

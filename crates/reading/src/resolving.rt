@@ -3,8 +3,10 @@ use bindings::filter;
 use kinds::Guid;
 use kinds::Oxid;
 use kinds::answer;
+use kinds::limits;
 use table::find;
 ghost use mathlib.Core.Path.{_≡_};
+ghost use Rattle.bindings.specs.Filter.{wordsIn};
 ghost use Rattle.rules.specs.Calls.{Call, Look};
 ghost use Rattle.table.specs.View.{memory, SoundTable, Stepped, Performed};
 ghost use Rattle.reading.specs.Replies.{resolveReply};
@@ -118,4 +120,30 @@ pub fn resolve_filtered_step<'a>(
         length: w.length,
         unknown: unknown,
     }
+}
+
+// The same of protocols in bytes, two for each, little-endian, in any place: of them only the towers that the list has matter.
+pub fn resolve_filtered_bytes_step<'a>(
+    words: &'a [u64],
+    store: &'a [u8],
+    oxid: Oxid,
+    protocols: &'a [u8],
+    buffer: &'a mut [u8],
+) -> Resolved
+    requires { ⌜ SoundTable (memory (now words) (now store)) ⌝ }
+    ensures { λ r. ⌜
+        Stepped (Call.looking (Look.resolveFiltered (oxid .0) (wordsIn (now (protocols .entry))) (now (buffer .entry)))) (memory (now (words .entry)) (now (store .entry)))
+        (resolveReply r (now (buffer .exit))) (memory (now (words .entry)) (now (store .entry))) ⌝ }
+{
+    if answer::MOST_LISTED < protocols.len() / 2 {
+        return refused(answer::TOO_MANY);
+    }
+    let i = find::exporter_row(words, oxid);
+    if find::exporter_count(words) <= i {
+        return refused(answer::NO_EXPORTER);
+    }
+    let list = find::list(words, store, i);
+    let mut towers = [0u16; limits::LONGEST_LIST / 2];
+    let n = filter::requested_towers(list, protocols, &mut towers);
+    resolve_filtered_step(words, store, oxid, &towers[..n], buffer)
 }

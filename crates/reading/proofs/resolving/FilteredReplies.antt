@@ -1,11 +1,12 @@
 -- The resolve with requested protocols: its rows, and what the filter's answer says of them.
 use Prim.Native.Nat.{ℕ, _<_, _≤_}
 use mathlib.Core.Path.{_≡_, refl, sym, ap, _∙_}
-use mathlib.Core.Bool.{true, false, not}
+use mathlib.Core.Bool.{true, false, not, _&&_}
 use mathlib.Core.List.{List, [], _∷_}
 use mathlib.Core.Logic.{⊎-elim}
 use native.Mathlib.Omega.{arith}
-use lib.Dec.{ltb}
+use borrow.Author.Tests.{leb-true}
+use lib.Dec.{eqb, ltb, leb}
 use lib.ListN.{length, getD}
 use Rattle.kinds.specs.Refusals.{order, _gives_}
 use Rattle.kinds.specs.declared.Guid.{Guid}
@@ -16,20 +17,29 @@ use Rattle.bindings.specs.Filter.{filtered, writeFiltered}
 use Rattle.bindings.specs.declared.filter.Filtered.{Filtered}
 use Rattle.bindings.proofs.ListAnswers.{front-list}
 use Rattle.bindings.proofs.FilterWriting.{answer-room, answer-done, write-refused, write-done}
-use Rattle.lists.proofs.Tests.{below-or-not}
+use Rattle.lists.proofs.Tests.{below-or-not, and-right}
+use Rattle.lists.proofs.Lists.{every-at}
 use Rattle.rules.specs.Entries.{Exporter, exporterRow}
-use Rattle.rules.specs.Calls.{Call, Look}
+use Rattle.rules.specs.Calls.{Call, Look, Reply}
+use Rattle.rules.specs.Contract.{Memory}
 use Rattle.rules.specs.Sound.{listsKept}
-use Rattle.rules.specs.Rules.{noExporter, isLiveExporter, exporterOf, tooMany, refusals, number, results, acceptedReply}
-use Rattle.table.specs.View.{exporterCount, listFrom, exportersOf, memory, view}
+use Rattle.rules.specs.Rules.{noExporter, isLiveExporter, exporterOf, tooMany, refusals, number, next, results, acceptedReply, refusedReply, reply}
+use Rattle.table.specs.View.{exporterCount, listFrom, exportersOf, memory, view, Stepped}
 use Rattle.table.proofs.KeptLists.{front-kept}
-use Rattle.table.proofs.LiveRows.{exporter-at}
+use Rattle.table.proofs.LiveRows.{exporter-at, exporters-length}
 use Rattle.reading.specs.Replies.{resolveReply}
 use Rattle.calls.proofs.Calls.{row-gives, row-passes, gone-gives, live-passes, exporter-tested, exporter-in-row}
 
 -- the list of a live exporter is accepted
 pub kept-list : (ws s : List ℕ) (i : ℕ) → i < exporterCount ws → listsKept (view (memory ws s)) ≡ true → listAnswer (getD (exportersOf ws s) i noExporter .bindings) ≡ 0
 kept-list ws s i live kept = rw (exporter-at ws s i noExporter live) (front-list (listFrom s i) (front-kept ws s kept i live))
+
+-- and not longer than any may be
+pub short-list : (ws s : List ℕ) (i : ℕ) → i < exporterCount ws → listsKept (view (memory ws s)) ≡ true → length (getD (exportersOf ws s) i noExporter .bindings) ≤ 2048
+short-list ws s i live kept =
+    let n = exporters-length ws s in
+    let x : Exporter = getD (exportersOf ws s) i noExporter in
+    leb-true _ _ (and-right (eqb (listAnswer (x .bindings)) 0) (leb (length (x .bindings)) 2048) (every-at (λ (x : Exporter). eqb (listAnswer (x .bindings)) 0 && leb (length (x .bindings)) 2048) (exportersOf ws s) noExporter i (omega arith) kept))
 
 -- the filter's answer for an accepted list: 0 where there is room
 module _ (protocols list : List ℕ) (n : ℕ) {w : Filtered} (e : w ≡ writeFiltered protocols list n) (good : listAnswer list ≡ 0) where
@@ -81,3 +91,12 @@ module _ (ws s protocols buffer : List ℕ) (x : ℕ) where
     unfolding acceptedReply results
     answered {list} held unknown copied size fits =
         rw (← exporter-in-row ws s x found, ← held, ← unknown, copied, size, written-front buffer (filtered protocols list) (rw (← size) fits))
+
+-- two requests within the limit that keep the same of the list have one reply
+pub alike-step : (m m′ : Memory) (x : ℕ) (p q buffer : List ℕ) {r : Reply} → tooMany p ≡ false → tooMany q ≡ false → filtered p (exporterOf (view m) x .bindings) ≡ filtered q (exporterOf (view m) x .bindings)
+    → Stepped (Call.looking (Look.resolveFiltered x p buffer)) m r m′ → Stepped (Call.looking (Look.resolveFiltered x q buffer)) m r m′
+unfolding reply number refusals acceptedReply refusedReply results next
+alike-step m m′ x p q buffer few few′ same s = record { answered = s .answered ∙ replies; kept = s .kept; became = s .became }
+  where
+    replies : reply (Call.looking (Look.resolveFiltered x p buffer)) (view m) ≡ reply (Call.looking (Look.resolveFiltered x q buffer)) (view m)
+    replies = rw (few, few′, same)
