@@ -14,10 +14,10 @@ ghost use Rattle.lists.specs.Guids.{nil, sameGuid};
 ghost use Rattle.table.specs.View.{membersAt, exporterCount, objectCount, interfaceCount, setCount, clockOf, nextOf, listStart, exportersOf, objectsOf, interfacesOf, setsOf, oidsOf, memory, view, Holds};
 ghost use Rattle.rules.specs.Contract.{Whole};
 ghost use Prim.Native.Nat.{ℕ, _<_, _≤_, min};
-ghost use Rattle.lists.specs.Lists.{some, every};
+ghost use Rattle.lists.specs.Lists.{some};
 ghost use Rattle.rules.specs.Entries.{Interface, PingSet, oxids, countOf, exporterRow, objectRow, interfaceRow, setRow, ipids, exporterPlaces, objectPlaces, interfacePlaces, setPlaces};
 ghost use Rattle.rules.specs.Sound.{listsKept, held, heardWithin, pingedWithin};
-ghost use Rattle.rules.specs.Rules.{noExporter, noObject, noInterface, noSet, isLiveObject};
+ghost use Rattle.rules.specs.Rules.{noExporter, noObject, noInterface, noSet};
 ghost use Rattle.table.specs.Counts.{countsAt};
 
 // The time of the table.
@@ -304,14 +304,6 @@ pub fn is_pinged_within(words: &[u64], i: usize, time: u64) -> bool
     ensures { λ r. ⌜ r ≡ pingedWithin time (getD (setsOf (now (words .entry))) i noSet) ⌝ }
 {
     columns::is_within(words[layout::PING_TIMES + i], time, layout::TIMEOUT)
-}
-
-// Every identifier is that of a live object.
-pub fn are_live<'a>(words: &'a [u64], ids: &'a [u64]) -> bool
-    requires { ⌜ Whole (now words) ⌝ }
-    ensures { λ r. ⌜ Holds (λ e. r ≡ every (isLiveObject e) (now (ids .entry))) (now (words .entry)) ⌝ }
-{
-    columns::all_in(ids, oids(words))
 }
 
 // The number of set i.
