@@ -1,4 +1,5 @@
 pub mod Parts
+pub mod Cursor
 pub mod ListAnswers
 pub mod Grammar
 pub mod ListBytes

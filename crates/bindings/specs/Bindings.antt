@@ -24,6 +24,10 @@ unfoldable pub throughZero : List ℕ → List ℕ
 throughZero [] = []
 throughZero (w ∷ ws) = w ∷ cond (eqb w 0) [] (throughZero ws)
 
+-- none of the k words from at ends a text
+abbrev pub TextPasses : List ℕ → ℕ → ℕ → Type 0
+TextPasses s at k = (m : ℕ) → length (throughZero (words s at (k + m))) ≡ k + length (throughZero (words s (at + 2 * k) m))
+
 -- the words of a binding before its address or name: a tower word; a service word and one word of any content
 abbrev pub headWords : Part → ℕ
 headWords Strings = 1
@@ -113,6 +117,10 @@ place (b ∷ bs) (suc k) at = place bs k (at + 2 * length b)
 -- binding k of a part of a whole list: the list's refusals first, then 24
 unfoldable pub bindingAt : List ℕ → Part → ℕ → Place
 bindingAt s p k = cond (eqb (listAnswer s) 0) (place (bindingsOf p (partWords s p)) k (partStart s p)) (refusal (listAnswer s))
+
+-- the binding that begins the n words from at, where they are there
+unfoldable pub bindingFrom : List ℕ → Part → ℕ → ℕ → Place
+bindingFrom s p at n = cond (leb (at + 2 * n) (length s)) (place (bindingsOf p (words s at n)) 0 at) (refusal 13)
 
 -- the bytes of a place
 abbrev pub bytesAt : List ℕ → Place → List ℕ

@@ -3,11 +3,11 @@ pub mod filter;
 
 use kinds::answer;
 ghost use mathlib.Core.Path.{_≡_};
-ghost use mathlib.Core.Bool.{cond};
-ghost use Prim.Native.Nat.{_+_, _*_, _<_, _≤_};
+ghost use mathlib.Core.Bool.{true, cond};
+ghost use Prim.Native.Nat.{_+_, _*_, _-_, _<_, _≤_};
 ghost use lib.Dec.{eqb};
 ghost use lib.ListN.{length};
-ghost use Rattle.bindings.specs.Bindings.{words, throughZero, headWords, firstBinding, bindingsOf, isPart, twoParts, listLength, frontAnswer, listAnswer, refusal, place, bindingAt, PartOf};
+ghost use Rattle.bindings.specs.Bindings.{words, throughZero, TextPasses, headWords, firstBinding, bindingsOf, isPart, twoParts, listLength, frontAnswer, listAnswer, refusal, place, bindingAt, bindingFrom, PartOf};
 
 // The two parts of a list.
 pub enum Part {
@@ -35,12 +35,44 @@ impl Place {
     }
 }
 
+// Whether none of the eight words from at is zero. All are looked at, so that they can be tested side by side.
+fn is_text_block(s: &[u8], at: usize) -> bool
+    requires { ⌜ at + 16 ≤ length (now s) ⌝ }
+    ensures { λ r. ⌜ (r ≡ true → TextPasses (now (s .entry)) at 8) ⌝ }
+{
+    let mut all = true;
+    let mut j = 0;
+    while j < 8 {
+        if fields::word(s, at + 2 * j) == 0 {
+            all = false;
+        }
+        j += 1;
+    }
+    all
+}
+
+// How many of the n words from at are in blocks before the first zero word.
+fn block_words(s: &[u8], at: usize, n: usize) -> usize
+    requires { ⌜ at + 2 * n ≤ length (now s) ⌝ }
+    ensures { λ r. ⌜
+        (r ≤ n) × (r + length (throughZero (words (now (s .entry)) (at + 2 * r) (n - r))) ≡ length (throughZero (words (now (s .entry)) at n))) ⌝ }
+{
+    let mut i = 0;
+    while 8 <= n - i {
+        if !is_text_block(s, at + 2 * i) {
+            return i;
+        }
+        i += 8;
+    }
+    i
+}
+
 // How many of the n words from at go up to and with the first zero word.
 fn text_words(s: &[u8], at: usize, n: usize) -> usize
     requires { ⌜ at + 2 * n ≤ length (now s) ⌝ }
     ensures { λ r. ⌜ (r ≡ length (throughZero (words (now (s .entry)) at n))) × (r ≤ n) ⌝ }
 {
-    let mut i = 0;
+    let mut i = block_words(s, at, n);
     while i < n {
         if fields::word(s, at + 2 * i) == 0 {
             return i + 1;
@@ -183,6 +215,20 @@ fn find(s: &[u8], at: usize, n: usize, p: Part, k: usize) -> Place
         left -= m;
     }
     Place::refused(answer::NO_BINDING)
+}
+
+// The binding that begins the n words from at, which a walk over a part has left: 0, or 13 where they are not all there; 24 where
+// there is none. Of a list that was accepted, the next one begins where this one ends.
+pub fn locate_from(s: &[u8], p: Part, at: usize, n: usize) -> Place
+    ensures { λ r. ⌜ r ≡ bindingFrom (now (s .entry)) p at n ⌝ }
+{
+    if s.len() < at {
+        return Place::refused(answer::SHORT);
+    }
+    if (s.len() - at) / 2 < n {
+        return Place::refused(answer::SHORT);
+    }
+    find(s, at, n, p, 0)
 }
 
 // Where binding number k of a part stands in a whole list: the list's refusals first, then its own.

@@ -1,8 +1,8 @@
 -- `bindings::text_words`: the words passed and those of the text that is left make the whole text.
 use Prim.Native.Nat.{_+_, _*_, _-_, _≤_}
 use mathlib.Core.Path.{_≡_, sym, _∙_}
-use native.Mathlib.Nat.{zero-add}
 use native.Mathlib.Omega.{arith}
+use borrow.Author.Needs.{needs}
 use lib.ListN.{length}
 use Rattle.bindings.specs.Bindings.{words, throughZero}
 use Rattle.bindings.proofs.Parts.{text-none, text-end, text-more}
@@ -16,15 +16,11 @@ abbrev μ-loop : tie.MeasureT-loop
 μ-loop s at n i₀ i = n - i
 
 loop-holds : tie.Need-loop-holds Inv-loop μ-loop
-loop-holds c =
-    let a = c .before .args in
-    let x : a .at + 2 * 0 ≡ a .at = omega arith in
-    let y : a .n - 0 ≡ a .n = omega arith in
-    (omega arith, rw (x, y, zero-add))
+loop-holds c = c .block-words .ensures
 
 returns : tie.Need-returns Inv-loop μ-loop
 returns c =
-    let a = c .before .before .before .before .before .args in
+    let a = c .before .before .before .before .before .before .args in
     let l = c .before .before .before .loop in
     let z = sym (c .before .word .ensures) ∙ c .if1 .taken in
     let e = text-end (a .s .now) (a .at + 2 * l .i) (a .n - l .i) (omega arith) z in
@@ -32,7 +28,7 @@ returns c =
 
 loop-again : tie.Need-loop-again Inv-loop μ-loop
 loop-again c =
-    let a = c .before .before .before .before .before .args in
+    let a = c .before .before .before .before .before .before .args in
     let l = c .before .before .before .loop in
     let r = c .before .word .ensures in
     let e = text-more (a .s .now) (a .at + 2 * l .i) (a .at + 2 * (l .i + 1)) (a .n - l .i) (a .n - (l .i + 1)) (omega arith) (omega arith) (λ z. c .if1 .left (r ∙ z)) in
@@ -40,7 +36,7 @@ loop-again c =
 
 returns-2 : tie.Need-returns-2 Inv-loop μ-loop
 returns-2 c =
-    let a = c .before .before .before .args in
+    let a = c .before .before .before .before .args in
     let l = c .before .loop in
     let e = text-none (a .s .now) (a .at + 2 * l .i) (a .n - l .i) (omega arith) in
     omega arith
@@ -51,6 +47,7 @@ text-words-spec =
     (tie.spec
     Inv-loop
     μ-loop
+    (λ c κs. search needs)
     loop-holds
     (λ c. omega arith)
     (λ c. omega arith)
