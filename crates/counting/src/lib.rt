@@ -8,10 +8,11 @@ ghost use mathlib.Core.Path.{_≡_};
 ghost use mathlib.Core.Bool.{true};
 ghost use mathlib.Core.List.{List};
 ghost use Prim.Native.Nat.{ℕ, _<_, min};
-ghost use Rattle.rules.specs.Entries.{atCounts};
+ghost use Rattle.lists.specs.Guids.{sameGuid};
+ghost use Rattle.rules.specs.Entries.{atCounts, interfaceRow};
 ghost use Rattle.rules.specs.Sound.{proper};
 ghost use Rattle.rules.specs.Calls.{Call, Edit, numbered};
-ghost use Rattle.table.specs.View.{interfaceCount, memory, view, SoundTable, Stepped, Performed, oidsOf, membersLiveIn};
+ghost use Rattle.table.specs.View.{interfaceCount, memory, view, Holds, SoundTable, Stepped, Performed, oidsOf, membersLiveIn};
 ghost use Rattle.edit.specs.Edits.{Became, changeInterface};
 ghost use Rattle.counting.specs.Replies.{releaseReply};
 ghost use Rattle.counting.specs.Dropping.{InterfaceDropped};
@@ -46,6 +47,28 @@ pub fn add<'a>(
     add_step(words, store, client, ipid, public, private)
 }
 
+// The row of the interface with an IPID, as `find::interface_row` gives it; a row is tried first, which may be any number.
+fn interface_row<'a>(words: &'a [u64], store: &'a [u8], hint: usize, ipid: Guid) -> usize
+    requires { ⌜ SoundTable (memory (now words) (now store)) ⌝ }
+    ensures { λ r. ⌜ Holds (λ e. r ≡ interfaceRow e ipid) (now (words .entry)) ⌝ }
+{
+    if hint < find::interface_count(words) {
+        if is_same(find::ipid(words, hint), ipid) {
+            return hint;
+        }
+    }
+    find::interface_row(words, ipid)
+}
+
+fn is_same(a: Guid, b: Guid) -> bool
+    ensures { λ r. ⌜ r ≡ sameGuid a b ⌝ }
+{
+    if a.low != b.low {
+        return false;
+    }
+    a.high == b.high
+}
+
 // The same on a sound table.
 pub fn add_step<'a>(
     words: &'a mut [u64],
@@ -60,10 +83,28 @@ pub fn add_step<'a>(
         Stepped (Call.editing (Edit.add client ipid public private)) (memory (now (words .entry)) (now (store .entry)))
         (numbered r) (memory (now (words .exit)) (now (store .entry))) ⌝ }
 {
+    add_hinted(words, store, client, ipid, 0, public, private)
+}
+
+// The same with a row to try first.
+pub fn add_hinted<'a>(
+    words: &'a mut [u64],
+    store: &'a [u8],
+    client: u32,
+    ipid: Guid,
+    hint: usize,
+    public: u32,
+    private: u32,
+) -> u32
+    requires { ⌜ SoundTable (memory (now words) (now store)) ⌝ }
+    ensures { λ r. ⌜
+        Stepped (Call.editing (Edit.add client ipid public private)) (memory (now (words .entry)) (now (store .entry)))
+        (numbered r) (memory (now (words .exit)) (now (store .entry))) ⌝ }
+{
     if 7 < client {
         return answer::NO_CLIENT;
     }
-    let i = find::interface_row(words, ipid);
+    let i = interface_row(words, store, hint, ipid);
     if find::interface_count(words) <= i {
         return answer::NO_INTERFACE;
     }
@@ -157,10 +198,28 @@ pub fn release_step<'a>(
         Stepped (Call.editing (Edit.release client ipid public private)) (memory (now (words .entry)) (now (store .entry)))
         (releaseReply r) (memory (now (words .exit)) (now (store .entry))) ⌝ }
 {
+    release_hinted(words, store, client, ipid, 0, public, private)
+}
+
+// The same with a row to try first.
+pub fn release_hinted<'a>(
+    words: &'a mut [u64],
+    store: &'a [u8],
+    client: u32,
+    ipid: Guid,
+    hint: usize,
+    public: u32,
+    private: u32,
+) -> Released
+    requires { ⌜ SoundTable (memory (now words) (now store)) ⌝ }
+    ensures { λ r. ⌜
+        Stepped (Call.editing (Edit.release client ipid public private)) (memory (now (words .entry)) (now (store .entry)))
+        (releaseReply r) (memory (now (words .exit)) (now (store .entry))) ⌝ }
+{
     if 7 < client {
         return refused(answer::NO_CLIENT);
     }
-    let i = find::interface_row(words, ipid);
+    let i = interface_row(words, store, hint, ipid);
     if find::interface_count(words) <= i {
         return refused(answer::NO_INTERFACE);
     }

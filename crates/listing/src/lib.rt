@@ -1,6 +1,9 @@
 // Whole lists of adds and releases: items of 24 bytes, an IPID and two counts, as RemAddRef and RemRelease carry them.
+use kinds::Guid;
 use kinds::answer;
+use table::find;
 ghost use Prim.Native.Nat.{_≤_, _<_};
+ghost use Rattle.rules.specs.Contract.{Whole};
 ghost use Rattle.rules.specs.Rules.{mostListed};
 ghost use Rattle.rules.specs.Calls.{Call, adding, releasing};
 ghost use Rattle.rules.specs.Items.{itemAt};
@@ -71,13 +74,47 @@ pub fn list_step<'a>(
     if buffer.len() < n {
         return answer::NO_ROOM;
     }
+    let mut hints = [0u8; 4096];
+    let mut live = hint_rows(words, &mut hints, 0);
     let mut k = 0;
     while k < n {
-        let number = item_step(words, store, back, client, items, k);
+        let number = item_step(words, store, back, client, items, k, &hints);
         buffer[k] = number as u8;
+        live = hint_rows(words, &mut hints, live);
         k += 1;
     }
     answer::DONE
+}
+
+// A number below 4,096 for each IPID.
+fn bucket(g: Guid) -> usize
+    ensures { λ r. ⌜ r < 4096 ⌝ }
+{
+    let low = g.low % 4294967296 * 1013904223 + g.low / 4294967296 * 668265263;
+    let high = g.high % 4294967296 * 374761393 + g.high / 4294967296 * 461845907;
+    ((low + high) / 16777216 % 4096) as usize
+}
+
+// Notes the row of each interface under its bucket, where there are not as many as before; answers how many there are. What the
+// hints then hold is undecided: whoever tries a row compares its IPID.
+fn hint_rows<'a>(words: &'a [u64], hints: &'a mut [u8; 4096], before: usize) -> usize
+    requires { ⌜ Whole (now words) ⌝ }
+{
+    let n = find::interface_count(words);
+    if n == before {
+        return n;
+    }
+    let mut i = 0;
+    while i < n {
+        let b = bucket(find::ipid(words, i));
+        hints[b] = (i % 256) as u8;
+        i += 1;
+    }
+    n
+}
+
+fn row_of(hint: u8) -> usize {
+    hint as usize
 }
 
 // Item k of a list.
@@ -88,6 +125,7 @@ fn item_step<'a>(
     client: u32,
     items: &'a [u8],
     k: usize,
+    hints: &'a [u8; 4096],
 ) -> u32
     requires { ⌜ SoundTable (memory (now words) (now store)) × (k < mostListed) × (client ≤ 7) ⌝ }
     ensures { λ r. ⌜
@@ -97,9 +135,11 @@ fn item_step<'a>(
     let ipid = fields::read_guid(items, 24 * k);
     let public = fields::read_u32(items, 24 * k + 16);
     let private = fields::read_u32(items, 24 * k + 20);
+    let b = bucket(ipid);
+    let hint = row_of(hints[b]);
     if back {
-        let released = counting::release_step(words, store, client, ipid, public, private);
+        let released = counting::release_hinted(words, store, client, ipid, hint, public, private);
         return released.answer;
     }
-    counting::add_step(words, store, client, ipid, public, private)
+    counting::add_hinted(words, store, client, ipid, hint, public, private)
 }

@@ -1,4 +1,3 @@
 pub mod ClientDrop
 pub mod Going
 pub mod Settling
-pub mod Staying

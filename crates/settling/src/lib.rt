@@ -1,4 +1,5 @@
 // Rows that go: objects that do not stay, with their interfaces and memberships, and sets.
+use kinds::Oid;
 use kinds::Oxid;
 use table::find;
 ghost use mathlib.Core.Path.{_≡_};
@@ -6,8 +7,9 @@ ghost use mathlib.Core.Bool.{true};
 ghost use Prim.Native.Nat.{_<_};
 ghost use lib.ListN.{getD};
 ghost use lib.Dec.{eqb};
-ghost use Rattle.lists.specs.Lists.{distinct};
-ghost use Rattle.rules.specs.Rules.{noObject};
+ghost use Rattle.lists.specs.Lists.{distinct, some};
+ghost use Rattle.rules.specs.Entries.{Interface};
+ghost use Rattle.rules.specs.Rules.{noObject, isLiveObject};
 ghost use Rattle.table.specs.View.{objectCount, interfaceCount, setCount, Holds, oidsOf, membersBelow};
 ghost use Rattle.edit.specs.Edits.{Became};
 ghost use Rattle.settling.specs.Leaving.{stays, withoutLeaving, objectsLeft, interfacesLeft, setsLeft, leftAt, interfaceLeftAt, setLeftAt, cleared, heldLeft, heldLeftAt};
@@ -20,26 +22,96 @@ pub enum Leaving {
     Unheard(u64),
 }
 
+// A number below 4,096 for each OID.
+fn bucket(oid: Oid) -> usize
+    ensures { λ r. ⌜ r < 4096 ⌝ }
+{
+    let x = oid.0;
+    ((x % 4294967296 * 1013904223 + x / 4294967296 * 668265263) / 16777216 % 4096) as usize
+}
+
+fn row_of(hint: u8) -> usize {
+    hint as usize
+}
+
+// Notes the row of each object under its bucket. What the hints then hold is undecided: whoever tries a row compares its OID.
+fn hint_objects<'a>(words: &'a [u64], hints: &'a mut [u8; 4096])
+    requires { ⌜ Whole (now words) ⌝ }
+{
+    let n = find::object_count(words);
+    let mut i = 0;
+    while i < n {
+        let b = bucket(find::oid(words, i));
+        hints[b] = (i % 256) as u8;
+        i += 1;
+    }
+}
+
+// The same for the rows of interfaces, under the OIDs that they name.
+fn hint_served<'a>(words: &'a [u64], hints: &'a mut [u8; 4096])
+    requires { ⌜ Whole (now words) ⌝ }
+{
+    let n = find::interface_count(words);
+    let mut i = 0;
+    while i < n {
+        let b = bucket(find::interface_object(words, i));
+        hints[b] = (i % 256) as u8;
+        i += 1;
+    }
+}
+
+// Whether an interface names an object; a row is tried first.
+fn is_served<'a>(words: &'a [u64], hints: &'a [u8; 4096], oid: Oid) -> bool
+    requires { ⌜ Whole (now words) ⌝ }
+    ensures { λ r. ⌜ Holds (λ e. r ≡ some (λ (i : Interface). eqb (oid .0) (i .object)) (e .interfaces)) (now (words .entry)) ⌝ }
+{
+    let b = bucket(oid);
+    let row = row_of(hints[b]);
+    if row < find::interface_count(words) {
+        let object = find::interface_object(words, row);
+        if oid.0 == object.0 {
+            return true;
+        }
+    }
+    find::is_served(words, oid)
+}
+
+// Whether an object is live; a row is tried first.
+fn is_live<'a>(words: &'a [u64], hints: &'a [u8; 4096], oid: Oid) -> bool
+    requires { ⌜ Whole (now words) ⌝ }
+    ensures { λ r. ⌜ Holds (λ e. r ≡ isLiveObject e (oid .0)) (now (words .entry)) ⌝ }
+{
+    let b = bucket(oid);
+    let row = row_of(hints[b]);
+    if row < find::object_count(words) {
+        let there = find::oid(words, row);
+        if oid.0 == there.0 {
+            return true;
+        }
+    }
+    find::object_row(words, oid) < find::object_count(words)
+}
+
 // Whether object i stays.
-fn is_staying(words: &[u64], i: usize, why: Leaving) -> bool
+fn is_staying<'a>(words: &'a [u64], i: usize, why: Leaving, hints: &'a [u8; 4096]) -> bool
     requires { ⌜ Whole (now words) × (i < objectCount (now words)) ⌝ }
     ensures { λ r. ⌜ Holds (λ e. r ≡ stays why e (getD (e .objects) i noObject)) (now (words .entry)) ⌝ }
 {
     match why {
         Leaving::ExporterRemoved(x) => find::object_exporter(words, i).0 != x.0,
-        Leaving::NoInterface => find::is_served(words, find::oid(words, i)),
+        Leaving::NoInterface => is_served(words, hints, find::oid(words, i)),
         Leaving::Unheard(t) => find::is_heard_within(words, i, t),
     }
 }
 
 // Takes object i out, unless it stays.
-fn leave(words: &mut [u64], i: usize, why: Leaving)
+fn leave<'a>(words: &'a mut [u64], i: usize, why: Leaving, hints: &'a [u8; 4096])
     requires { ⌜
         Whole (now words) × (i < objectCount (now words)) × (membersBelow (now words) ≡ true)
         × (distinct eqb (oidsOf (now words)) ≡ true) ⌝ }
     ensures { λ _. ⌜ Became (leftAt why i) (now (words .entry)) (now (words .exit)) × (membersBelow (now (words .exit)) ≡ true) ⌝ }
 {
-    if is_staying(words, i, why) {
+    if is_staying(words, i, why, hints) {
         return;
     }
     edit::remove_object(words, i);
@@ -54,20 +126,22 @@ fn drop_objects(words: &mut [u64], why: Leaving)
         Became (λ e. objectsLeft (stays why e) e) (now (words .entry)) (now (words .exit))
         × (membersBelow (now (words .exit)) ≡ true) ⌝ }
 {
+    let mut hints = [0u8; 4096];
+    hint_served(words, &mut hints);
     let mut i = find::object_count(words);
     while 0 < i {
         i -= 1;
-        leave(words, i, why);
+        leave(words, i, why, &hints);
     }
 }
 
 // Takes interface i out, unless its object is live.
-fn leave_interface(words: &mut [u64], i: usize)
+fn leave_interface<'a>(words: &'a mut [u64], i: usize, hints: &'a [u8; 4096])
     requires { ⌜ Whole (now words) × (i < interfaceCount (now words)) ⌝ }
     ensures { λ _. ⌜ Became (interfaceLeftAt i) (now (words .entry)) (now (words .exit)) ⌝ }
 {
     let object = find::interface_object(words, i);
-    if find::object_row(words, object) < find::object_count(words) {
+    if is_live(words, hints, object) {
         return;
     }
     edit::remove_interface(words, i);
@@ -78,10 +152,12 @@ fn drop_interfaces(words: &mut [u64])
     requires { ⌜ Whole (now words) ⌝ }
     ensures { λ _. ⌜ Became interfacesLeft (now (words .entry)) (now (words .exit)) ⌝ }
 {
+    let mut hints = [0u8; 4096];
+    hint_objects(words, &mut hints);
     let mut i = find::interface_count(words);
     while 0 < i {
         i -= 1;
-        leave_interface(words, i);
+        leave_interface(words, i, &hints);
     }
 }
 

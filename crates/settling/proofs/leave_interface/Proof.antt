@@ -1,28 +1,28 @@
--- `settling::leave_interface`: an object is live where its row is below the number of objects.
-use mathlib.Core.Path.{_∙_}
-use borrow.Author.Tests.{lt-ltb, le-ltb}
-use Rattle.settling.proofs.Staying.{live-at}
+-- `settling::leave_interface`: the interface goes where its object is not live.
+use Prim.Native.Nat.{ℕ}
+use mathlib.Core.Path.{sym, ap, _∙_}
 use borrow.Author.Needs.{needs}
+use Rattle.rules.specs.Rules.{isLiveObject}
+use Rattle.table.specs.View.{memory, view}
 use Rattle.settling.proofs.leave_interface.Statement.{statement}
 use Rattle.settling.proofs.leave_interface.Tie as tie
 
 returns : tie.Need-returns
 returns c s =
-    let b = c .before .before .before .before in
-    rw (live-at _ s _ _ _ _ (b .before .interface-object .ensures) (c .before .before .before .object-row .ensures s) (c .before .object-count .ensures .0) ∙ lt-ltb _ _ (c .if1 .taken))
+    let ws = c .before .before .before .before .before .before .args .words .now in
+    rw (ap (isLiveObject (view (memory ws s))) (sym (c .before .before .before .interface-object .ensures)) ∙ sym (c .before .is-live .ensures s) ∙ c .if1 .taken)
 
 returns-2 : tie.Need-returns-2
 returns-2 c s =
     let d = c .before .before .before .before in
-    let b = d .before .before .before .before in
-    rw (live-at _ s _ _ _ _ (b .before .interface-object .ensures) (d .before .before .before .object-row .ensures s) (d .before .object-count .ensures .0) ∙ le-ltb _ _ (d .if1 .left))
+    let ws = c .before .before .before .before .before .before .before .before .before .before .args .words .now in
+    rw (ap (isLiveObject (view (memory ws s))) (sym (d .before .before .before .interface-object .ensures)) ∙ sym (d .before .is-live .ensures s) ∙ d .if1 .left)
     (c .before .before .remove-interface .ensures s)
 
 pub leave-interface-spec : {M : Type 1} → statement M
 leave-interface-spec =
     tie.close
     (tie.spec
-    (λ c κs. search needs)
     (λ c κs. search needs)
     (λ c κs. search needs)
     (λ c. search needs)

@@ -1,0 +1,38 @@
+-- `listing::hint_rows`: each store is within the array, and each row is below 2 ^ 8.
+use Prim.Native.Nat.{_≤_, _-_}
+use mathlib.Core.Path.{_≡_}
+use native.Mathlib.Omega.{arith}
+use borrow.Author.Needs.{needs}
+use Rattle.table.specs.View.{interfaceCount}
+use Rattle.listing.proofs.hint_rows.Statement.{statement}
+use Rattle.listing.proofs.hint_rows.Tie as tie
+
+abbrev Inv-loop : tie.InvT-loop
+Inv-loop words hints₀ before n i₀ hints i = (i ≤ n) × (n ≡ interfaceCount words) × (n ≤ 256)
+
+abbrev μ-loop : tie.MeasureT-loop
+μ-loop words hints₀ before n i₀ hints i = n - i
+
+loop-holds : tie.Need-loop-holds Inv-loop μ-loop
+loop-holds c = (omega arith, c .before .interface-count .ensures .0, omega arith)
+
+ipid-requires : tie.Need-ipid-requires Inv-loop μ-loop
+ipid-requires c κs = (search needs, omega arith)
+
+pub hint-rows-spec : {M : Type 1} → statement M
+hint-rows-spec =
+    tie.close
+    (tie.spec
+    Inv-loop
+    μ-loop
+    (λ c κs. search needs)
+    (λ c. search needs)
+    loop-holds
+    ipid-requires
+    (λ c κs. search needs)
+    (λ c. search needs)
+    (λ c. search needs)
+    (λ c. search needs)
+    (λ c. search needs)
+    (λ c. search needs)
+    (λ c. search needs))
