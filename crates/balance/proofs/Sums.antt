@@ -1,12 +1,12 @@
 -- Sums of counts: of a list of which one is changed, of interfaces that are kept, changed and entered.
-use Prim.Native.Nat.{ℕ, zero, suc, _+_, _<_}
-use mathlib.Core.Path.{_≡_, refl}
+use Prim.Native.Nat.{ℕ, zero, suc, _+_, _<_, _≤_}
+use mathlib.Core.Path.{_≡_, refl, ap}
 use mathlib.Core.Bool.{Bool, false, not}
 use mathlib.Core.List.{List, [], _∷_, _++_}
 use mathlib.Core.Logic.{⊎-elim}
 use native.Mathlib.Omega.{arith}
 use borrow.Author.Tests.{eqb-true, not-false}
-use lib.ListN.{length, getD, set}
+use lib.ListN.{length, getD, set, drop}
 use lib.Dec.{eqb}
 use Rattle.lists.specs.Lists.{keep, some}
 use Rattle.lists.proofs.Tests.{true-or-false, or-left, or-right}
@@ -64,3 +64,48 @@ held-kept (i ∷ is) =
     (λ t. rw t (omega arith))
     (λ f. let z = total-none (i .counts) f in rw f (omega arith))
     (true-or-false (held i))
+
+-- ---- the table's sum, from a place on
+
+total-from : (ns : List ℕ) (k : ℕ) → k < length ns → total (drop k ns) ≡ getD ns k 0 + total (drop (suc k) ns)
+unfolding total
+total-from [] k h = absurd (omega arith)
+total-from (n ∷ ns) zero h = refl
+total-from (n ∷ ns) (suc k) h = total-from ns k (omega arith)
+
+pub total-past : (ns : List ℕ) (k : ℕ) → length ns ≤ k → total (drop k ns) ≡ 0
+unfolding total
+total-past [] zero h = refl
+total-past [] (suc k) h = refl
+total-past (n ∷ ns) zero h = absurd (omega arith)
+total-past (n ∷ ns) (suc k) h = total-past ns k (omega arith)
+
+-- a sum of those before k goes on
+pub total-on : (ns : List ℕ) (k sum n : ℕ) → k < length ns → n ≡ getD ns k 0 → sum + total (drop k ns) ≡ total ns → sum + n + total (drop (k + 1) ns) ≡ total ns
+total-on ns k sum n h e q =
+    let r = total-from ns k h in
+    let j : suc k ≡ k + 1 = omega arith in
+    let t = ap (λ (x : ℕ). total (drop x ns)) j in
+    omega arith
+
+held-from : (is : List Interface) (d : Interface) (k : ℕ) → k < length is → countsHeld (drop k is) ≡ total (getD is k d .counts) + countsHeld (drop (suc k) is)
+unfolding countsHeld
+held-from [] d k h = absurd (omega arith)
+held-from (i ∷ is) d zero h = refl
+held-from (i ∷ is) d (suc k) h = held-from is d k (omega arith)
+
+pub held-past : (is : List Interface) (k : ℕ) → length is ≤ k → countsHeld (drop k is) ≡ 0
+unfolding countsHeld
+held-past [] zero h = refl
+held-past [] (suc k) h = refl
+held-past (i ∷ is) zero h = absurd (omega arith)
+held-past (i ∷ is) (suc k) h = held-past is k (omega arith)
+
+-- the same of interfaces
+pub held-on : (is : List Interface) (d : Interface) (k sum n : ℕ) → k < length is → n ≡ total (getD is k d .counts) → sum + countsHeld (drop k is) ≡ countsHeld is
+    → sum + n + countsHeld (drop (k + 1) is) ≡ countsHeld is
+held-on is d k sum n h e q =
+    let r = held-from is d k h in
+    let j : suc k ≡ k + 1 = omega arith in
+    let t = ap (λ (x : ℕ). countsHeld (drop x is)) j in
+    omega arith
