@@ -5,3 +5,4 @@ pub mod Bounds
 pub mod Going
 pub mod Cases
 pub mod Doing
+pub mod Coded

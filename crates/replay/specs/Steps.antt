@@ -1,7 +1,7 @@
 -- One record replayed.
-use Prim.Native.Nat.{ℕ, _+_, _*_}
+use Prim.Native.Nat.{ℕ, _+_, _*_, _≤_}
 use mathlib.Core.Path.{_≡_}
-use mathlib.Core.Bool.{Bool, _&&_}
+use mathlib.Core.Bool.{Bool, cond, _&&_, _||_}
 use mathlib.Core.List.{List, [], _∷_}
 use lib.ListN.{length}
 use lib.Dec.{eqb}
@@ -13,8 +13,8 @@ use Rattle.rules.specs.Contract.{Memory, Whole}
 use Rattle.table.specs.View.{view, Performed}
 use Rattle.tally.specs.declared.Tally.{Tally}
 use Rattle.balance.specs.Balance.{heldIn}
-use Rattle.balance.specs.Sides.{sideOf, moved}
-use Rattle.recording.specs.Recording.{Answer, Recorded}
+use Rattle.balance.specs.Sides.{Side, granting, taking, running, beginning, sideOf, moved}
+use Rattle.recording.specs.Recording.{Answer, Recorded, Sections, codeOf, callOf, recordedOf}
 use Rattle.recording.specs.Statements.{valueCount}
 use Rattle.replay.specs.Replay.{answerTo, sameAnswer}
 use Rattle.replay.specs.declared.Step.{Step}
@@ -53,3 +53,24 @@ pub record CallDone (c : Call) (s shown : List ℕ) (m : Memory) (d : Step) (m�
 -- the step of a call that shows nothing, by what it answers
 abbrev pub plainStep : List ℕ → List ℕ → ℕ → ℕ → ℕ → ℕ → ℕ → Step
 plainStep s shown number a b c d = record { agrees = numbersAre s number a b c d && eqb (length shown) 0; accepted = eqb number 0 }
+
+-- ---- a record by its sections
+
+abbrev pub sections : (call first second answer shown : List ℕ) → Sections
+sections call first second answer shown = record { call = call; first = first; second = second; answer = answer; shown = shown }
+
+-- a record whose code has its call here
+pub record Replayable (x : Sections) : Type 0 where
+  pub low : 1 ≤ codeOf x
+  pub high : codeOf x ≤ 7
+
+-- the number that the call of a code moves
+unfoldable pub sideAs : ℕ → Side
+sideAs k = cond (eqb k 6 || eqb k 9) taking (cond (eqb k 2 || (eqb k 7 || eqb k 12)) running (cond (eqb k 0 || eqb k 19) beginning granting))
+
+-- One record replayed: its call is done, and the lengths stay; its code says which number of the tally it moves.
+pub record RecordDone (x : Sections) (m : Memory) (d : Step) (m′ : Memory) : Type 0 where
+  pub done : StepDone (recordedOf x) m d m′
+  pub words : Whole (m′ .words)
+  pub store : Whole (m′ .store)
+  pub side : sideOf (callOf x) ≡ sideAs (codeOf x)

@@ -1,4 +1,5 @@
 // The replay of a recorded shift from a reset at 0.
+mod groups;
 mod plain;
 
 use tally::Tally;
