@@ -6,3 +6,6 @@ pub mod Going
 pub mod Cases
 pub mod Doing
 pub mod Coded
+pub mod Wrapping
+pub mod Looping
+pub mod Lengths

@@ -1,4 +1,5 @@
 pub mod Replay
 pub mod Steps
+pub mod Turns
 pub mod Statements
 pub mod Cases

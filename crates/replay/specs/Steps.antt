@@ -68,6 +68,10 @@ pub record Replayable (x : Sections) : Type 0 where
 unfoldable pub sideAs : ℕ → Side
 sideAs k = cond (eqb k 6 || eqb k 9) taking (cond (eqb k 2 || (eqb k 7 || eqb k 12)) running (cond (eqb k 0 || eqb k 19) beginning granting))
 
+-- the same by the number that code keeps for it
+abbrev pub sideFrom : ℕ → Side
+sideFrom n = cond (eqb n 1) taking (cond (eqb n 2) running (cond (eqb n 3) beginning granting))
+
 -- One record replayed: its call is done, and the lengths stay; its code says which number of the tally it moves.
 pub record RecordDone (x : Sections) (m : Memory) (d : Step) (m′ : Memory) : Type 0 where
   pub done : StepDone (recordedOf x) m d m′
