@@ -70,11 +70,7 @@ pub extern "C" fn rimonakh_this_write(
         low: causality_low,
         high: causality_high,
     };
-    let header = OrpcThis {
-        minor: minor,
-        flags: flags,
-        causality: causality,
-    };
+    let header = OrpcThis::new(minor, flags, causality);
     header.write(buffer)
 }
 
@@ -100,11 +96,7 @@ pub extern "C" fn rimonakh_this_write_extensions(
         low: causality_low,
         high: causality_high,
     };
-    let header = OrpcThis {
-        minor: minor,
-        flags: flags,
-        causality: causality,
-    };
+    let header = OrpcThis::new(minor, flags, causality);
     header.write_with(pointer, array, entries, contents, buffer)
 }
 
@@ -131,7 +123,7 @@ pub extern "C" fn rimonakh_that_write(flags: u32, buffer: &mut [u8]) -> u32
         (r ≡ (thatWriting 0 0 [] [] (length (now (buffer .entry)))) .answer)
         × (now (buffer .exit) ≡ stored r (thatBytes (record { flags = flags }) none) (now (buffer .entry))) ⌝ }
 {
-    let header = OrpcThat { flags: flags };
+    let header = OrpcThat::new(flags);
     header.write(buffer)
 }
 
@@ -149,7 +141,7 @@ pub extern "C" fn rimonakh_that_write_extensions(
         (r ≡ thatWriting pointer array (now (entries .entry)) (now (contents .entry)) (length (now (buffer .entry))))
         × (now (buffer .exit) ≡ stored (r .answer) (thatBytes (record { flags = flags }) (given pointer array (now (entries .entry)) (now (contents .entry)))) (now (buffer .entry))) ⌝ }
 {
-    let header = OrpcThat { flags: flags };
+    let header = OrpcThat::new(flags);
     header.write_with(pointer, array, entries, contents, buffer)
 }
 
@@ -380,13 +372,7 @@ pub extern "C" fn rimonakh_reference_write<'a>(
         low: element_low,
         high: element_high,
     };
-    let block = Block {
-        flags: block_flags,
-        public: public,
-        oxid: Oxid(oxid),
-        oid: Oid(oid),
-        ipid: ipid,
-    };
+    let block = Block::new(block_flags, public, Oxid(oxid), Oid(oid), ipid);
     let reference = Reference {
         flags: flags,
         iid: iid,

@@ -2,6 +2,7 @@
 use kinds::Guid;
 use kinds::Oid;
 use kinds::answer;
+use kinds::limits;
 use settling::Leaving;
 use table::find;
 ghost use mathlib.Core.Path.{_≡_};
@@ -101,7 +102,7 @@ pub fn add_hinted<'a>(
         Stepped (Call.editing (Edit.add client ipid public private)) (memory (now (words .entry)) (now (store .entry)))
         (numbered r) (memory (now (words .exit)) (now (store .entry))) ⌝ }
 {
-    if 7 < client {
+    if limits::LAST_CLIENT < client {
         return answer::NO_CLIENT;
     }
     let i = interface_row(words, store, hint, ipid);
@@ -216,7 +217,7 @@ pub fn release_hinted<'a>(
         Stepped (Call.editing (Edit.release client ipid public private)) (memory (now (words .entry)) (now (store .entry)))
         (releaseReply r) (memory (now (words .exit)) (now (store .entry))) ⌝ }
 {
-    if 7 < client {
+    if limits::LAST_CLIENT < client {
         return refused(answer::NO_CLIENT);
     }
     let i = interface_row(words, store, hint, ipid);
@@ -266,7 +267,7 @@ pub fn drop_client_step<'a>(words: &'a mut [u64], store: &'a [u8], client: u32) 
         Stepped (Call.editing (Edit.dropClient client)) (memory (now (words .entry)) (now (store .entry)))
         (numbered r) (memory (now (words .exit)) (now (store .entry))) ⌝ }
 {
-    if 7 < client {
+    if limits::LAST_CLIENT < client {
         return answer::NO_CLIENT;
     }
     settling::clear_counts(words, client as usize);

@@ -127,11 +127,11 @@ pub fn add_set(words: &mut [u64], number: SetId, sequence: u16, pinged: u64, mem
     push_row(words, layout::set_kind(), layout::SETS, n, &row);
 }
 
-pub fn set_next(words: &mut [u64], number: u64)
+pub fn set_next(words: &mut [u64], number: SetId)
     requires { ⌜ Whole (now words) ⌝ }
-    ensures { λ _. ⌜ Became (withNext number) (now (words .entry)) (now (words .exit)) ⌝ }
+    ensures { λ _. ⌜ Became (withNext (number .0)) (now (words .entry)) (now (words .exit)) ⌝ }
 {
-    words[layout::NEXT_SET] = number;
+    words[layout::NEXT_SET] = number.0;
 }
 
 // A set with the next number, which grows by one: pinged now, with sequence number 0 and no member.
@@ -141,8 +141,8 @@ pub fn put_set(words: &mut [u64])
 {
     let next = find::next_set(words);
     let clock = find::clock(words);
-    add_set(words, SetId(next), 0, clock, Members { low: 0, high: 0 });
-    set_next(words, next + 1);
+    add_set(words, next, 0, clock, Members { low: 0, high: 0 });
+    set_next(words, SetId(next.0 + 1));
 }
 
 // An exporter, with its list behind the live ones.

@@ -18,3 +18,6 @@ pub const SET_PLACES: usize = 32;
 pub const LONGEST_LIST: usize = 2048;
 
 pub const LONGEST_SNAPSHOT: usize = 64698;
+
+// Clients are the numbers from 0 to this one.
+pub const LAST_CLIENT: u32 = 7;

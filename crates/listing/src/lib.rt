@@ -1,6 +1,7 @@
 // Whole lists of adds and releases: items of 24 bytes, an IPID and two counts, as RemAddRef and RemRelease carry them.
 use kinds::Guid;
 use kinds::answer;
+use kinds::limits;
 use table::find;
 ghost use Prim.Native.Nat.{_≤_, _<_};
 ghost use Rattle.rules.specs.Contract.{Whole};
@@ -61,7 +62,7 @@ pub fn list_step<'a>(
         Stepped (Call.countList (wayOf back) client (now (items .entry)) (now (buffer .entry))) (memory (now (words .entry)) (now (store .entry)))
         (listReply r (now (buffer .exit))) (memory (now (words .exit)) (now (store .entry))) ⌝ }
 {
-    if 7 < client {
+    if limits::LAST_CLIENT < client {
         return answer::NO_CLIENT;
     }
     if items.len() % 24 != 0 {

@@ -133,7 +133,8 @@ fn late_number(words: &[u64], set: SetId) -> u32
         if limits::SET_PLACES <= find::set_count(words) {
             return answer::NO_PLACE;
         }
-        if find::next_set(words) == 0xFFFFFFFFFFFFFFFF {
+        let next = find::next_set(words);
+        if next.0 == 0xFFFFFFFFFFFFFFFF {
             return answer::SETS_USED_UP;
         }
         return answer::DONE;
@@ -241,7 +242,7 @@ fn ping_set_number(words: &[u64], set: SetId) -> SetId
     ensures { λ r. ⌜ r .0 ≡ pingSetNumber (set .0) (nextOf (now (words .entry))) ⌝ }
 {
     if set.0 == 0 {
-        return SetId(find::next_set(words));
+        return find::next_set(words);
     }
     set
 }

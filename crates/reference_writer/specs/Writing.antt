@@ -1,6 +1,6 @@
 -- Writing object references: their layout, and what a writer refuses (document 01, "Reference bytes"; document 02, requests 5 and 7; 000,
 -- sections 2.2.18 and 2.2.20).
-use Prim.Native.Nat.{ℕ, _+_}
+use Prim.Native.Nat.{ℕ, _+_, _-_}
 use mathlib.Core.Bool.{cond, not}
 use mathlib.Core.List.{List, [], _∷_, _++_}
 use lib.ListN.{length}
@@ -10,7 +10,7 @@ use Rattle.fields.specs.declared.Written.{Written}
 use Rattle.fields.specs.Fields.{encode, guidBytes, rounded}
 use Rattle.bindings.specs.Bindings.{listAnswer}
 use Rattle.elements.specs.Elements.{signature, elementBytes, givenAnswer}
-use Rattle.references.specs.References.{extendedSignature, byForm, isForm, isExtended, fixedSize, standard, handler, custom, extended, noReference, objectAnswer, layoutAnswer, namesNil, nilGiven}
+use Rattle.references.specs.References.{extendedSignature, mostDepth, byForm, isForm, isExtended, fixedSize, standard, handler, custom, extended, noReference, objectAnswer, layoutAnswer, namesNil, nilGiven}
 use Rattle.references.specs.declared.Block.{Block}
 use Rattle.references.specs.declared.Reference.{Reference}
 
@@ -54,13 +54,17 @@ formed r =
 
 -- ---- writing a reference, its tail t and the data x of its element into a buffer of n bytes
 
+-- the levels that are left inside the outermost reference
+abbrev pub insideDepth : ℕ
+insideDepth = mostDepth - 1
+
 -- the tail by itself: the list's refusals, bytes left over being 14; or those of the object data
 unfoldable pub tailAnswer : Reference → List ℕ → ℕ
 tailAnswer r t = byForm (r .flags) (listAnswer t) (listAnswer t) (objectAnswer (r .clsid) t) (listAnswer t) 0
 
 -- the element's refusals; a form without elements has none
 abbrev pub elementGiven : Reference → List ℕ → ℕ
-elementGiven r x = cond (isExtended (r .flags)) (givenAnswer (layoutAnswer 7) (r .element) x) 0
+elementGiven r x = cond (isExtended (r .flags)) (givenAnswer (layoutAnswer insideDepth) (r .element) x) 0
 
 -- bad flags 14; the tail's refusals; the element's; 22
 unfoldable pub valueAnswer : Reference → List ℕ → List ℕ → ℕ
@@ -69,7 +73,7 @@ valueAnswer r t x =
     (not (isForm (r .flags)) gives 14
     ∷ passes (tailAnswer r t)
     ∷ passes (elementGiven r x)
-    ∷ nilGiven (namesNil 7) (r .flags) (r .block) x gives 22
+    ∷ nilGiven (namesNil insideDepth) (r .flags) (r .block) x gives 22
     ∷ [])
 
 abbrev pub writtenLength : Reference → List ℕ → List ℕ → ℕ

@@ -12,7 +12,10 @@ ghost use lib.ListN.{length};
 ghost use Rattle.fields.specs.Fields.{encode, written, stored, rounded, longest};
 ghost use Rattle.elements.specs.Elements.{elementBytes, contentAnswer, givenAnswer};
 ghost use Rattle.references.specs.References.{extendedSignature, isExtended, fixedSize, answerWithin};
-ghost use Rattle.reference_writer.specs.Writing.{blockBytes, headerBytes, bodyBytes, elementsBytes, referenceBytes, tailAnswer, elementGiven, valueAnswer, writeReference};
+ghost use Rattle.reference_writer.specs.Writing.{insideDepth, blockBytes, headerBytes, bodyBytes, elementsBytes, referenceBytes, tailAnswer, elementGiven, valueAnswer, writeReference};
+
+// The levels that are left inside the outermost reference.
+const INSIDE_DEPTH: usize = Reference::DEPTH - 1;
 
 // ---- what is refused
 
@@ -33,17 +36,17 @@ fn tail_answer(reference: Reference, tail: &[u8]) -> u32
 
 // Of data that goes into the element of the outermost reference.
 fn content_answer(x: &[u8]) -> u32
-    ensures { λ r. ⌜ r ≡ contentAnswer (answerWithin 7) (now (x .entry)) ⌝ }
+    ensures { λ r. ⌜ r ≡ contentAnswer (answerWithin insideDepth) (now (x .entry)) ⌝ }
 {
     if !elements::is_reference(x) {
         return answer::DONE;
     }
-    references::answer_within(x, 7)
+    references::answer_within(x, INSIDE_DEPTH)
 }
 
 // Of an identifier and data, to be written as an element.
 fn given_answer(id: Guid, x: &[u8]) -> u32
-    ensures { λ r. ⌜ r ≡ givenAnswer (answerWithin 7) id (now (x .entry)) ⌝ }
+    ensures { λ r. ⌜ r ≡ givenAnswer (answerWithin insideDepth) id (now (x .entry)) ⌝ }
 {
     if elements::is_nil(id) {
         return answer::LAYOUT;
@@ -59,7 +62,7 @@ fn given_answer(id: Guid, x: &[u8]) -> u32
 
 // Of the element; a form without elements has none.
 fn element_given(reference: Reference, x: &[u8]) -> u32
-    ensures { λ r. ⌜ r ≡ cond (isExtended (reference .flags)) (givenAnswer (answerWithin 7) (reference .element) (now (x .entry))) 0 ⌝ }
+    ensures { λ r. ⌜ r ≡ cond (isExtended (reference .flags)) (givenAnswer (answerWithin insideDepth) (reference .element) (now (x .entry))) 0 ⌝ }
 {
     if reference.flags != Reference::EXTENDED {
         return answer::DONE;

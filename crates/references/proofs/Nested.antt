@@ -5,15 +5,17 @@ use mathlib.Core.Bool.{true, false, _&&_}
 use mathlib.Core.List.{List}
 use native.Mathlib.Omega.{arith}
 use native.Mathlib.Nat.{add-sub-cancel-left}
-use borrow.Author.Tests.{eq-eqb, ne-eqb}
+use borrow.Author.Tests.{eq-eqb, ne-eqb, eqb-true}
 use lib.ListN.{length, take, drop, length-drop}
 use lib.Seq.{drop-drop}
-use Rattle.kinds.proofs.Refusing.{passed-on}
+use Rattle.kinds.proofs.Refusing.{by-test, passed-on}
+use Rattle.lists.proofs.Tests.{and-left, and-right}
 use Rattle.fields.specs.Fields.{field}
 use Rattle.references.specs.References.{blockAt, isForm, listEnd, elementStart, contentStart, contentLength, contentOf, headAnswer, extendedFront, extendedAnswer, formAnswer, layoutBy, layoutAnswer, hasNil, nilGiven, namesNil, isExtended, referenceAnswer, elementPlace}
 use Rattle.elements.specs.Elements.{isReference, elementFront, elementContent, contentAnswer, elementAnswer}
 use Rattle.references.specs.Parts.{ElementFound}
 use Rattle.bindings.specs.Bindings.{refusal}
+use Rattle.bindings.proofs.ListAnswers.{Within}
 use lib.Dec.{eqb}
 use Rattle.elements.proofs.ElementAnswers.{content-within}
 use Rattle.references.proofs.Forms.{by-form, Headed, headed, opened}
@@ -127,6 +129,17 @@ module _ (s : List ℕ) (k : ℕ) where
         let layout : layoutAnswer 8 s ≡ 0 = passed-on (layoutAnswer 8 s) _ done .0 in
         let w = inside 8 s (omega arith) layout f .within in
         record { place = rw (eq-eqb _ _ done, f, z); within = (omega arith, w) }
+
+-- it lies in s
+pub element-within : (s : List ℕ) (k : ℕ) → Within (length s) (elementPlace s k)
+unfolding elementPlace
+element-within s k =
+    by-test (Within (length s)) (eqb (referenceAnswer s) 0) _ _
+    (λ e.
+    by-test (Within (length s)) (isExtended (field s 4 4) && eqb k 0) _ _
+    (λ z. found-content s k (eqb-true _ _ e) (eqb-true _ _ (and-left _ (eqb k 0) z)) (eqb-true _ _ (and-right (isExtended (field s 4 4)) _ z)) .within)
+    (λ z. omega arith))
+    (λ e. omega arith)
 
 pub none-form : (f k : ℕ) → (f ≡ 8 → ⊥) → (isExtended f && eqb k 0) ≡ false
 none-form f k h = rw (ne-eqb f 8 h)

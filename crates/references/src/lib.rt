@@ -97,13 +97,13 @@ impl Block {
         ensures { λ r. ⌜ r ≡ blockAt (now (s .entry)) 24 ⌝ }
     {
         let ipid = fields::read_guid(s, 48);
-        Block {
-            flags: fields::read_u32(s, 24),
-            public: fields::read_u32(s, 28),
-            oxid: Oxid(fields::read_u64(s, 32)),
-            oid: Oid(fields::read_u64(s, 40)),
-            ipid: ipid,
-        }
+        Block::new(
+            fields::read_u32(s, 24),
+            fields::read_u32(s, 28),
+            Oxid(fields::read_u64(s, 32)),
+            Oid(fields::read_u64(s, 40)),
+            ipid,
+        )
     }
 }
 

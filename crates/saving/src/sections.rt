@@ -21,7 +21,8 @@ fn put_numbers<'a>(words: &'a [u64], buffer: &'a mut [u8], at: usize) -> usize
 {
     fields::write_u16(buffer, at, 2);
     fields::write_u64(buffer, at + 2, find::clock(words));
-    fields::write_u64(buffer, at + 10, find::next_set(words));
+    let next = find::next_set(words);
+    fields::write_u64(buffer, at + 10, next.0);
     at + 18
 }
 

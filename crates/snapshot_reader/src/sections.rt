@@ -1,5 +1,6 @@
 // The sections of a snapshot, read into a table.
 use crate::rows;
+use kinds::SetId;
 use kinds::limits;
 use snapshot_rows::Section;
 ghost use mathlib.Core.Path.{_≡_};
@@ -89,6 +90,6 @@ pub fn read_table<'a>(words: &'a mut [u64], store: &'a mut [u8], s: &'a [u8]) ->
         return false;
     }
     edit::clear(words, fields::read_u64(s, 2));
-    edit::set_next(words, fields::read_u64(s, 10));
+    edit::set_next(words, SetId(fields::read_u64(s, 10)));
     read_sections(words, store, s, fields::within(s, 18))
 }

@@ -29,11 +29,11 @@ pub fn clock(words: &[u64]) -> u64
 }
 
 // The next set number.
-pub fn next_set(words: &[u64]) -> u64
+pub fn next_set(words: &[u64]) -> SetId
     requires { ⌜ Whole (now words) ⌝ }
-    ensures { λ r. ⌜ r ≡ nextOf (now (words .entry)) ⌝ }
+    ensures { λ r. ⌜ r .0 ≡ nextOf (now (words .entry)) ⌝ }
 {
-    words[layout::NEXT_SET]
+    SetId(words[layout::NEXT_SET])
 }
 
 // A count word, read as no more than the places.

@@ -31,13 +31,9 @@ const IID: Guid = Guid {
 };
 
 // The group with 5 public references, pinged.
-const BLOCK: Block = Block {
-    flags: 0,
-    public: 5,
-    oxid: OXID,
-    oid: OID,
-    ipid: IPID,
-};
+fn block() -> Block {
+    Block::new(0, 5, OXID, OID, IPID)
+}
 
 // One string binding, "10.1.4.20[49500]" over TCP, and no security binding: 44 bytes.
 const BINDINGS: [u8; 44] =
@@ -78,7 +74,7 @@ pub fn offer(
 }
 
 fn write(reference: &mut [u8; REFERENCE]) {
-    let r = reference_writer::write(Reference::standard(IID, BLOCK), &BINDINGS, b"", reference);
+    let r = reference_writer::write(Reference::standard(IID, block()), &BINDINGS, b"", reference);
     say::results(
         r.answer,
         b"server: writes the reference, # bytes\n",

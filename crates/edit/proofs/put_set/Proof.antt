@@ -6,7 +6,7 @@ use Rattle.edit.proofs.put_set.Tie as tie
 
 returns : tie.Need-returns
 returns c =
-    let a = c .before .before .before .before .before .before in
+    let a = c .before .before .before .before .before .before .before in
     let k = a .before .before in
     set-made _ _ _ _ _ (k .before .before .next-set .ensures) (k .clock .ensures) (a .add-set .ensures) (c .before .before .set-next .ensures)
 

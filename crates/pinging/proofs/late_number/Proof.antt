@@ -33,10 +33,16 @@ returns : tie.Need-returns
 returns c s = row-gives _ _ _ (new-left (c .before .before) s) (full-judged (c .before) s ∙ le-leb setPlaces _ (c .if2 .taken))
 
 returns-2 : tie.Need-returns-2
-returns-2 c s = row-gives _ _ _ (row-passes _ _ _ (new-left (c .before .before .before .before) s) (full-judged (c .before .before .before) s ∙ lt-leb setPlaces _ (c .before .before .if2 .left))) (rw (c .before .next-set .ensures) at (eq-eqb _ _ (c .if3 .taken)))
+returns-2 c s =
+    let d = c .before .before .before in
+    let room = row-passes _ _ _ (new-left (d .before .before) s) (full-judged (d .before) s ∙ lt-leb setPlaces _ (d .if2 .left)) in
+    row-gives _ _ _ room (rw (c .before .before .next-set .ensures) at (eq-eqb _ _ (c .if3 .taken)))
 
 returns-3 : tie.Need-returns-3
-returns-3 c s = rows-end (row-passes _ _ _ (row-passes _ _ _ (new-left (c .before .before .before .before) s) (full-judged (c .before .before .before) s ∙ lt-leb setPlaces _ (c .before .before .if2 .left))) (rw (c .before .next-set .ensures) at (ne-eqb _ _ (c .if3 .left))))
+returns-3 c s =
+    let d = c .before .before .before in
+    let room = row-passes _ _ _ (new-left (d .before .before) s) (full-judged (d .before) s ∙ lt-leb setPlaces _ (d .if2 .left)) in
+    rows-end (row-passes _ _ _ room (rw (c .before .before .next-set .ensures) at (ne-eqb _ _ (c .if3 .left))))
 
 returns-4 : tie.Need-returns-4
 returns-4 c s = let st = c .before .before .before in rows-end (ap (λ (t : Bool). order (cond t (newRows (At st s)) [])) (ne-eqb (st .args .set .0) 0 (c .if1 .left)))
