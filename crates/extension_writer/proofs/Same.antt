@@ -13,7 +13,7 @@ use Rattle.fields.specs.Fields.{bytesNumber, field, Bytes, longest}
 use Rattle.fields.proofs.Fields.{field-in, field-out}
 use Rattle.extensions.specs.Extensions.{pointersAnswer, sizeAt, nextAt, extentsAnswer, countAt, arrayAt, extentsStart, extensionsCount, extentsAt, extensionsAt}
 use Rattle.extension_writer.specs.Writing.{entryWritable, extentsWritable, writable}
-use Rattle.extension_writer.specs.Statements.{WriterRefusesTheSame}
+use Rattle.extension_writer.specs.Statements.{ReadIsWritable}
 use Rattle.bindings.proofs.ListBytes.{by-bool}
 use Rattle.extensions.proofs.Back.{count-extents}
 use Rattle.extensions.proofs.ArrayWalk.{held, accepted, extents-first}
@@ -54,9 +54,9 @@ extents-writable s p at (suc n) b hp h =
     let narrow = four-bound s p b in
     rw (c .0, lt-ltb _ _ narrow, size, le-leb _ _ fit, rest)
 
-pub writer-refuses-the-same : WriterRefusesTheSame
+pub read-is-writable : ReadIsWritable
 unfolding writable extensionsAt extensionsCount extentsWritable extentsAt
-writer-refuses-the-same s at b done =
+read-is-writable s at b done =
     let a = accepted s at done in
     by-bool (eqb (field s at 4) 0)
     (λ e. rw e)

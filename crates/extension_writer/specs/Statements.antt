@@ -37,8 +37,8 @@ ReadBack =
     (s : List ℕ) (at : ℕ) (a : Array) (rest : List ℕ) → at ≤ length s → Fits a → writable a ≡ true → drop at s ≡ arrayBytes a ++ rest → ReadAs s at a rest
 
 -- what the reader accepts the writer does not refuse by 14
-abbrev pub WriterRefusesTheSame : Type 0
-WriterRefusesTheSame = (s : List ℕ) (at : ℕ) → Bytes s → extensionsAnswer s at ≡ 0 → writable (extensionsAt s at) ≡ true
+abbrev pub ReadIsWritable : Type 0
+ReadIsWritable = (s : List ℕ) (at : ℕ) → Bytes s → extensionsAnswer s at ≡ 0 → writable (extensionsAt s at) ≡ true
 
 -- the words and data of an array describe it, and those of an array that is read are taken
 pub record Described (a : Array) : Type 0 where

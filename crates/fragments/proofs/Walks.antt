@@ -12,7 +12,7 @@ use Rattle.bindings.specs.declared.Part.{Part}
 use Rattle.bindings.specs.declared.Part.the-variants.{Strings, Security}
 use Rattle.bindings.proofs.ListBytes.{by-bool}
 use Rattle.bindings.proofs.Parts.{after, after-shorter, part-none, part-end, part-more, length-words, drop-words}
-use Rattle.fragments.specs.Walk.{wordStep, walkPart, listStep, walkList, bothClosed}
+use Rattle.fragments.specs.Walk.{wordStep, walkPart, listStep, walkList, PartsWalk}
 
 -- ---- one part
 
@@ -112,7 +112,7 @@ take-words s (suc m) at zero h = absurd (omega arith)
 take-words s (suc m) at (suc n) h = rw (take-words s m (at + 2) n (omega arith))
 
 -- the walk over all the words decides exactly as the two parts do
-pub parts-walk : (s : List ℕ) → twoParts s ≡ bothClosed (count s) (split s) (walkList (split s) 0 0 (words s 4 (count s)))
+pub parts-walk : PartsWalk
 unfolding twoParts
 parts-walk s =
     let v = split s in

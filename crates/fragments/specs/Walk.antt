@@ -1,8 +1,10 @@
 -- A walk over the words of a binding list, one word after the other, that says at the end whether they are two parts.
 use Prim.Native.Nat.{ℕ, suc}
+use mathlib.Core.Path.{_≡_}
 use mathlib.Core.Bool.{Bool, cond, _&&_, _||_}
 use mathlib.Core.List.{List, [], _∷_}
 use lib.Dec.{eqb, ltb}
+use Rattle.bindings.specs.Bindings.{words, count, split, twoParts}
 use Rattle.bindings.specs.declared.Part.{Part}
 use Rattle.bindings.specs.declared.Part.the-variants.{Strings, Security}
 
@@ -56,3 +58,7 @@ walkList v k m (w ∷ ws) = walkList v (suc k) (listStep v k m w) ws
 -- the n words of a list, walked to m, are two parts; or there is no word at all
 abbrev pub bothClosed : ℕ → ℕ → ℕ → Bool
 bothClosed n v m = (eqb n 0 && eqb v 0) || (ltb v n && eqb m closed)
+
+-- the walk over a list's words decides its parts as `twoParts` does
+abbrev pub PartsWalk : Type 0
+PartsWalk = (s : List ℕ) → twoParts s ≡ bothClosed (count s) (split s) (walkList (split s) 0 0 (words s 4 (count s)))

@@ -16,7 +16,7 @@ use Rattle.extension_writer.specs.Writing.{given, agree, takes, writable, write
 use Rattle.extensions.proofs.Back.{bytes-back, end-length, end-within}
 use Rattle.extension_writer.specs.Statements.{Fits}
 use Rattle.extension_writer.proofs.Forward.{read-back}
-use Rattle.extension_writer.proofs.Same.{writer-refuses-the-same}
+use Rattle.extension_writer.proofs.Same.{read-is-writable}
 use Rattle.headers.specs.Statements.{ThatFits}
 use Rattle.headers.specs.Headers.{thatBytes, thatAnswer, thatAt}
 use Rattle.headers.specs.declared.OrpcThat.{OrpcThat}
@@ -72,7 +72,7 @@ pub that-read-then-write : (s b : List ℕ) (h : OrpcThat) (n header pointer : �
 unfolding writeAnswer takes order
 that-read-then-write s b h n header pointer ws d bytes r same room =
     let a = given header pointer ws d in
-    let w : writable a ≡ true = rw (r .extensions) at (writer-refuses-the-same s 4 bytes (r .answer)) in
+    let w : writable a ≡ true = rw (r .extensions) at (read-is-writable s 4 bytes (r .answer)) in
     let size : n ≡ 4 + length (arrayBytes a) = sym (r .size) ∙ end-length s 4 bytes (r .answer) ∙ ap (λ (x : Array). 4 + length (arrayBytes x)) (r .extensions) in
     let fit : 4 + length (arrayBytes a) ≤ length b = omega arith in
     let long : length (thatBytes h a) ≡ n = length-that h a ∙ sym size in

@@ -18,7 +18,7 @@ use Rattle.extensions.proofs.ArrayWalk.{accepted}
 use Rattle.extensions.proofs.Back.{bytes-back, end-length, end-within}
 use Rattle.extension_writer.specs.Statements.{Fits}
 use Rattle.extension_writer.proofs.Forward.{read-back}
-use Rattle.extension_writer.proofs.Same.{writer-refuses-the-same}
+use Rattle.extension_writer.proofs.Same.{read-is-writable}
 use Rattle.headers.specs.Statements.{ThisFits}
 use Rattle.headers.specs.Headers.{thisFront, thisBytes, thisAnswer, thisAt, thisWritten}
 use Rattle.headers.specs.declared.OrpcThis.{OrpcThis}
@@ -114,7 +114,7 @@ this-read-then-write s b h n header pointer ws d bytes r same room =
     let v = version s (r .answer) in
     let minor : field s 2 2 ≡ h .minor = ap (λ (x : OrpcThis). x .minor) (r .header) in
     let k : h .minor ≤ 7 = rw minor at (known s (r .answer)) in
-    let w : writable a ≡ true = rw (r .extensions) at (writer-refuses-the-same s 28 bytes (v .1)) in
+    let w : writable a ≡ true = rw (r .extensions) at (read-is-writable s 28 bytes (v .1)) in
     let size : n ≡ 28 + length (arrayBytes a) = sym (r .size) ∙ end-length s 28 bytes (v .1) ∙ ap (λ (x : Array). 28 + length (arrayBytes x)) (r .extensions) in
     let fit : 28 + length (arrayBytes a) ≤ length b = omega arith in
     let long : length (thisBytes q h a) ≡ n = length-this q h a ∙ sym size in
