@@ -3,8 +3,12 @@
  * (ORPCTHIS, ORPCTHAT), and a table of exporters, objects, interfaces and ping sets.
  *
  * Buffers. Every buffer is the caller's: the library allocates nothing and keeps no pointer when a call returns. A buffer is
- * a pointer and its length, in this order; the pointer is not NULL, even where the length is 0, and the buffers of one call
- * do not overlap. A pointer to const is only read.
+ * a pointer and its length, in this order. A pointer to const is only read.
+ *
+ * What the caller answers for, in the words of docs/PROOF.md. A pointer and a length given together are a buffer of that length;
+ * the pointer is aligned for its type and not NULL, even where the length is 0. Two buffers of one call do not overlap where
+ * one of them is written. While a call runs, no other thread, and no other process that shares the memory, changes a buffer that
+ * is lent to it, or reads one that it writes. The stack suffices: a load takes the most, 147,024 bytes as measured.
  *
  * Tables. A table is an array of 8,192 words and a store of 8,192 bytes. Both are lent to every call, and a call that is lent
  * words and a store that are no sound table answers 1, save a reset and a load of a snapshot. Between calls the caller may copy, save and restore them. Two calls on
@@ -47,7 +51,7 @@ enum {
     RIMONAKH_NO_REFERENCES = 7, /* an entry with zero references */
     RIMONAKH_COUNT_OVERFLOW = 8, /* a count would pass 4,294,967,295 */
     RIMONAKH_NO_PLACE = 9, /* no free place of a kind that is needed, or no room in the store for a binding list */
-    RIMONAKH_TOO_MANY = 10, /* a list of more than 65,535 identifiers */
+    RIMONAKH_TOO_MANY = 10, /* a list of more than 65,535 identifiers, items or protocols */
     RIMONAKH_NO_SET = 11, /* no such live ping set */
     RIMONAKH_STALE = 12, /* a stale sequence number */
     RIMONAKH_SHORT = 13, /* the bytes end before a field does */
@@ -263,8 +267,9 @@ rimonakh_extension rimonakh_this_extension(const uint8_t *bytes, size_t bytes_le
 uint32_t rimonakh_this_write(uint16_t minor, uint32_t flags, uint64_t causality_low, uint64_t causality_high,
                              uint8_t *buffer, size_t buffer_len);
 
-/* Writes an ORPCTHIS with extensions at the front of buffer and keeps the rest. pointer is the header's pointer to the array, array
- * the array's; both are 0 where there are no extensions. Of each extension, at most 32, entries has four words: the two halves of its
+/* Writes an ORPCTHIS with extensions at the front of buffer and keeps the rest. pointer is the header's pointer to the array: where
+ * it is 0 there is no array, so that array is 0 and there are no extensions. array is the array's pointer to its extensions: 0 or
+ * not where there are none, and not 0 where there are some. Of each extension, at most 32, entries has four words: the two halves of its
  * id, its pointer, which is not 0 and has 32 bits, and the size of its data. contents has all data, end to end. 16; 14 where a reader
  * would refuse the array by 14, where the words are not four for each, where the sizes do not make the length of contents, or where a
  * number does not fit its field; 15. */
