@@ -10,6 +10,7 @@ use model::bytes as m;
 use model::contexts as c;
 use rimonakh::{Block, Context, Guid, Oid, Oxid, Part, Property, Reference};
 use std::fmt::Debug;
+use std::ops::Range;
 use std::panic::catch_unwind;
 
 #[derive(Clone, Copy, Debug)]
@@ -188,6 +189,24 @@ pub fn same<T: PartialEq + Debug>(
     }
 }
 
+/// Whether plain Rust answers what is demanded.
+pub fn plain_same<T: PartialEq + Debug>(
+    answer: Result<T, u32>,
+    demanded: Result<T, u32>,
+) -> Result<(), String> {
+    if answer == demanded {
+        return Ok(());
+    }
+    Err(format!(
+        "plain Rust answered {answer:?}, demanded {demanded:?}"
+    ))
+}
+
+/// The bytes of plain Rust's GUID.
+pub fn plain_guid(g: plain::Guid) -> [u8; 16] {
+    (g.low as u128 | (g.high as u128) << 64).to_le_bytes()
+}
+
 /// Whether both sides write the same into a buffer of a length near `n`, and keep the rest.
 pub fn same_written<T: PartialEq + Debug, E: Into<u32>>(
     what: &str,
@@ -233,7 +252,10 @@ fn check_list(s: &[u8], tally: &mut Tally) -> Result<(), String> {
             )?;
         }
     }
-    Ok(())
+    let plain = plain::bytes::bindings(s).map(|(a, b)| (a.collect(), b.collect()));
+    let bytes = |of: &[Range<usize>]| of.iter().map(|r| &s[r.clone()]).collect::<Vec<_>>();
+    let demanded = m::list(s).map(|l| (bytes(&l.strings), bytes(&l.security)));
+    plain_same(plain, demanded)
 }
 
 fn check_reference(s: &[u8], random: &mut Random, tally: &mut Tally) -> Result<(), String> {
@@ -281,9 +303,7 @@ fn check_reference(s: &[u8], random: &mut Random, tally: &mut Tally) -> Result<(
         )?;
     }
     let plain = plain::bytes::read_reference(s).map(|(_, tail)| tail);
-    if plain != demanded.clone().map(|(_, tail)| tail) {
-        return Err(format!("plain Rust answered {plain:?}"));
-    }
+    plain_same(plain, demanded.clone().map(|(_, tail)| tail))?;
     match demanded {
         Ok((fields, tail)) => {
             let content = m::reference_element(s, 0).unwrap_or_default();
@@ -329,10 +349,21 @@ fn check_context(s: &[u8], random: &mut Random, tally: &mut Tally) -> Result<(),
             tally,
         )?;
     }
+    let plain = plain::bytes::properties(s).map(|all| all.map(plain_placed).collect());
+    plain_same(plain, c::context(s).map(|(_, all)| all))?;
     match demanded {
         Ok(fields) => check_context_written(&fields, &s[48..], random, tally),
         Err(_) => Ok(()),
     }
+}
+
+fn plain_placed(p: plain::bytes::Property) -> c::Placed {
+    let property = c::Property {
+        clsid: plain_guid(p.clsid),
+        policy: plain_guid(p.policy),
+        flags: p.flags,
+    };
+    (property, p.data)
 }
 
 fn check_context_written(

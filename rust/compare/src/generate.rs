@@ -179,7 +179,7 @@ fn custom(random: &mut Random, bytes: &mut Vec<u8>) {
 pub fn clsid(random: &mut Random) -> Guid {
     let mut clsid = MARSHALER;
     match random.below(6) {
-        0 | 1 | 2 => {}
+        0..=2 => {}
         3 => clsid[random.below(16)] ^= 1 << random.below(8),
         _ => clsid = random.bytes(16).try_into().unwrap(),
     }

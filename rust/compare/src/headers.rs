@@ -1,6 +1,6 @@
 //! Call headers with their extensions, proper and damaged: both sides behind one trait, and random headers compared.
 
-use crate::bytes::{guid, same, same_written};
+use crate::bytes::{guid, plain_guid, plain_same, same, same_written};
 use crate::generate::damage;
 use crate::model_side::Model;
 use crate::random::Random;
@@ -344,6 +344,10 @@ pub fn check(kind: Kind, s: &[u8], random: &mut Random, tally: &mut Tally) -> Re
         let (answer, wanted) = (Library::extension(kind, s, k), Model::extension(kind, s, k));
         same("extension", answer, wanted, tally)?;
     }
+    let plain =
+        plain_extensions(kind, s).map(|all| (all.length, all.map(plain_extension).collect()));
+    let items = model_read(kind, s).map(|(_, found)| (found.length, found.items));
+    plain_same(plain, items)?;
     let mut header = OrpcThis {
         minor: random.below(10) as u16,
         flags: random.word() as u32,
@@ -358,6 +362,21 @@ pub fn check(kind: Kind, s: &[u8], random: &mut Random, tally: &mut Tally) -> Re
     let plain = kind.pointer() + 4;
     same_written("header written", plain, random, tally, write, demand)?;
     check_lent(kind, &header, random, tally)
+}
+
+fn plain_extensions(kind: Kind, s: &[u8]) -> Answer<plain::extensions::Extensions<'_>> {
+    match kind {
+        Kind::This => plain::extensions::this(s),
+        Kind::That => plain::extensions::that(s),
+    }
+}
+
+fn plain_extension(e: plain::extensions::Extension) -> Extension {
+    Extension {
+        pointer: e.pointer,
+        id: plain_guid(e.id),
+        data: e.data,
+    }
 }
 
 /// The header read is written by the crate's own types, as the bytes that it was read from but for the reserved field.

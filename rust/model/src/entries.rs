@@ -347,7 +347,7 @@ impl Entries {
         results: &mut [u8],
     ) -> Result<(), u32> {
         client_index(client)?;
-        if items.len() % 24 != 0 {
+        if !items.len().is_multiple_of(24) {
             return Err(13);
         }
         if items.len() / 24 > 65_535 {

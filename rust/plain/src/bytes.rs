@@ -1,5 +1,6 @@
 //! Object references, binding lists and contexts.
 
+use crate::words::zero_word;
 use crate::Guid;
 use std::ops::Range;
 
@@ -68,17 +69,18 @@ fn put_guid(s: &mut [u8], at: usize, g: Guid) {
 
 /// Whether the words are bindings, each with so many words before its text, and then one zero word.
 fn is_part(s: &[u8], head: usize) -> bool {
-    let n = s.len() / 2;
-    let mut at = 0;
-    while at < n {
-        if u16_at(s, 2 * at) == 0 {
-            return at + 1 == n;
+    let mut rest = s;
+    while let Some((first, _)) = rest.split_first_chunk::<2>() {
+        if *first == [0, 0] {
+            return rest.len() == 2;
         }
-        at += head;
-        while at < n && u16_at(s, 2 * at) != 0 {
-            at += 1;
-        }
-        at += 1;
+        let Some(text) = rest.get(2 * head..) else {
+            return false;
+        };
+        let Some(n) = zero_word(text) else {
+            return false;
+        };
+        rest = &text[2 * n + 2..];
     }
     false
 }
@@ -109,13 +111,30 @@ pub fn judge_list(s: &[u8]) -> Result<(), u32> {
     Ok(())
 }
 
-/// The words of the string binding that begins at a word.
-fn binding_words(s: &[u8], at: usize) -> usize {
-    let mut n = 1;
-    while u16_at(s, 4 + 2 * (at + n)) != 0 {
-        n += 1;
+/// Requested protocol numbers, which are looked up often: a few as they are, many as one bit each.
+enum Requested<'a> {
+    Few(&'a [u16]),
+    Many(Box<[u64; 1024]>),
+}
+
+impl<'a> Requested<'a> {
+    fn new(protocols: &'a [u16]) -> Requested<'a> {
+        if protocols.len() <= 64 {
+            return Requested::Few(protocols);
+        }
+        let mut bits = Box::new([0; 1024]);
+        for &p in protocols {
+            bits[p as usize / 64] |= 1 << (p % 64);
+        }
+        Requested::Many(bits)
     }
-    n + 1
+
+    fn has(&self, tower: u16) -> bool {
+        match self {
+            Requested::Few(list) => list.contains(&tower),
+            Requested::Many(bits) => bits[tower as usize / 64] >> (tower % 64) & 1 != 0,
+        }
+    }
 }
 
 /// Writes an accepted list with only the string bindings of the requested protocols; answers its length.
@@ -125,12 +144,14 @@ pub fn write_filtered(s: &[u8], protocols: &[u16], buffer: &mut [u8]) -> Result<
         buffer.get_mut(..4).ok_or(15u32)?.copy_from_slice(s);
         return Ok(4);
     }
+    let requested = Requested::new(protocols);
+    let part = &s[4..2 + 2 * split];
     let kept = |each: &mut dyn FnMut(Range<usize>)| {
         let mut at = 0;
-        while at + 1 < split {
-            let n = binding_words(s, at);
-            if protocols.contains(&u16_at(s, 4 + 2 * at)) {
-                each(4 + 2 * at..4 + 2 * (at + n));
+        while at < part.len() {
+            let n = 4 + 2 * zero_word(&part[at + 2..]).unwrap();
+            if requested.has(u16_at(part, at)) {
+                each(at..at + n);
             }
             at += n;
         }
@@ -148,16 +169,81 @@ pub fn write_filtered(s: &[u8], protocols: &[u16], buffer: &mut [u8]) -> Result<
     let mut to = 4;
     kept(&mut |place| {
         let n = place.len();
-        buffer[to..to + n].copy_from_slice(&s[place]);
+        buffer[to..to + n].copy_from_slice(&part[place]);
         to += n;
     });
     buffer[to..length].copy_from_slice(rest);
     Ok(length)
 }
 
+/// The bindings of a part, one after the other, from a list that was judged.
+pub struct Bindings<'a> {
+    rest: &'a [u8],
+    head: usize,
+}
+
+impl<'a> Iterator for Bindings<'a> {
+    type Item = &'a [u8];
+    fn next(&mut self) -> Option<&'a [u8]> {
+        if self.rest.len() <= 2 {
+            return None;
+        }
+        let n = 2 * self.head + 2 + 2 * zero_word(&self.rest[2 * self.head..])?;
+        let (binding, rest) = self.rest.split_at(n);
+        self.rest = rest;
+        Some(binding)
+    }
+}
+
+/// The string and the security bindings of a list, which is judged once.
+pub fn bindings(s: &[u8]) -> Result<(Bindings<'_>, Bindings<'_>), u32> {
+    judge_list(s)?;
+    let split = 4 + 2 * u16_at(s, 2) as usize;
+    Ok((
+        Bindings {
+            rest: &s[4..split],
+            head: 1,
+        },
+        Bindings {
+            rest: &s[split..],
+            head: 2,
+        },
+    ))
+}
+
+/// String binding k.
+pub fn string_binding(s: &[u8], k: usize) -> Result<&[u8], u32> {
+    bindings(s)?.0.nth(k).ok_or(24)
+}
+
 /// The length that the list at the front states, if it is no more than the bytes that are there.
 pub fn stated_length(s: &[u8]) -> usize {
     s.len().min(4 + 2 * u16_at(s, 0) as usize)
+}
+
+/// A property of a context, and where its data stands.
+pub struct Property {
+    pub clsid: Guid,
+    pub policy: Guid,
+    pub flags: u32,
+    pub data: Range<usize>,
+}
+
+/// The properties of a context, which is judged once.
+pub fn properties(s: &[u8]) -> Result<impl Iterator<Item = Property> + '_, u32> {
+    judge_context(s)?;
+    let mut at = 48;
+    Ok((0..u32_at(s, 40)).map(move |_| {
+        let from = at + 40;
+        let found = Property {
+            clsid: guid_at(s, at),
+            policy: guid_at(s, at + 16),
+            flags: u32_at(s, at + 32),
+            data: from..from + u32_at(s, at + 36) as usize,
+        };
+        at = found.data.end;
+        found
+    }))
 }
 
 /// Whether the bytes are a context.
@@ -203,7 +289,8 @@ pub fn judge_context(s: &[u8]) -> Result<(), u32> {
     Ok(())
 }
 
-fn fixed_size(flags: u32) -> Result<usize, u32> {
+/// The length of the fields before the list or object data of a form.
+pub(crate) fn fixed_size(flags: u32) -> Result<usize, u32> {
     match flags {
         1 => Ok(64),
         2 => Ok(80),
@@ -314,13 +401,8 @@ fn element(t: &[u8]) -> Result<Range<usize>, u32> {
     Ok(24..24 + size)
 }
 
-/// Reads a reference: its fields, and where its list or object data stands.
-pub fn read_reference(s: &[u8]) -> Result<(Reference, Range<usize>), u32> {
-    let parts = layout(s, DEPTH)?;
-    if parts.nil {
-        return Err(22);
-    }
-    let flags = parts.flags;
+/// The fields before the list or object data of a form.
+pub(crate) fn fixed_fields(s: &[u8], flags: u32) -> Reference {
     let mut r = Reference {
         flags,
         iid: guid_at(s, 8),
@@ -330,17 +412,28 @@ pub fn read_reference(s: &[u8]) -> Result<(Reference, Range<usize>), u32> {
         r.clsid = guid_at(s, 24);
         r.extension = u32_at(s, 40);
         r.size = u32_at(s, 44);
-        return Ok((r, parts.tail));
+        return r;
     }
     r.block_flags = u32_at(s, 24);
     r.public = u32_at(s, 28);
     r.oxid = u64_at(s, 32);
     r.oid = u64_at(s, 40);
     r.ipid = guid_at(s, 48);
-    match flags {
-        2 => r.clsid = guid_at(s, 64),
-        8 => r.element = guid_at(s, parts.content.start - 24),
-        _ => {}
+    if flags == 2 {
+        r.clsid = guid_at(s, 64);
+    }
+    r
+}
+
+/// Reads a reference: its fields, and where its list or object data stands.
+pub fn read_reference(s: &[u8]) -> Result<(Reference, Range<usize>), u32> {
+    let parts = layout(s, DEPTH)?;
+    if parts.nil {
+        return Err(22);
+    }
+    let mut r = fixed_fields(s, parts.flags);
+    if parts.flags == 8 {
+        r.element = guid_at(s, parts.content.start - 24);
     }
     Ok((r, parts.tail))
 }

@@ -1,6 +1,7 @@
 //! References that come in over several packets: standard, handler and custom.
 
-use crate::bytes::{guid_at, u16_at, u32_at, u64_at, Reference, SIGNATURE};
+use crate::bytes::{fixed_fields, fixed_size, u16_at, u32_at, Reference, SIGNATURE};
+use crate::words::zero_word;
 
 /// What stands before the list or object data of every form, and N and S of a list.
 const HEAD: usize = 84;
@@ -44,16 +45,6 @@ impl Default for Fragments {
     }
 }
 
-/// The size of the fields before the list or object data.
-fn fixed_size(flags: u32) -> Option<usize> {
-    match flags {
-        1 => Some(64),
-        2 => Some(80),
-        4 => Some(48),
-        _ => None,
-    }
-}
-
 impl Fragments {
     /// Flags and size of the fixed fields, once the header has come and is accepted.
     fn form(&self) -> Option<(u32, usize)> {
@@ -61,7 +52,9 @@ impl Fragments {
             return None;
         }
         let flags = u32_at(&self.head, 4);
-        Some((flags, fixed_size(flags)?))
+        // an extended reference is not read in fragments
+        let start = fixed_size(flags).ok().filter(|_| flags != 8)?;
+        Some((flags, start))
     }
 
     pub fn push(&mut self, waiting: &mut [u8], mut fragment: &[u8]) {
@@ -113,10 +106,25 @@ impl Fragments {
             self.word(split, u16::from_le_bytes([self.low, now[0]]));
             rest = &now[1..];
         }
-        for pair in rest.chunks_exact(2).take(count - self.words) {
-            self.word(split, u16::from_le_bytes([pair[0], pair[1]]));
+        let end = rest.len().min(2 * (count - self.words)) & !1;
+        let mut words = self.pass_text(split, count, &rest[..end]);
+        while let Some((pair, later)) = words.split_first_chunk::<2>() {
+            self.word(split, u16::from_le_bytes(*pair));
+            words = self.pass_text(split, count, later);
         }
         self.low = now[now.len() - 1];
+    }
+
+    /// Passes the words of a text up to a zero word, its part's end or the fragment's; answers the words after them.
+    fn pass_text<'a>(&mut self, split: usize, count: usize, words: &'a [u8]) -> &'a [u8] {
+        if self.walk != Walk::Text || self.words == split {
+            return words;
+        }
+        let end = if self.words < split { split } else { count };
+        let n = words.len().min(2 * (end - self.words));
+        let text = zero_word(&words[..n]).unwrap_or(n / 2);
+        self.words += text;
+        &words[2 * text..]
     }
 
     fn word(&mut self, split: usize, word: u16) {
@@ -169,28 +177,9 @@ impl Fragments {
         if flags != 4 {
             self.judge_list(start)?;
         }
-        let s = &self.head;
-        let mut r = Reference {
-            flags,
-            iid: guid_at(s, 8),
-            ..Reference::default()
-        };
-        if flags == 4 {
-            r.clsid = guid_at(s, 24);
-            r.extension = u32_at(s, 40);
-            r.size = u32_at(s, 44);
-        } else {
-            r.block_flags = u32_at(s, 24);
-            r.public = u32_at(s, 28);
-            r.oxid = u64_at(s, 32);
-            r.oid = u64_at(s, 40);
-            r.ipid = guid_at(s, 48);
-            if flags == 2 {
-                r.clsid = guid_at(s, 64);
-            }
-            if r.names_nil() {
-                return Err(22);
-            }
+        let r = fixed_fields(&self.head, flags);
+        if flags != 4 && r.names_nil() {
+            return Err(22);
         }
         if self.over || last.len() < self.kept {
             return Err(15);

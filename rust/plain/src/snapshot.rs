@@ -1,10 +1,11 @@
 //! The snapshot of a table: its live entries as bytes, each kind rising by identifier.
 
 use crate::bytes::judge_list;
+use crate::judge::judged;
 use crate::table::{
-    judged, list_of, members, put_members, sound, BYTES, CLOCK, COUNT_COLUMNS, EXPORTER, EXPORTERS,
-    HEARD, ID, IID_HIGH, IID_LOW, INTERFACES, IPID_HIGH, IPID_LOW, NEXT_SET, NO_PING, OBJECT,
-    OBJECTS, PINGED, PUBLIC, SEQUENCE, SETS, UNKNOWN_HIGH, UNKNOWN_LOW, WORDS,
+    list_of, members, put_members, BYTES, CLOCK, COUNT_COLUMNS, EXPORTER, EXPORTERS, HEARD, ID,
+    IID_HIGH, IID_LOW, INTERFACES, IPID_HIGH, IPID_LOW, NEXT_SET, NO_PING, OBJECT, OBJECTS, PINGED,
+    PUBLIC, SEQUENCE, SETS, UNKNOWN_HIGH, UNKNOWN_LOW, WORDS,
 };
 
 /// The length of the longest snapshot.
@@ -41,11 +42,11 @@ fn length(words: &[u64], store: &[u8]) -> usize {
     26 + lists + 25 * OBJECTS.live(words) + 76 * INTERFACES.live(words) + sets
 }
 
-/// The rows of a kind, rising by a key.
-fn rising<K: Ord>(n: usize, key: impl Fn(usize) -> K) -> Vec<usize> {
-    let mut rows: Vec<usize> = (0..n).collect();
-    rows.sort_unstable_by_key(|&row| key(row));
-    rows
+/// The rows of a kind, rising by a key, which is sorted with its row.
+fn rising<K: Ord + Copy>(n: usize, key: impl Fn(usize) -> K) -> impl Iterator<Item = usize> {
+    let mut rows: Vec<(K, u16)> = (0..n).map(|row| (key(row), row as u16)).collect();
+    rows.sort_unstable();
+    rows.into_iter().map(|(_, row)| row as usize)
 }
 
 pub fn write(words: &[u64], store: &[u8], buffer: &mut [u8]) -> Result<usize, u32> {
@@ -67,7 +68,7 @@ pub fn write(words: &[u64], store: &[u8], buffer: &mut [u8]) -> Result<usize, u3
         out.count(list.len());
         out.put(list);
     }
-    let objects = rising(OBJECTS.live(words), |o| words[OBJECTS.at(ID, o)]);
+    let objects: Vec<usize> = rising(OBJECTS.live(words), |o| words[OBJECTS.at(ID, o)]).collect();
     out.count(objects.len());
     for &o in &objects {
         out.number(words[OBJECTS.at(ID, o)]);
@@ -223,7 +224,7 @@ pub fn load(words: &mut [u64], store: &mut [u8], snapshot: &[u8]) -> Result<(), 
     }
     let (mut new_words, mut new_store) = ([0; WORDS], [0; BYTES]);
     let read = Rest(snapshot).table(&mut new_words, &mut new_store);
-    if read.is_none() || !sound(&new_words, &new_store) {
+    if read.is_none() || judged(&new_words, &new_store).is_err() {
         return Err(23);
     }
     words.copy_from_slice(&new_words);

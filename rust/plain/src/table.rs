@@ -1,13 +1,14 @@
 //! The table's calls. The live rows of a kind are its first ones; a removed row is closed up.
 
 use crate::bytes::{judge_list, read_reference, stated_length, write_filtered};
+use crate::judge::{judged, Index};
 use crate::Guid;
 use std::ops::Range;
 
 pub const WORDS: usize = 8192;
 pub const BYTES: usize = 8192;
-const LONGEST_LIST: usize = 2048;
-const TIMEOUT: u64 = 360;
+pub const LONGEST_LIST: usize = 2048;
+pub(crate) const TIMEOUT: u64 = 360;
 const CLIENTS: usize = 8;
 const ITEM: usize = 24;
 
@@ -131,23 +132,6 @@ pub enum Stop {
     Reference(Range<usize>),
 }
 
-// ---- soundness
-
-fn sorted<T: Ord>(ids: impl Iterator<Item = T>) -> Vec<T> {
-    let mut ids: Vec<T> = ids.collect();
-    ids.sort_unstable();
-    ids
-}
-
-/// Whether sorted identifiers are distinct, and none of them is the nil one.
-fn proper<T: Ord + Default>(sorted: &[T]) -> bool {
-    sorted.first() != Some(&T::default()) && sorted.windows(2).all(|w| w[0] != w[1])
-}
-
-fn all_in(ids: &[u64], sorted: &[u64]) -> bool {
-    ids.iter().all(|id| sorted.binary_search(id).is_ok())
-}
-
 /// Where the list of a row begins: the lists stand end to end, each as long as its own N says.
 fn list_start(store: &[u8], row: usize) -> usize {
     (0..row).fold(0, |at, _| at + stated_length(&store[at..]))
@@ -156,19 +140,6 @@ fn list_start(store: &[u8], row: usize) -> usize {
 pub(crate) fn list_of(store: &[u8], row: usize) -> &[u8] {
     let rest = &store[list_start(store, row)..];
     &rest[..stated_length(rest)]
-}
-
-/// Whether the first n lists keep the list rules and their bound.
-fn lists_kept(store: &[u8], n: usize) -> bool {
-    let mut rest = store;
-    (0..n).all(|_| {
-        if rest.len() < 4 {
-            return false;
-        }
-        let (list, behind) = rest.split_at(stated_length(rest));
-        rest = behind;
-        list.len() <= LONGEST_LIST && judge_list(list).is_ok()
-    })
 }
 
 pub(crate) fn members(words: &[u64], set: usize) -> u128 {
@@ -182,62 +153,12 @@ pub(crate) fn put_members(words: &mut [u64], set: usize, bits: u128) {
     words[SETS.at(MEMBERS_HIGH, set)] = (bits >> 64) as u64;
 }
 
-pub fn sound(words: &[u64], store: &[u8]) -> bool {
-    if words.len() != WORDS || store.len() != BYTES {
-        return false;
-    }
-    let clock = words[CLOCK];
-    let next = words[NEXT_SET];
-    let ids = |kind: &Kind| sorted(kind.column(words, ID).iter().copied());
-    let guids = |kind: &Kind, low, high| {
-        let halves = kind.column(words, low).iter().zip(kind.column(words, high));
-        halves
-            .map(|(&low, &high)| (low, high))
-            .collect::<Vec<(u64, u64)>>()
-    };
-    let (oxids, oids, numbers) = (ids(&EXPORTERS), ids(&OBJECTS), ids(&SETS));
-    let unknowns = guids(&EXPORTERS, UNKNOWN_LOW, UNKNOWN_HIGH);
-    let ipids = guids(&INTERFACES, IPID_LOW, IPID_HIGH);
-    let owners = INTERFACES.column(words, OBJECT);
-    let marks = OBJECTS.column(words, NO_PING);
-    let heard = OBJECTS.column(words, HEARD);
-    let free = u128::MAX.checked_shl(oids.len() as u32).unwrap_or(0);
-    let late = |t: u64| clock - t >= TIMEOUT;
-    next != 0
-        && proper(&oxids)
-        && proper(&oids)
-        && proper(&numbers)
-        && numbers.last().is_none_or(|&n| n < next)
-        && proper(&sorted(unknowns.into_iter().chain(ipids)))
-        && all_in(owners, &oids)
-        && all_in(OBJECTS.column(words, EXPORTER), &oxids)
-        && all_in(&oids, &sorted(owners.iter().copied()))
-        && (0..owners.len()).all(|i| is_held(words, i))
-        && (0..oids.len()).all(|o| heard[o] <= clock && (marks[o] != 0 || !late(heard[o])))
-        && SETS
-            .column(words, PINGED)
-            .iter()
-            .all(|&t| t <= clock && !late(t))
-        && (0..numbers.len()).all(|s| members(words, s) & free == 0)
-        && lists_kept(store, oxids.len())
-}
-
 /// Whether a reference to the interface is held; the public count is looked at first.
-fn is_held(words: &[u64], row: usize) -> bool {
+pub(crate) fn is_held(words: &[u64], row: usize) -> bool {
     COUNT_COLUMNS
         .into_iter()
         .any(|column| words[INTERFACES.at(column, row)] as u32 != 0)
 }
-
-pub(crate) fn judged(words: &[u64], store: &[u8]) -> Result<(), u32> {
-    if sound(words, store) {
-        Ok(())
-    } else {
-        Err(1)
-    }
-}
-
-// ---- the calls
 
 pub fn reset(words: &mut [u64], store: &[u8], time: u64) -> Result<(), u32> {
     if words.len() != WORDS || store.len() != BYTES {
@@ -404,19 +325,20 @@ pub fn add(
     public: u32,
     private: u32,
 ) -> Result<(), u32> {
-    judged(words, store)?;
+    let index = judged(words, store)?;
     let column = private_column(client)?;
-    add_counts(words, column, ipid, public, private)
+    add_counts(words, &index, column, ipid, public, private)
 }
 
 fn add_counts(
     words: &mut [u64],
+    index: &Index,
     column: usize,
     ipid: Guid,
     public: u32,
     private: u32,
 ) -> Result<(), u32> {
-    let row = find_ipid(words, ipid).ok_or(6u32)?;
+    let row = index.ipid(words, ipid).ok_or(6u32)?;
     let (p, q) = (INTERFACES.at(PUBLIC, row), INTERFACES.at(column, row));
     let more_public = (words[p] as u32).checked_add(public).ok_or(8u32)?;
     let more_private = (words[q] as u32).checked_add(private).ok_or(8u32)?;
@@ -433,19 +355,20 @@ pub fn release(
     public: u32,
     private: u32,
 ) -> Result<Released, u32> {
-    judged(words, store)?;
+    let index = judged(words, store)?;
     let column = private_column(client)?;
-    take_counts(words, column, ipid, public, private)
+    take_counts(words, &index, column, ipid, public, private)
 }
 
 fn take_counts(
     words: &mut [u64],
+    index: &Index,
     column: usize,
     ipid: Guid,
     public: u32,
     private: u32,
 ) -> Result<Released, u32> {
-    let row = find_ipid(words, ipid).ok_or(6u32)?;
+    let row = index.ipid(words, ipid).ok_or(6u32)?;
     let (p, q) = (INTERFACES.at(PUBLIC, row), INTERFACES.at(column, row));
     let public = public.min(words[p] as u32);
     let private = private.min(words[q] as u32);
@@ -470,7 +393,7 @@ pub fn count_list(
     items: &[u8],
     results: &mut [u8],
 ) -> Result<(), u32> {
-    judged(words, store)?;
+    let mut index = judged(words, store)?;
     let column = private_column(client)?;
     if !items.len().is_multiple_of(ITEM) {
         return Err(13);
@@ -487,9 +410,13 @@ pub fn count_list(
         let (low, high, public, private) = (half(0), half(8), count(16), count(20));
         let ipid = Guid { low, high };
         let done = if back {
-            take_counts(words, column, ipid, public, private).map(|_| ())
+            take_counts(words, &index, column, ipid, public, private).map(|r| {
+                if r.interface_went {
+                    index.again(words);
+                }
+            })
         } else {
-            add_counts(words, column, ipid, public, private)
+            add_counts(words, &index, column, ipid, public, private)
         };
         *result = done.err().unwrap_or(0) as u8;
     }
@@ -502,7 +429,9 @@ fn remove_interface(words: &mut [u64], row: usize) -> bool {
     INTERFACES.remove(words, row);
     let went = !INTERFACES.column(words, OBJECT).contains(&object);
     if went {
-        remove_objects(words, |w, o| w[OBJECTS.at(ID, o)] != object);
+        if let Some(row) = OBJECTS.find(words, object) {
+            remove_object(words, row);
+        }
     }
     went
 }
@@ -522,11 +451,10 @@ pub fn drop_client(words: &mut [u64], store: &[u8], client: u32) -> Result<(), u
 fn ping(words: &mut [u64], set: usize) {
     let clock = words[CLOCK];
     words[SETS.at(PINGED, set)] = clock;
-    let bits = members(words, set);
-    for row in 0..OBJECTS.live(words) {
-        if bits >> row & 1 != 0 {
-            words[OBJECTS.at(HEARD, row)] = clock;
-        }
+    let mut bits = members(words, set);
+    while bits != 0 {
+        words[OBJECTS.at(HEARD, bits.trailing_zeros() as usize)] = clock;
+        bits &= bits - 1;
     }
 }
 
@@ -545,7 +473,7 @@ pub fn complex_ping(
     adds: &[u64],
     deletes: &[u64],
 ) -> Result<u64, u32> {
-    judged(words, store)?;
+    let index = judged(words, store)?;
     if adds.len() > 65_535 || deletes.len() > 65_535 {
         return Err(10);
     }
@@ -561,7 +489,7 @@ pub fn complex_ping(
     }
     let mut added: u128 = 0;
     for &id in adds {
-        added |= 1 << OBJECTS.find(words, id).ok_or(5u32)?;
+        added |= 1 << index.oid(words, id).ok_or(5u32)?;
     }
     let row = match old {
         Some(row) => row,
@@ -580,7 +508,7 @@ pub fn complex_ping(
     };
     let mut bits = members(words, row) | added;
     for &id in deletes {
-        if let Some(o) = OBJECTS.find(words, id) {
+        if let Some(o) = index.oid(words, id) {
             bits &= !(1 << o);
         }
     }
