@@ -1,0 +1,3 @@
+pub mod Walking
+pub mod PartWalk
+pub mod PropertyWalk
