@@ -1,3 +1,4 @@
 pub mod Walking
 pub mod PartWalk
 pub mod PropertyWalk
+pub mod ExtentWalk

@@ -1,7 +1,6 @@
 -- A walk over a part of a list.
-use Prim.Native.Nat.{ℕ, suc, zero, _+_, _*_, _-_, _/_, _<_, _≤_}
+use Prim.Native.Nat.{ℕ, suc, zero, _+_, _*_, _-_, _/_, _≤_}
 use mathlib.Core.Path.{_≡_, refl, sym, ap, _∙_}
-use mathlib.Core.Bool.{true, false}
 use mathlib.Core.List.{List, [], _∷_}
 use mathlib.Core.Logic.{⊎-elim}
 use native.Mathlib.Omega.{arith}
@@ -11,7 +10,7 @@ use lib.ListN.{length, length-append}
 use Rattle.kinds.proofs.Refusing.{true-false, by-test}
 use Rattle.lists.proofs.Tests.{true-or-false}
 use Rattle.fields.specs.Fields.{field}
-use Rattle.bindings.specs.Bindings.{words, firstBinding, bindingsOf, partStart, partSize, listLength, listAnswer, refusal, place, bindingAt, bindingFrom}
+use Rattle.bindings.specs.Bindings.{words, firstBinding, bindingsOf, partStart, partSize, listLength, refusal, place, bindingAt, bindingFrom}
 use Rattle.bindings.specs.declared.Part.{Part}
 use Rattle.bindings.specs.declared.Part.the-variants.{Strings, Security}
 use Rattle.bindings.specs.declared.Place.{Place}

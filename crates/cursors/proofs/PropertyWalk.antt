@@ -1,9 +1,9 @@
 -- A walk over the properties of a context.
-use Prim.Native.Nat.{ℕ, suc, zero, _+_, _-_, _<_, _≤_}
+use Prim.Native.Nat.{ℕ, suc, _+_, _-_, _<_, _≤_}
 use mathlib.Core.Path.{_≡_, refl, sym, ap, _∙_}
 use mathlib.Core.Bool.{true, false, cond, not}
 use mathlib.Core.Logic.{⊎-elim}
-use mathlib.Core.List.{List, [], _∷_}
+use mathlib.Core.List.{List}
 use native.Mathlib.Omega.{arith}
 use borrow.Author.Tests.{leb-true, le-leb, not-false, eq-eqb, ne-eqb, eqb-true, eqb-false}
 use lib.Dec.{eqb, leb}
@@ -15,7 +15,7 @@ use Rattle.lists.proofs.Tests.{true-or-false}
 use Rattle.fields.specs.Fields.{field, guidAt}
 use Rattle.fields.proofs.Fields.{field-drop}
 use Rattle.bindings.specs.declared.Place.{Place}
-use Rattle.contexts.specs.Contexts.{propertyLength, propertyAt, noProperty, propertiesAnswer, contextAnswer, contentPlace, propertyPlace, readProperty}
+use Rattle.contexts.specs.Contexts.{propertyLength, propertyAt, noProperty, propertiesAnswer, contentPlace, propertyPlace, readProperty}
 use Rattle.contexts.specs.declared.ReadProperty.{ReadProperty}
 use Rattle.contexts.proofs.Properties.{Accepted, accepted, properties-parts, place-none, place-here, place-later, context-accepted}
 use Rattle.cursors.specs.Cursors.{contextCursor, noPropertyStep, propertyStepAnswer, propertyMet, propertyStep, propertyPlaceOf, propertyReadOf, PropertiesWalked}

@@ -4,16 +4,18 @@ use mathlib.Core.Path.{_≡_}
 use mathlib.Core.Bool.{cond}
 use mathlib.Core.List.{List, [], _∷_}
 use lib.Dec.{eqb}
-use lib.ListN.{length, drop}
 use Rattle.kinds.specs.Refusals.{_gives_, order}
-use Rattle.fields.specs.Fields.{field, guidAt}
+use Rattle.fields.specs.Fields.{field, guidAt, rounded}
 use Rattle.bindings.specs.Bindings.{partStart, partSize, listAnswer, bindingAt, bindingFrom}
 use Rattle.bindings.specs.declared.Part.{Part}
 use Rattle.bindings.specs.declared.Place.{Place}
 use Rattle.contexts.specs.Contexts.{noProperty, contextAnswer, propertyPlace, readProperty}
 use Rattle.contexts.specs.declared.ReadProperty.{ReadProperty}
-use Rattle.extensions.specs.Extensions.{lacks}
+use Rattle.extensions.specs.Extensions.{lacks, sizeAt, nextAt, countAt, extentsStart, extensionsAnswer, noExtension, extensionAt}
+use Rattle.headers.specs.Headers.{thisAnswer, thisExtension}
 use Rattle.cursors.specs.declared.Cursor.{Cursor}
+use Rattle.cursors.specs.declared.extents.ExtensionCursor.{ExtensionCursor}
+use Rattle.cursors.specs.declared.extents.ExtensionStep.{ExtensionStep}
 use Rattle.cursors.specs.declared.parts.Step.{Step}
 use Rattle.cursors.specs.declared.properties.PropertyStep.{PropertyStep}
 
@@ -95,3 +97,57 @@ PropertiesWalked =
     (s : List ℕ) (k : ℕ)
     → contextAnswer s ≡ 0
     → (propertyPlaceOf (walkedProperty s k) ≡ propertyPlace s k) × (propertyReadOf (walkedProperty s k) ≡ readProperty s k)
+
+-- ---- the extensions of a call header (000, sections 2.2.13.1 and 2.2.13.2)
+
+abbrev pub noExtensionCursor : ℕ → ExtensionCursor
+noExtensionCursor n = record { answer = n; pointer = 0; at = 0; left = 0 }
+
+-- the first pointer number, the first extension, and how many there are: none under a null pointer; their refusals
+unfoldable pub extensionsCursor : List ℕ → ℕ → ExtensionCursor
+extensionsCursor s at =
+    cond (eqb (extensionsAnswer s at) 0)
+    (cond (eqb (field s at 4) 0) (noExtensionCursor 0) (record { answer = 0; pointer = at + 20; at = extentsStart s at; left = countAt s at }))
+    (noExtensionCursor (extensionsAnswer s at))
+
+-- of an ORPCTHIS: the header's refusals first
+unfoldable pub thisCursor : List ℕ → ExtensionCursor
+thisCursor s = cond (eqb (thisAnswer s) 0) (extensionsCursor s 28) (noExtensionCursor (thisAnswer s))
+
+-- of the extension that begins at the byte at and its pointer number at p, where n are left
+unfoldable pub extensionStepAnswer : List ℕ → ℕ → ℕ → ℕ → ℕ
+extensionStepAnswer s p at n =
+    order
+    (eqb n 0 gives 24
+    ∷ lacks s p 4 gives 13
+    ∷ lacks s at 24 gives 13
+    ∷ lacks s (at + 24) (rounded (sizeAt s at)) gives 13
+    ∷ [])
+
+abbrev pub extensionMet : List ℕ → ℕ → ℕ → ℕ → ExtensionStep
+extensionMet s p at n =
+    record {
+      extension = record { answer = 0; pointer = field s p 4; id = guidAt s (at + 4); from = at + 24; to = at + 24 + sizeAt s at };
+      pointer = p + 4;
+      at = nextAt s at;
+      left = n - 1;
+    }
+
+unfoldable pub extensionStep : List ℕ → ℕ → ℕ → ℕ → ExtensionStep
+extensionStep s p at n =
+    cond (eqb (extensionStepAnswer s p at n) 0)
+    (extensionMet s p at n)
+    (record { extension = noExtension (extensionStepAnswer s p at n); pointer = 0; at = 0; left = 0 })
+
+abbrev pub walkedExtension : List ℕ → ExtensionCursor → ℕ → ExtensionStep
+walkedExtension s =
+    stepNumber (λ c. extensionStep s (c .pointer) (c .at) (c .left)) (λ x. x .extension .answer)
+    (λ x. record { answer = 0; pointer = x .pointer; at = x .at; left = x .left })
+
+-- a walk over the extensions of an accepted header meets extensions 0, 1, 2, … exactly, and then 24
+abbrev pub ExtensionsWalked : Type 0
+ExtensionsWalked =
+    (s : List ℕ) (at k : ℕ) → extensionsAnswer s at ≡ 0 → walkedExtension s (extensionsCursor s at) k .extension ≡ extensionAt s at k
+
+abbrev pub ThisWalked : Type 0
+ThisWalked = (s : List ℕ) (k : ℕ) → thisAnswer s ≡ 0 → walkedExtension s (thisCursor s) k .extension ≡ thisExtension s k

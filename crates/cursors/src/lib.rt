@@ -3,6 +3,7 @@
 ghost use mathlib.Core.Path.{_≡_};
 ghost use Rattle.cursors.specs.Cursors.{noCursor};
 
+pub mod extents;
 pub mod parts;
 pub mod properties;
 

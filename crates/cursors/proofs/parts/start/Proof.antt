@@ -4,7 +4,7 @@ use native.Mathlib.Omega.{arith}
 use borrow.Author.Needs.{needs}
 use borrow.Author.Tests.{eq-eqb, ne-eqb}
 use Rattle.bindings.specs.Bindings.{listLength, listAnswer}
-use Rattle.bindings.proofs.ListAnswers.{Accepted, accepted}
+use Rattle.bindings.proofs.ListAnswers.{accepted}
 use Rattle.cursors.specs.Cursors.{partCursor}
 use Rattle.cursors.proofs.parts.start.Statement.{statement}
 use Rattle.cursors.proofs.parts.start.Tie as tie

@@ -1,5 +1,5 @@
 -- `properties::next`: a property that is there has its fields.
-use mathlib.Core.Path.{_≡_, sym, _∙_}
+use mathlib.Core.Path.{sym, _∙_}
 use native.Mathlib.Omega.{arith}
 use borrow.Author.Needs.{needs}
 use Rattle.cursors.proofs.PropertyWalk.{There, there, property-refused, property-done}

@@ -1,5 +1,5 @@
 -- `properties::start`: the context's refusals, then the byte behind its head.
-use mathlib.Core.Path.{_≡_, sym, _∙_}
+use mathlib.Core.Path.{sym, _∙_}
 use borrow.Author.Needs.{needs}
 use borrow.Author.Tests.{eq-eqb, ne-eqb}
 use Rattle.cursors.specs.Cursors.{contextCursor}

@@ -1,0 +1,69 @@
+-- `extents::step_answer`: the rows of `extensionStepAnswer`.
+use Prim.Native.Nat.{_+_, _≤_}
+use mathlib.Core.Path.{_≡_, sym, ap, _∙_}
+use mathlib.Core.Bool.{true}
+use native.Mathlib.Omega.{arith}
+use borrow.Author.Needs.{needs}
+use borrow.Author.Tests.{leb-true, not-true, not-false}
+use lib.Dec.{leb}
+use lib.ListN.{length}
+use Rattle.fields.specs.Fields.{rounded}
+use Rattle.extensions.specs.Extensions.{sizeAt}
+use Rattle.cursors.proofs.ExtentWalk.{no-extent, pointer-short, extent-short, extent-cut, extent-whole}
+use Rattle.cursors.proofs.extents.step_answer.Statement.{statement}
+use Rattle.cursors.proofs.extents.step_answer.Tie as tie
+
+returns-2 : tie.Need-returns-2
+returns-2 c = sym (pointer-short _ _ _ _ (c .before .before .if1 .left) (sym (c .before .inside .ensures) ∙ not-true _ (c .if2 .taken)))
+
+pointed : (c : tie.Else2) → leb (c .before .before .before .before .args .pointer + 4) (length (c .before .before .before .before .args .s .now)) ≡ true
+pointed c = sym (c .before .inside .ensures) ∙ not-false _ (c .if2 .left)
+
+returns-3 : tie.Need-returns-3
+returns-3 c =
+    let e = c .before .before in
+    sym (extent-short _ _ _ _ (e .before .before .if1 .left) (pointed e) (sym (c .before .inside2 .ensures) ∙ not-true _ (c .if3 .taken)))
+
+fixed : (c : tie.Else3) → leb (c .before .before .before .before .before .before .args .at + 24) (length (c .before .before .before .before .before .before .args .s .now)) ≡ true
+fixed c = sym (c .before .inside2 .ensures) ∙ not-false _ (c .if3 .left)
+
+room : (c : tie.Else3) → c .before .before .before .before .before .before .args .at + 24 ≤ length (c .before .before .before .before .before .before .args .s .now)
+room c = leb-true _ _ (fixed c)
+
+add-inside : tie.Need-add-inside
+add-inside c = omega (arith, room c)
+
+add-read-u32 : tie.Need-add-read-u32
+add-read-u32 c = omega (arith, room c)
+
+size : (c : tie.After-rounded) → c .rounded .result ≡ rounded (sizeAt (c .before .before .before .before .before .before .before .before .args .s .now) (c .before .before .before .before .before .before .before .before .args .at))
+size c = c .rounded .ensures ∙ ap rounded (c .before .read-u32 .ensures)
+
+returns-4 : tie.Need-returns-4
+returns-4 c =
+    let r = c .before .before in
+    let e = r .before .before in
+    sym (extent-cut _ _ _ _ (e .before .before .before .before .if1 .left) (pointed (e .before .before)) (fixed e) _ (size r) (sym (c .before .inside3 .ensures) ∙ not-true _ (c .if4 .taken)))
+
+returns-5 : tie.Need-returns-5
+returns-5 c =
+    let r = c .before .before in
+    let e = r .before .before in
+    sym (extent-whole _ _ _ _ (e .before .before .before .before .if1 .left) (pointed (e .before .before)) (fixed e) _ (size r) (sym (c .before .inside3 .ensures) ∙ not-false _ (c .if4 .left)))
+
+pub step-answer-spec : {M : Type 1} → statement M
+step-answer-spec =
+    tie.close
+    (tie.spec
+    (λ c. sym (no-extent _ _ _ _ (c .if1 .taken)))
+    (λ c κs. search needs)
+    returns-2
+    (λ c κs. search needs)
+    returns-3
+    add-inside
+    add-read-u32
+    (λ c κs. search needs)
+    (λ c κs. search needs)
+    (λ c κs. search needs)
+    returns-4
+    returns-5)
