@@ -34,6 +34,21 @@ AT(rimonakh_read_that, length, 24);
 SIZE(rimonakh_place, 24);
 AT(rimonakh_place, from, 8);
 AT(rimonakh_place, to, 16);
+SIZE(rimonakh_cursor, 24);
+AT(rimonakh_cursor, at, 8);
+AT(rimonakh_cursor, left, 16);
+SIZE(rimonakh_step, 32);
+AT(rimonakh_step, from, 8);
+AT(rimonakh_step, to, 16);
+AT(rimonakh_step, left, 24);
+SIZE(rimonakh_extension_cursor, 32);
+AT(rimonakh_extension_cursor, pointer, 8);
+AT(rimonakh_extension_cursor, at, 16);
+AT(rimonakh_extension_cursor, left, 24);
+SIZE(rimonakh_extension_step, 64);
+AT(rimonakh_extension_step, pointer, 40);
+AT(rimonakh_extension_step, at, 48);
+AT(rimonakh_extension_step, left, 56);
 SIZE(rimonakh_block, 40);
 AT(rimonakh_block, public_refs, 4);
 AT(rimonakh_block, oxid, 8);
@@ -60,6 +75,11 @@ AT(rimonakh_property, policy, 16);
 AT(rimonakh_property, flags, 32);
 SIZE(rimonakh_read_property, 48);
 AT(rimonakh_read_property, property, 8);
+SIZE(rimonakh_property_step, 72);
+AT(rimonakh_property_step, property, 8);
+AT(rimonakh_property_step, from, 48);
+AT(rimonakh_property_step, to, 56);
+AT(rimonakh_property_step, left, 64);
 SIZE(rimonakh_written, 16);
 AT(rimonakh_written, length, 8);
 SIZE(rimonakh_counts, 40);
@@ -167,6 +187,16 @@ static void expect_extension(int line, rimonakh_extension x, uint64_t number, si
     expect(line, x.to, to);
 }
 
+static void walk_extensions(const uint8_t *bytes, size_t n, rimonakh_extension_cursor c) {
+    IS(c.answer, 0);
+    size_t at = c.at;
+    rimonakh_extension_step x = rimonakh_next_extension(bytes, n, c.pointer, c.at, c.left);
+    expect_extension(__LINE__, x.extension, 6, at + 24, at + 27);
+    x = rimonakh_next_extension(bytes, n, x.pointer, x.at, x.left);
+    expect_extension(__LINE__, x.extension, 7, at + 56, at + 64);
+    IS(rimonakh_next_extension(bytes, n, x.pointer, x.at, x.left).extension.answer, RIMONAKH_NO_BINDING);
+}
+
 /* two extensions, with 3 and 8 bytes of data */
 static void headers(void) {
     static const uint64_t entries[] = {60, 61, 6, 3, 70, 71, 7, 8};
@@ -188,9 +218,11 @@ static void headers(void) {
     expect_extension(__LINE__, rimonakh_this_extension(buffer, sizeof buffer, 0), 6, 80, 83);
     expect_extension(__LINE__, rimonakh_this_extension(buffer, sizeof buffer, 1), 7, 112, 120);
     IS(rimonakh_this_extension(buffer, sizeof buffer, 2).answer, RIMONAKH_NO_BINDING);
+    walk_extensions(buffer, sizeof buffer, rimonakh_this_extensions(buffer, sizeof buffer));
     w = rimonakh_that_write_extensions(9, 4, 5, entries, 8, contents, 11, buffer, sizeof buffer);
     IS(w.answer, 0);
     IS(w.length, 96);
+    walk_extensions(buffer, sizeof buffer, rimonakh_that_extensions(buffer, sizeof buffer));
     rimonakh_read_that reply = rimonakh_that_read(buffer, sizeof buffer);
     IS(reply.answer, 0);
     IS(reply.header.flags, 9);
@@ -287,6 +319,35 @@ static void contexts(void) {
     IS(place.from, n - 3);
     IS(place.to, n);
     IS(rimonakh_reference_property(buffer, n, 2).answer, RIMONAKH_NO_BINDING);
+}
+
+/* the bindings of the list, the properties of a context and the extensions of both headers, each in one pass */
+static void passes(void) {
+    uint8_t buffer[256];
+    rimonakh_cursor c = rimonakh_list_strings(LIST);
+    IS(c.answer, 0);
+    rimonakh_step b = rimonakh_list_next_string(LIST, c.at, c.left);
+    IS(b.answer, 0);
+    IS(b.from, 4);
+    IS(b.to, 8);
+    IS(rimonakh_list_next_string(LIST, b.to, b.left).answer, RIMONAKH_NO_BINDING);
+    IS(rimonakh_list_next_string(LIST, 4, sizeof list).answer, RIMONAKH_SHORT);
+    c = rimonakh_list_securities(LIST);
+    b = rimonakh_list_next_security(LIST, c.at, c.left);
+    IS(b.from, 10);
+    IS(b.to, 16);
+    IS(rimonakh_list_next_security(LIST, b.to, b.left).answer, RIMONAKH_NO_BINDING);
+    size_t n = write_context(buffer, sizeof buffer);
+    c = rimonakh_context_properties(buffer, n);
+    rimonakh_property_step p = rimonakh_context_next_property(buffer, n, c.at, c.left);
+    p = rimonakh_context_next_property(buffer, n, p.to, p.left);
+    IS(p.answer, 0);
+    IS(p.property.clsid.low, 0x85);
+    IS(p.property.policy.high, 0x88);
+    IS(p.property.flags, 4);
+    IS(p.from, n - 3);
+    IS(p.to, n);
+    IS(rimonakh_context_next_property(buffer, n, p.to, p.left).answer, RIMONAKH_NO_BINDING);
 }
 
 static void fragments(void) {
@@ -399,6 +460,7 @@ int main(int argc, char **argv) {
         headers();
         bytes();
         contexts();
+        passes();
         fragments();
         calls();
     }

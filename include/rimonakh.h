@@ -130,6 +130,37 @@ typedef struct {
     size_t to;
 } rimonakh_place;
 
+/* Where a walk stands: the byte where the next item begins, and how much is left. Plain numbers of the caller's; see "in one pass". */
+typedef struct {
+    uint32_t answer;
+    size_t at;
+    size_t left;
+} rimonakh_cursor;
+
+/* A binding, from byte `from` up to and not with byte `to`; the walk goes on at `to` with `left`. */
+typedef struct {
+    uint32_t answer;
+    size_t from;
+    size_t to;
+    size_t left;
+} rimonakh_step;
+
+/* The same over extensions: the byte of the next one's pointer, that of the next one, and how many are left. */
+typedef struct {
+    uint32_t answer;
+    size_t pointer;
+    size_t at;
+    size_t left;
+} rimonakh_extension_cursor;
+
+/* An extension, or its refusal; the walk goes on at `pointer` and `at` with `left`. */
+typedef struct {
+    rimonakh_extension extension;
+    size_t pointer;
+    size_t at;
+    size_t left;
+} rimonakh_extension_step;
+
 /* The standard object block (STDOBJREF). */
 typedef struct {
     uint32_t flags;
@@ -175,6 +206,15 @@ typedef struct {
     uint32_t answer;
     rimonakh_property property;
 } rimonakh_read_property;
+
+/* A property, its data from byte `from` up to and not with byte `to`; the walk goes on at `to` with `left`. */
+typedef struct {
+    uint32_t answer;
+    rimonakh_property property;
+    size_t from;
+    size_t to;
+    size_t left;
+} rimonakh_property_step;
 
 typedef struct {
     uint32_t answer;
@@ -370,6 +410,46 @@ rimonakh_written rimonakh_context_write(uint64_t id_low, uint64_t id_high, uint3
 rimonakh_written rimonakh_property_write(uint64_t clsid_low, uint64_t clsid_high, uint64_t policy_low,
                                          uint64_t policy_high, uint32_t flags, const uint8_t *content,
                                          size_t content_len, uint8_t *buffer, size_t buffer_len);
+
+/* ---- in one pass: bindings, properties, extensions
+ *
+ * By number each call judges all bytes and goes over them up to number k. A walk judges once, at its start, and then goes on where its
+ * last step ended: a step at the start's `at` with its `left`, the next one at that step's `to` with its `left`, until one answers 24.
+ * The steps meet numbers 0, 1, 2 and so on exactly.
+ *
+ * That is promised of a walk from the start of bytes that are not changed meanwhile. Other numbers are safe: each step looks whether
+ * what it reads is there. A refused start has 0 left, so that a step from it answers 24. The list of a reference is the part that
+ * rimonakh_reference_tail answers, and so is a context. */
+
+/* Where a walk over the string bindings of a whole list begins. 13, 14, as rimonakh_list_answer. */
+rimonakh_cursor rimonakh_list_strings(const uint8_t *bytes, size_t bytes_len);
+
+/* The same over the security bindings. */
+rimonakh_cursor rimonakh_list_securities(const uint8_t *bytes, size_t bytes_len);
+
+/* The string binding at byte at, left words from there being left of its part. 13 where these are not there; 24 where there is
+ * none. */
+rimonakh_step rimonakh_list_next_string(const uint8_t *bytes, size_t bytes_len, size_t at, size_t left);
+
+/* The same of a security binding. */
+rimonakh_step rimonakh_list_next_security(const uint8_t *bytes, size_t bytes_len, size_t at, size_t left);
+
+/* Where a walk over the properties of a context begins. 13, 14, as rimonakh_context_read. */
+rimonakh_cursor rimonakh_context_properties(const uint8_t *bytes, size_t bytes_len);
+
+/* The property at byte at, where left of them are left. 24 where none is; 13 where it is not all there. */
+rimonakh_property_step rimonakh_context_next_property(const uint8_t *bytes, size_t bytes_len, size_t at, size_t left);
+
+/* Where a walk over the extensions of the ORPCTHIS at the front of bytes begins. 13, 16, 14, as rimonakh_this_read. */
+rimonakh_extension_cursor rimonakh_this_extensions(const uint8_t *bytes, size_t bytes_len);
+
+/* The same of the ORPCTHAT at the front of bytes. 13, 14, as rimonakh_that_read. */
+rimonakh_extension_cursor rimonakh_that_extensions(const uint8_t *bytes, size_t bytes_len);
+
+/* The extension at byte at, whose pointer stands at byte pointer, where left of them are left. 24 where none is; 13 where one of the
+ * two is not all there. */
+rimonakh_extension_step rimonakh_next_extension(const uint8_t *bytes, size_t bytes_len, size_t pointer, size_t at,
+                                                size_t left);
 
 /* ---- references that come in over several packets
  *

@@ -5,6 +5,11 @@ use contexts::Context;
 use contexts::Property;
 use contexts::ReadContext;
 use contexts::ReadProperty;
+use cursors::Cursor;
+use cursors::extents::ExtensionCursor;
+use cursors::extents::ExtensionStep;
+use cursors::parts::Step;
+use cursors::properties::PropertyStep;
 use extensions::Extension;
 use extensions::Walked;
 use fields::Written;
@@ -32,6 +37,7 @@ ghost use Rattle.extension_writer.specs.Writing.{given};
 ghost use Rattle.headers.specs.Headers.{readThis, thisExtension, thisBytes, thisWritten, thisWriting, readThat, thatExtension, thatBytes, thatWriting, none};
 ghost use Rattle.bindings.specs.Bindings.{frontAnswer, listAnswer, listLength, bindingAt};
 ghost use Rattle.contexts.specs.Contexts.{readContext, readProperty, propertyBytes, writeProperty, contextBytes, writeContext};
+ghost use Rattle.cursors.specs.Cursors.{partCursor, bindingStep, contextCursor, propertyStep, thisCursor, extensionsCursor, extensionStep};
 ghost use Rattle.references.specs.Parts.{ElementFound};
 ghost use Rattle.references.specs.References.{referenceAnswer, readReference, tailPlace, referenceBinding, contextPlace};
 ghost use Rattle.reference_writer.specs.Writing.{referenceBytes, writeReference};
@@ -383,4 +389,83 @@ pub extern "C" fn rimonakh_reference_write<'a>(
         element: element,
     };
     reference_writer::write(reference, tail, content, buffer)
+}
+
+// ---- in one pass
+
+// Where a walk over the string bindings of a whole list begins.
+#[no_mangle]
+pub extern "C" fn rimonakh_list_strings(bytes: &[u8]) -> Cursor
+    ensures { λ r. ⌜ r ≡ partCursor (now (bytes .entry)) Part.Strings ⌝ }
+{
+    cursors::parts::start(bytes, Part::Strings)
+}
+
+// Where a walk over the security bindings of a whole list begins.
+#[no_mangle]
+pub extern "C" fn rimonakh_list_securities(bytes: &[u8]) -> Cursor
+    ensures { λ r. ⌜ r ≡ partCursor (now (bytes .entry)) Part.Security ⌝ }
+{
+    cursors::parts::start(bytes, Part::Security)
+}
+
+// The string binding where a walk stands.
+#[no_mangle]
+pub extern "C" fn rimonakh_list_next_string(bytes: &[u8], at: usize, left: usize) -> Step
+    ensures { λ r. ⌜ r ≡ bindingStep (now (bytes .entry)) Part.Strings at left ⌝ }
+{
+    cursors::parts::next(bytes, Part::Strings, at, left)
+}
+
+// The security binding where a walk stands.
+#[no_mangle]
+pub extern "C" fn rimonakh_list_next_security(bytes: &[u8], at: usize, left: usize) -> Step
+    ensures { λ r. ⌜ r ≡ bindingStep (now (bytes .entry)) Part.Security at left ⌝ }
+{
+    cursors::parts::next(bytes, Part::Security, at, left)
+}
+
+// Where a walk over the properties of a context begins.
+#[no_mangle]
+pub extern "C" fn rimonakh_context_properties(bytes: &[u8]) -> Cursor
+    ensures { λ r. ⌜ r ≡ contextCursor (now (bytes .entry)) ⌝ }
+{
+    cursors::properties::start(bytes)
+}
+
+// The property where a walk stands.
+#[no_mangle]
+pub extern "C" fn rimonakh_context_next_property(bytes: &[u8], at: usize, left: usize) -> PropertyStep
+    ensures { λ r. ⌜ r ≡ propertyStep (now (bytes .entry)) at left ⌝ }
+{
+    cursors::properties::next(bytes, at, left)
+}
+
+// Where a walk over the extensions of the ORPCTHIS at the front of bytes begins.
+#[no_mangle]
+pub extern "C" fn rimonakh_this_extensions(bytes: &[u8]) -> ExtensionCursor
+    ensures { λ r. ⌜ r ≡ thisCursor (now (bytes .entry)) ⌝ }
+{
+    cursors::extents::start_this(bytes)
+}
+
+// Where a walk over the extensions of the ORPCTHAT at the front of bytes begins.
+#[no_mangle]
+pub extern "C" fn rimonakh_that_extensions(bytes: &[u8]) -> ExtensionCursor
+    ensures { λ r. ⌜ r ≡ extensionsCursor (now (bytes .entry)) 4 ⌝ }
+{
+    cursors::extents::start_that(bytes)
+}
+
+// The extension where a walk stands.
+#[no_mangle]
+pub extern "C" fn rimonakh_next_extension(
+    bytes: &[u8],
+    pointer: usize,
+    at: usize,
+    left: usize,
+) -> ExtensionStep
+    ensures { λ r. ⌜ r ≡ extensionStep (now (bytes .entry)) pointer at left ⌝ }
+{
+    cursors::extents::next(bytes, pointer, at, left)
 }

@@ -171,14 +171,15 @@ from-cursor s =
 good-start : (s : List ℕ) (at : ℕ) → extensionsAnswer s at ≡ 0 → (field s at 4 ≡ 0 → ⊥) → Good s (at + 20) (extentsStart s at) (countAt s at)
 good-start s at ok z =
     let a = accepted s at ok in
-    let f = a .front z in
-    (⊎-elim
-    (λ t. extents-none s (extentsStart s at) (countAt s at) (eqb-true _ _ t) .0)
-    (λ n.
-    let q : countAt s at ≡ 0 → ⊥ = eqb-false _ _ n in
-    a .extents z (some-array s at 0 f (omega arith)))
-    (true-or-false (eqb (countAt s at) 0)),
-    λ h. let d = a .counted z (some-array s at 0 f h) .room in omega arith)
+    let f = a .front z in (
+      ⊎-elim
+          (λ t. extents-none s (extentsStart s at) (countAt s at) (eqb-true _ _ t) .0)
+          (λ n.
+          let q : countAt s at ≡ 0 → ⊥ = eqb-false _ _ n in
+          a .extents z (some-array s at 0 f (omega arith)))
+          (true-or-false (eqb (countAt s at) 0)),
+      λ h. let d = a .counted z (some-array s at 0 f h) .room in omega arith,
+    )
 
 pub extensions-walked : ExtensionsWalked
 unfolding extensionsCursor extensionAt extensionsCount

@@ -64,52 +64,43 @@ fn bindings(bench: &mut Bench, list: &[u8]) {
     let count = pb::bindings(list).unwrap().0.count();
     let bytes = reference(list);
     let none = State::default();
-    let mut row = bench
-        .row(format!("all bindings of a list by number: {count}"))
-        .each(count);
-    if count > 1000 {
-        row = row.slow();
-    }
-    row.run(
+    let name = format!("all bindings of a list in one pass: {count}");
+    bench.row(name).each(count).run(
         &none,
-        |_| each(0..count, |k| list::locate(list, Part::Strings, k)),
-        |_| all(pb::bindings(list)?.0),
+        |_| all(list::bindings(list, Part::Strings)),
+        |_| all(pb::bindings(list).map(|(strings, _)| strings)),
     );
-    let mut row = bench
-        .row(format!("all bindings of a reference by number: {count}"))
-        .each(count);
-    if count > 1000 {
-        row = row.slow();
-    }
-    row.run(
+    let name = format!("all bindings of a reference in one pass: {count}");
+    bench.row(name).each(count).run(
         &none,
-        |_| each(0..count, |k| Reference::locate(&bytes, Part::Strings, k)),
+        |_| all(Reference::bindings(&bytes, Part::Strings)),
         |_| {
             let (_, tail) = pb::read_reference(&bytes)?;
-            all(pb::bindings(&bytes[tail])?.0)
+            all(pb::bindings(&bytes[tail]).map(|(strings, _)| strings))
         },
     );
-    bench
-        .row(format!("the last binding of a list by number: {count}"))
-        .run(
-            &none,
-            |_| list::locate(list, Part::Strings, count - 1),
-            |_| pb::string_binding(list, count - 1),
-        );
+    let name = format!("all bindings of a list by number: {count}");
+    bench.row(name).each(count).slow(count > 1000).run(
+        &none,
+        |_| each(count, |k| list::locate(list, Part::Strings, k)),
+        |_| all(pb::bindings(list).map(|(strings, _)| strings)),
+    );
+    let name = format!("the last binding of a list by number: {count}");
+    bench.row(name).run(
+        &none,
+        |_| list::locate(list, Part::Strings, count - 1),
+        |_| pb::string_binding(list, count - 1),
+    );
 }
 
-/// Each number's call, whose result is made.
-fn each<T>(
-    mut numbers: std::ops::Range<usize>,
-    call: impl Fn(usize) -> Result<T, Error>,
-) -> Result<(), Error> {
-    numbers.try_for_each(|k| call(k).map(|x| drop(black_box(x))))
+/// The calls of numbers up to n, whose results are made.
+fn each<T>(n: usize, call: impl Fn(usize) -> Result<T, Error>) -> Result<(), Error> {
+    (0..n).try_for_each(|k| call(k).map(|x| drop(black_box(x))))
 }
 
-/// Each thing, which is made.
-fn all<T>(things: impl Iterator<Item = T>) -> Result<(), u32> {
-    things.for_each(|x| drop(black_box(x)));
-    Ok(())
+/// Each thing of those that are found, which is made.
+fn all<T, E>(found: Result<impl Iterator<Item = T>, E>) -> Result<(), E> {
+    found.map(|things| things.for_each(|x| drop(black_box(x))))
 }
 
 pub fn nests(bench: &mut Bench) {
@@ -146,14 +137,19 @@ pub fn contexts(bench: &mut Bench) {
             |_| Context::read(&bytes),
             |_| pb::judge_context(&bytes),
         );
-        bench
-            .row(format!("all properties of a context by number: {n}"))
-            .each(n as usize)
-            .run(
-                &State::default(),
-                |_| each(0..n as usize, |k| Property::read(&bytes, k)),
-                |_| all(pb::properties(&bytes)?),
-            );
+        let n = n as usize;
+        let name = format!("all properties of a context in one pass: {n}");
+        bench.row(name).each(n).run(
+            &State::default(),
+            |_| all(Property::all(&bytes)),
+            |_| all(pb::properties(&bytes)),
+        );
+        let name = format!("all properties of a context by number: {n}");
+        bench.row(name).each(n).run(
+            &State::default(),
+            |_| each(n, |k| Property::read(&bytes, k)),
+            |_| all(pb::properties(&bytes)),
+        );
     }
 }
 
@@ -166,14 +162,19 @@ pub fn headers(bench: &mut Bench) {
             |_| OrpcThis::read(&bytes),
             |_| plain::extensions::this(&bytes).map(|e| e.length),
         );
-        bench
-            .row(format!("all extensions of a header by number: {n}"))
-            .each(n as usize)
-            .run(
-                &State::default(),
-                |_| each(0..n as usize, |k| OrpcThis::extension(&bytes, k)),
-                |_| all(plain::extensions::this(&bytes)?),
-            );
+        let n = n as usize;
+        let name = format!("all extensions of a header in one pass: {n}");
+        bench.row(name).each(n).run(
+            &State::default(),
+            |_| all(OrpcThis::extensions(&bytes)),
+            |_| all(plain::extensions::this(&bytes)),
+        );
+        let name = format!("all extensions of a header by number: {n}");
+        bench.row(name).each(n).run(
+            &State::default(),
+            |_| each(n, |k| OrpcThis::extension(&bytes, k)),
+            |_| all(plain::extensions::this(&bytes)),
+        );
     }
 }
 

@@ -140,9 +140,9 @@ impl Row<'_> {
         }
     }
 
-    /// Too slow to be counted.
-    pub fn slow(self) -> Self {
-        Row { slow: true, ..self }
+    /// Whether it is too slow to be counted.
+    pub fn slow(self, slow: bool) -> Self {
+        Row { slow, ..self }
     }
 
     /// Measures both sides, each on a state of its own. Every call is to be accepted, and both leave the same bytes in their buffers.

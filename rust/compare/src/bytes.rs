@@ -189,6 +189,14 @@ pub fn same<T: PartialEq + Debug>(
     }
 }
 
+/// What there is by number, up to the first number that has nothing.
+fn numbered<T>(number: impl Fn(usize) -> Result<T, u32>) -> Result<Vec<T>, u32> {
+    (0..)
+        .map(number)
+        .take_while(|x| !matches!(x, Err(24)))
+        .collect()
+}
+
 /// Whether plain Rust answers what is demanded.
 pub fn plain_same<T: PartialEq + Debug>(
     answer: Result<T, u32>,
@@ -252,6 +260,20 @@ fn check_list(s: &[u8], tally: &mut Tally) -> Result<(), String> {
             )?;
         }
     }
+    let places = |of| list::places(s, of).map(Iterator::collect);
+    let (strings, security) = (places(Part::Strings), places(Part::Security));
+    same(
+        "strings in one pass",
+        strings,
+        m::list(s).map(|l| l.strings),
+        tally,
+    )?;
+    same(
+        "securities in one pass",
+        security,
+        m::list(s).map(|l| l.security),
+        tally,
+    )?;
     let plain = plain::bytes::bindings(s).map(|(a, b)| (a.collect(), b.collect()));
     let bytes = |of: &[Range<usize>]| of.iter().map(|r| &s[r.clone()]).collect::<Vec<_>>();
     let demanded = m::list(s).map(|l| (bytes(&l.strings), bytes(&l.security)));
@@ -285,6 +307,9 @@ fn check_reference(s: &[u8], random: &mut Random, tally: &mut Tally) -> Result<(
                 tally,
             )?;
         }
+        let walked = Reference::bindings(s, part).map(Iterator::collect);
+        let numbered = numbered(|k| m::reference_binding(s, of, k).map(|place| &s[place]));
+        same("bindings in one pass", walked, numbered, tally)?;
     }
     for k in [0, 1, usize::MAX] {
         same(
@@ -349,8 +374,12 @@ fn check_context(s: &[u8], random: &mut Random, tally: &mut Tally) -> Result<(),
             tally,
         )?;
     }
+    let all = c::context(s).map(|(_, all)| all);
+    let walked =
+        Property::all(s).map(|all| all.map(|(p, data)| (plain_property(p), data)).collect());
+    same("properties in one pass", walked, all.clone(), tally)?;
     let plain = plain::bytes::properties(s).map(|all| all.map(plain_placed).collect());
-    plain_same(plain, c::context(s).map(|(_, all)| all))?;
+    plain_same(plain, all)?;
     match demanded {
         Ok(fields) => check_context_written(&fields, &s[48..], random, tally),
         Err(_) => Ok(()),

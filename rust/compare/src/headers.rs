@@ -107,6 +107,25 @@ fn library_extension(kind: Kind, s: &[u8], k: usize) -> Answer<r::Extension<'_>>
     })
 }
 
+/// All of them, in one pass.
+fn library_extensions(kind: Kind, s: &[u8]) -> Answer<Vec<Extension>> {
+    let place = |x| placed(s, x);
+    numbered(match kind {
+        Kind::This => r::OrpcThis::extensions(s).map(|all| all.map(place).collect()),
+        Kind::That => r::OrpcThat::extensions(s).map(|all| all.map(place).collect()),
+    })
+}
+
+/// An extension with the place of its data in `s`.
+fn placed(s: &[u8], x: r::Extension) -> Extension {
+    let from = x.data.as_ptr() as usize - s.as_ptr() as usize;
+    Extension {
+        pointer: x.pointer,
+        id: x.id.0,
+        data: from..from + x.data.len(),
+    }
+}
+
 impl Headers for Library {
     fn read(kind: Kind, s: &[u8]) -> Answer<Read> {
         let (header, x, length) = match kind {
@@ -137,13 +156,7 @@ impl Headers for Library {
         })
     }
     fn extension(kind: Kind, s: &[u8], k: usize) -> Answer<Extension> {
-        let x = library_extension(kind, s, k)?;
-        let from = x.data.as_ptr() as usize - s.as_ptr() as usize;
-        Ok(Extension {
-            pointer: x.pointer,
-            id: x.id.0,
-            data: from..from + x.data.len(),
-        })
+        Ok(placed(s, library_extension(kind, s, k)?))
     }
     fn write_plain(kind: Kind, h: &OrpcThis, buffer: &mut [u8]) -> Answer<()> {
         numbered(match kind {
@@ -344,10 +357,13 @@ pub fn check(kind: Kind, s: &[u8], random: &mut Random, tally: &mut Tally) -> Re
         let (answer, wanted) = (Library::extension(kind, s, k), Model::extension(kind, s, k));
         same("extension", answer, wanted, tally)?;
     }
+    let found = model_read(kind, s).map(|(_, found)| found);
+    let items = found.clone().map(|found| found.items);
+    let walked = library_extensions(kind, s);
+    same("extensions in one pass", walked, items, tally)?;
     let plain =
         plain_extensions(kind, s).map(|all| (all.length, all.map(plain_extension).collect()));
-    let items = model_read(kind, s).map(|(_, found)| (found.length, found.items));
-    plain_same(plain, items)?;
+    plain_same(plain, found.map(|found| (found.length, found.items)))?;
     let mut header = OrpcThis {
         minor: random.below(10) as u16,
         flags: random.word() as u32,

@@ -2,6 +2,7 @@
 
 use crate::error::answered;
 use crate::{ffi, Guid, Oid, Oxid, Result};
+use std::iter::from_fn;
 use std::ops::Range;
 
 impl ffi::Place {
@@ -19,7 +20,7 @@ pub enum Part {
 
 /// Binding lists (DUALSTRINGARRAY).
 pub mod list {
-    use super::{ffi, Part, Range};
+    use super::{ffi, from_fn, Part, Range};
     use crate::error::answered;
     use crate::Result;
 
@@ -59,6 +60,46 @@ pub mod list {
     /// Binding `k` of a part of a whole list.
     pub fn binding(bytes: &[u8], part: Part, k: usize) -> Result<&[u8]> {
         Ok(&bytes[locate(bytes, part, k)?])
+    }
+
+    /// Where the bindings of a part of a whole list stand, in one pass.
+    pub fn places(bytes: &[u8], part: Part) -> Result<impl Iterator<Item = Range<usize>> + '_> {
+        let (s, len) = (bytes.as_ptr(), bytes.len());
+        // SAFETY: pointer and length are of one slice.
+        let start = unsafe {
+            match part {
+                Part::Strings => ffi::rimonakh_list_strings(s, len),
+                Part::Security => ffi::rimonakh_list_securities(s, len),
+            }
+        };
+        let (mut at, mut left) = answered(start.answer, (start.at, start.left))?;
+        Ok(from_fn(move || {
+            let (s, len) = (bytes.as_ptr(), bytes.len());
+            // SAFETY: pointer and length are of one slice.
+            let step = unsafe {
+                match part {
+                    Part::Strings => ffi::rimonakh_list_next_string(s, len, at, left),
+                    Part::Security => ffi::rimonakh_list_next_security(s, len, at, left),
+                }
+            };
+            answered(step.answer, ()).ok()?;
+            (at, left) = (step.to, step.left);
+            Some(step.from..step.to)
+        }))
+    }
+
+    /// The bindings of a part of a whole list, in one pass.
+    ///
+    /// ```
+    /// use rimonakh::{list, Part};
+    ///
+    /// let bytes = [8, 0, 7, 0, 7, 0, 97, 0, 0, 0, 8, 0, 98, 0, 0, 0, 0, 0, 0, 0];
+    /// let found: Vec<&[u8]> = list::bindings(&bytes, Part::Strings)?.collect();
+    /// assert_eq!(found, [[7, 0, 97, 0, 0, 0], [8, 0, 98, 0, 0, 0]]);
+    /// # Ok::<(), rimonakh::Error>(())
+    /// ```
+    pub fn bindings(bytes: &[u8], part: Part) -> Result<impl Iterator<Item = &[u8]>> {
+        Ok(places(bytes, part)?.map(|place| &bytes[place]))
     }
 }
 
@@ -178,6 +219,17 @@ impl Reference {
     /// Binding `k` of a part of a reference's list.
     pub fn binding(bytes: &[u8], part: Part, k: usize) -> Result<&[u8]> {
         Ok(&bytes[Reference::locate(bytes, part, k)?])
+    }
+
+    /// The bindings of a part of a reference's list, in one pass. A custom reference has none.
+    pub fn bindings(bytes: &[u8], part: Part) -> Result<impl Iterator<Item = &[u8]>> {
+        let tail = Reference::tail(bytes)?;
+        let custom = bytes[4..8] == Reference::CUSTOM.to_le_bytes();
+        let list = match custom {
+            true => None,
+            false => Some(list::bindings(tail, part)?),
+        };
+        Ok(list.into_iter().flatten())
     }
 
     /// Where the data of element `k` of an extended reference stands, without its padding.
@@ -307,6 +359,21 @@ impl Property {
         // SAFETY: pointer and length are of one slice.
         let r = unsafe { ffi::rimonakh_context_property(bytes.as_ptr(), bytes.len(), k) };
         answered(r.answer, r.property)
+    }
+
+    /// The properties of a context in one pass: the fields of each, and where its data stands.
+    pub fn all(bytes: &[u8]) -> Result<impl Iterator<Item = (Property, Range<usize>)> + '_> {
+        // SAFETY: pointer and length are of one slice.
+        let start = unsafe { ffi::rimonakh_context_properties(bytes.as_ptr(), bytes.len()) };
+        let (mut at, mut left) = answered(start.answer, (start.at, start.left))?;
+        Ok(from_fn(move || {
+            let (s, len) = (bytes.as_ptr(), bytes.len());
+            // SAFETY: pointer and length are of one slice.
+            let step = unsafe { ffi::rimonakh_context_next_property(s, len, at, left) };
+            answered(step.answer, ()).ok()?;
+            (at, left) = (step.to, step.left);
+            Some((step.property, step.from..step.to))
+        }))
     }
 
     /// Writes the property with its data at the front of `buffer` and keeps the rest. Answers the length.

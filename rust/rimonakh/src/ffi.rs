@@ -44,6 +44,51 @@ pub struct Place {
 
 #[repr(C)]
 #[derive(Clone, Copy)]
+pub struct Cursor {
+    pub answer: u32,
+    pub at: usize,
+    pub left: usize,
+}
+
+#[repr(C)]
+#[derive(Clone, Copy)]
+pub struct Step {
+    pub answer: u32,
+    pub from: usize,
+    pub to: usize,
+    pub left: usize,
+}
+
+#[repr(C)]
+#[derive(Clone, Copy)]
+pub struct PropertyStep {
+    pub answer: u32,
+    pub property: Property,
+    pub from: usize,
+    pub to: usize,
+    pub left: usize,
+}
+
+#[repr(C)]
+#[derive(Clone, Copy)]
+pub struct ExtensionCursor {
+    pub answer: u32,
+    pub pointer: usize,
+    pub at: usize,
+    pub left: usize,
+}
+
+#[repr(C)]
+#[derive(Clone, Copy)]
+pub struct ExtensionStep {
+    pub extension: Extension,
+    pub pointer: usize,
+    pub at: usize,
+    pub left: usize,
+}
+
+#[repr(C)]
+#[derive(Clone, Copy)]
 pub struct ReadReference {
     pub answer: u32,
     pub reference: Reference,
@@ -433,6 +478,36 @@ extern "C" {
         snapshot_len: usize,
     ) -> u32;
 
+    pub fn rimonakh_list_strings(bytes: *const u8, bytes_len: usize) -> Cursor;
+    pub fn rimonakh_list_securities(bytes: *const u8, bytes_len: usize) -> Cursor;
+    pub fn rimonakh_list_next_string(
+        bytes: *const u8,
+        bytes_len: usize,
+        at: usize,
+        left: usize,
+    ) -> Step;
+    pub fn rimonakh_list_next_security(
+        bytes: *const u8,
+        bytes_len: usize,
+        at: usize,
+        left: usize,
+    ) -> Step;
+    pub fn rimonakh_context_properties(bytes: *const u8, bytes_len: usize) -> Cursor;
+    pub fn rimonakh_context_next_property(
+        bytes: *const u8,
+        bytes_len: usize,
+        at: usize,
+        left: usize,
+    ) -> PropertyStep;
+    pub fn rimonakh_this_extensions(bytes: *const u8, bytes_len: usize) -> ExtensionCursor;
+    pub fn rimonakh_that_extensions(bytes: *const u8, bytes_len: usize) -> ExtensionCursor;
+    pub fn rimonakh_next_extension(
+        bytes: *const u8,
+        bytes_len: usize,
+        pointer: usize,
+        at: usize,
+        left: usize,
+    ) -> ExtensionStep;
     pub fn rimonakh_fragments_none() -> Fragments;
     pub fn rimonakh_fragments_push(
         state: Fragments,

@@ -13,11 +13,13 @@
 //! assert_eq!((read.extensions.count, read.length), (1, length));
 //! assert_eq!(OrpcThat::extension(&reply, 0)?, sent[0]);
 //! assert_eq!(OrpcThat::extension(&reply, 1), Err(Error::NoBinding));
+//! assert!(OrpcThat::extensions(&reply)?.eq(sent));
 //! # Ok::<(), Error>(())
 //! ```
 
 use crate::error::answered;
 use crate::{ffi, Guid, Result};
+use std::iter::from_fn;
 
 /// What a header says of its extensions: its pointer to their array, the array's pointer, and how many there are.
 #[repr(C)]
@@ -52,6 +54,22 @@ impl ffi::Extension {
             pointer: self.pointer,
             data: &bytes[place],
         })
+    }
+}
+
+impl ffi::ExtensionCursor {
+    /// The extensions from here on.
+    fn walk(self, bytes: &[u8]) -> Result<impl Iterator<Item = Extension<'_>>> {
+        let start = (self.pointer, self.at, self.left);
+        let (mut pointer, mut at, mut left) = answered(self.answer, start)?;
+        Ok(from_fn(move || {
+            let (s, len) = (bytes.as_ptr(), bytes.len());
+            // SAFETY: pointer and length are of one slice.
+            let step = unsafe { ffi::rimonakh_next_extension(s, len, pointer, at, left) };
+            let found = step.extension.shown(bytes).ok()?;
+            (pointer, at, left) = (step.pointer, step.at, step.left);
+            Some(found)
+        }))
     }
 }
 
@@ -98,6 +116,13 @@ impl OrpcThis {
         // SAFETY: pointer and length are of one slice.
         let r = unsafe { ffi::rimonakh_this_extension(bytes.as_ptr(), bytes.len(), k) };
         r.shown(bytes)
+    }
+
+    /// The extensions of the header at the front of `bytes`, in one pass.
+    pub fn extensions(bytes: &[u8]) -> Result<impl Iterator<Item = Extension<'_>>> {
+        // SAFETY: pointer and length are of one slice.
+        let start = unsafe { ffi::rimonakh_this_extensions(bytes.as_ptr(), bytes.len()) };
+        start.walk(bytes)
     }
 
     /// Writes the header without extensions at the front of `buffer` and keeps the rest.
@@ -170,6 +195,13 @@ impl OrpcThat {
         // SAFETY: pointer and length are of one slice.
         let r = unsafe { ffi::rimonakh_that_extension(bytes.as_ptr(), bytes.len(), k) };
         r.shown(bytes)
+    }
+
+    /// The extensions of the header at the front of `bytes`, in one pass.
+    pub fn extensions(bytes: &[u8]) -> Result<impl Iterator<Item = Extension<'_>>> {
+        // SAFETY: pointer and length are of one slice.
+        let start = unsafe { ffi::rimonakh_that_extensions(bytes.as_ptr(), bytes.len()) };
+        start.walk(bytes)
     }
 
     /// Writes the header without extensions at the front of `buffer` and keeps the rest.

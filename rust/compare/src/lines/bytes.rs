@@ -108,7 +108,11 @@ impl Codec for Library {
         r::list::front(s).map_or(0, <[u8]>::len)
     }
     fn list_binding(s: &[u8], p: Part, k: usize) -> Answer<Range<usize>> {
-        r::list::locate(s, part(p), k).map_err(r::Error::number)
+        let numbered = r::list::locate(s, part(p), k);
+        let walked = r::list::places(s, part(p));
+        let walked = walked.and_then(|mut all| all.nth(k).ok_or(r::Error::NoBinding));
+        assert_eq!(walked, numbered, "in one pass");
+        numbered.map_err(r::Error::number)
     }
     fn read_reference(s: &[u8]) -> Answer<(Reference, Range<usize>)> {
         let x = r::Reference::read(s).map_err(r::Error::number)?;

@@ -8,7 +8,6 @@ use borrow.Author.Tests.{leb-true, not-true, not-false}
 use lib.Dec.{leb}
 use lib.ListN.{length}
 use Rattle.fields.specs.Fields.{rounded}
-use Rattle.extensions.specs.Extensions.{sizeAt}
 use Rattle.cursors.proofs.ExtentWalk.{no-extent, pointer-short, extent-short, extent-cut, extent-whole}
 use Rattle.cursors.proofs.extents.step_answer.Statement.{statement}
 use Rattle.cursors.proofs.extents.step_answer.Tie as tie
@@ -36,20 +35,19 @@ add-inside c = omega (arith, room c)
 add-read-u32 : tie.Need-add-read-u32
 add-read-u32 c = omega (arith, room c)
 
-size : (c : tie.After-rounded) → c .rounded .result ≡ rounded (sizeAt (c .before .before .before .before .before .before .before .before .args .s .now) (c .before .before .before .before .before .before .before .before .args .at))
-size c = c .rounded .ensures ∙ ap rounded (c .before .read-u32 .ensures)
-
 returns-4 : tie.Need-returns-4
 returns-4 c =
     let r = c .before .before in
     let e = r .before .before in
-    sym (extent-cut _ _ _ _ (e .before .before .before .before .if1 .left) (pointed (e .before .before)) (fixed e) _ (size r) (sym (c .before .inside3 .ensures) ∙ not-true _ (c .if4 .taken)))
+    let f = e .before .before in
+    sym (extent-cut _ _ _ _ (f .before .before .if1 .left) (pointed f) (fixed e) _ (r .rounded .ensures ∙ ap rounded (r .before .read-u32 .ensures)) (sym (c .before .inside3 .ensures) ∙ not-true _ (c .if4 .taken)))
 
 returns-5 : tie.Need-returns-5
 returns-5 c =
     let r = c .before .before in
     let e = r .before .before in
-    sym (extent-whole _ _ _ _ (e .before .before .before .before .if1 .left) (pointed (e .before .before)) (fixed e) _ (size r) (sym (c .before .inside3 .ensures) ∙ not-false _ (c .if4 .left)))
+    let f = e .before .before in
+    sym (extent-whole _ _ _ _ (f .before .before .if1 .left) (pointed f) (fixed e) _ (r .rounded .ensures ∙ ap rounded (r .before .read-u32 .ensures)) (sym (c .before .inside3 .ensures) ∙ not-false _ (c .if4 .left)))
 
 pub step-answer-spec : {M : Type 1} → statement M
 step-answer-spec =
