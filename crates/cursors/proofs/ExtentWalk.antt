@@ -12,11 +12,12 @@ use Rattle.kinds.specs.Refusals.{order}
 use Rattle.kinds.proofs.Refusing.{by-test, same-test, passed, passed-on}
 use Rattle.lists.proofs.Tests.{true-or-false}
 use Rattle.fields.specs.Fields.{field, rounded}
-use Rattle.extensions.specs.Extensions.{sizeAt, nextAt, extentAnswer, extentsAnswer, startOf, countAt, extentsStart, extensionsCount, extensionsAnswer, noExtension, extensionFrom, extensionAt}
+use Rattle.extensions.specs.Extensions.{sizeAt, nextAt, extentAnswer, extentsAnswer, startOf, countAt, extentsStart, extensionsCount, extensionsAnswer, walk, noExtension, extensionFrom, extensionAt}
 use Rattle.extensions.specs.declared.Extension.{Extension}
-use Rattle.extensions.proofs.ArrayWalk.{held, accepted, extents-none, some-array}
-use Rattle.headers.specs.Headers.{thisAnswer, readThis, thisExtension}
-use Rattle.headers.specs.declared.ReadThis.{ReadThis}
+use Rattle.extensions.proofs.ArrayWalk.{walk-answer, held, accepted, extents-none, some-array}
+use Rattle.headers.specs.Headers.{thisAnswer, thisWalk, thisExtension}
+use Rattle.extensions.specs.declared.Walked.{Walked}
+use Rattle.headers.proofs.HeaderAnswers.{this-number}
 use Rattle.headers.proofs.ThisTrip.{version}
 use Rattle.cursors.specs.Cursors.{noExtensionCursor, extensionsCursor, thisCursor, extensionStepAnswer, extensionMet, extensionStep, walkedExtension, ExtensionsWalked, ThisWalked}
 use Rattle.cursors.specs.declared.extents.ExtensionCursor.{ExtensionCursor}
@@ -201,15 +202,28 @@ pub this-walked : ThisWalked
 unfolding thisCursor thisExtension
 this-walked s k ok = rw (eq-eqb _ _ ok) (extensions-walked s 28 k (version s ok .1))
 
-module _ (s : List ℕ) (x : ReadThis) (e : x ≡ readThis s) (r : ExtensionCursor) where
-  answered : x .answer ≡ thisAnswer s
-  unfolding readThis
-  answered = rw e (by-test (λ (y : ReadThis). y .answer ≡ thisAnswer s) (eqb (thisAnswer s) 0) _ _ (λ t. sym (eqb-true _ _ t)) (λ f. refl))
+module _ (s : List ℕ) (x : Walked) (e : x ≡ thisWalk s) where
+  pub this-accepted : x .answer ≡ 0 → extensionsAnswer s 28 ≡ 0
+  this-accepted z = version s (sym (this-number s x e) ∙ z) .1
 
-  pub this-refused : (x .answer ≡ 0 → ⊥) → r ≡ noExtensionCursor (x .answer) → r ≡ thisCursor s
-  unfolding thisCursor
-  this-refused z q = rw (← answered, ne-eqb _ _ z) q
+  module _ (r : ExtensionCursor) where
+    pub this-refused : (x .answer ≡ 0 → ⊥) → r ≡ noExtensionCursor (x .answer) → r ≡ thisCursor s
+    unfolding thisCursor
+    this-refused z q = rw (← this-number s x e, ne-eqb _ _ z) q
 
-  pub this-start : x .answer ≡ 0 → r ≡ extensionsCursor s 28 → r ≡ thisCursor s
-  unfolding thisCursor
-  this-start z q = rw (← answered, eq-eqb _ _ z) q
+    pub this-start : x .answer ≡ 0 → r ≡ extensionsCursor s 28 → r ≡ thisCursor s
+    unfolding thisCursor
+    this-start z q = rw (← this-number s x e, eq-eqb _ _ z) q
+
+-- ---- of an ORPCTHAT
+
+module _ (s : List ℕ) (at : ℕ) (x : Walked) (e : x ≡ walk s at) where
+  answered : x .answer ≡ extensionsAnswer s at
+  answered = ap (λ (y : Walked). y .answer) e ∙ walk-answer s at
+
+  pub that-accepted : x .answer ≡ 0 → extensionsAnswer s at ≡ 0
+  that-accepted z = sym answered ∙ z
+
+  pub that-refused : (r : ExtensionCursor) → (x .answer ≡ 0 → ⊥) → r ≡ noExtensionCursor (x .answer) → r ≡ extensionsCursor s at
+  unfolding extensionsCursor
+  that-refused r z q = rw (← answered, ne-eqb _ _ z) q

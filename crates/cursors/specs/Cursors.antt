@@ -1,8 +1,9 @@
 -- Bindings, properties and extensions in one pass: where a walk begins, what one step of it meets, and that step k is number k.
-use Prim.Native.Nat.{ℕ, suc, zero, _+_, _-_, _/_}
+use Prim.Native.Nat.{ℕ, suc, zero, _+_, _-_, _/_, _≤_}
 use mathlib.Core.Path.{_≡_}
 use mathlib.Core.Bool.{cond}
 use mathlib.Core.List.{List, [], _∷_}
+use lib.ListN.{length}
 use lib.Dec.{eqb}
 use Rattle.kinds.specs.Refusals.{_gives_, order}
 use Rattle.fields.specs.Fields.{field, guidAt, rounded}
@@ -11,7 +12,7 @@ use Rattle.bindings.specs.declared.Part.{Part}
 use Rattle.bindings.specs.declared.Place.{Place}
 use Rattle.contexts.specs.Contexts.{noProperty, contextAnswer, propertyPlace, readProperty}
 use Rattle.contexts.specs.declared.ReadProperty.{ReadProperty}
-use Rattle.extensions.specs.Extensions.{lacks, sizeAt, nextAt, countAt, extentsStart, extensionsAnswer, noExtension, extensionAt}
+use Rattle.extensions.specs.Extensions.{lacks, sizeAt, nextAt, countAt, extentsStart, extensionsAnswer, noExtension, extensionAt, placeOf}
 use Rattle.headers.specs.Headers.{thisAnswer, thisExtension}
 use Rattle.cursors.specs.declared.Cursor.{Cursor}
 use Rattle.cursors.specs.declared.extents.ExtensionCursor.{ExtensionCursor}
@@ -151,3 +152,15 @@ ExtensionsWalked =
 
 abbrev pub ThisWalked : Type 0
 ThisWalked = (s : List ℕ) (k : ℕ) → thisAnswer s ≡ 0 → walkedExtension s (thisCursor s) k .extension ≡ thisExtension s k
+
+-- ---- any numbers
+
+-- a place that lies in s
+abbrev pub Inside : List ℕ → Place → Type 0
+Inside s x = (x .from ≤ x .to) × (x .to ≤ length s)
+
+-- whatever numbers a step is asked for, what it answers lies inside; a refusal has zeros
+pub record StepsInside : Type 0 where
+  pub bindings : (s : List ℕ) (p : Part) (at n : ℕ) → Inside s (stepPlace (bindingStep s p at n))
+  pub properties : (s : List ℕ) (at n : ℕ) → Inside s (propertyPlaceOf (propertyStep s at n))
+  pub extensions : (s : List ℕ) (p at n : ℕ) → Inside s (placeOf (extensionStep s p at n .extension))

@@ -3,6 +3,7 @@ use extensions::Extension;
 use headers::OrpcThis;
 use kinds::answer;
 ghost use mathlib.Core.Path.{_≡_};
+ghost use Rattle.extensions.specs.Extensions.{extensionsAnswer};
 ghost use Rattle.cursors.specs.Cursors.{noExtensionCursor, extensionsCursor, thisCursor, extensionStepAnswer, extensionStep};
 
 // Where a walk over extensions stands: the next one's pointer number, the next one, and how many are left; or a refusal with zeros.
@@ -36,14 +37,11 @@ impl ExtensionCursor {
     }
 }
 
-// Where a walk over the extensions begins of the header whose pointer to them stands at at, or their refusals.
-pub fn start(s: &[u8], at: usize) -> ExtensionCursor
+// Where a walk over the extensions of an accepted header begins.
+fn first(s: &[u8], at: usize) -> ExtensionCursor
+    requires { ⌜ extensionsAnswer (now s) at ≡ 0 ⌝ }
     ensures { λ r. ⌜ r ≡ extensionsCursor (now (s .entry)) at ⌝ }
 {
-    let x = extensions::judge(s, at);
-    if x.answer != answer::DONE {
-        return ExtensionCursor::none(x.answer);
-    }
     if fields::read_u32(s, at) == 0 {
         return ExtensionCursor::none(answer::DONE);
     }
@@ -56,22 +54,26 @@ pub fn start(s: &[u8], at: usize) -> ExtensionCursor
     }
 }
 
-// The same of the ORPCTHIS at the front of s, or its refusals.
+// Where a walk over the extensions of the ORPCTHIS at the front of s begins, or its refusals.
 pub fn start_this(s: &[u8]) -> ExtensionCursor
     ensures { λ r. ⌜ r ≡ thisCursor (now (s .entry)) ⌝ }
 {
-    let x = OrpcThis::read(s);
+    let x = OrpcThis::judge(s);
     if x.answer != answer::DONE {
         return ExtensionCursor::none(x.answer);
     }
-    start(s, 28)
+    first(s, 28)
 }
 
 // The same of the ORPCTHAT at the front of s.
 pub fn start_that(s: &[u8]) -> ExtensionCursor
     ensures { λ r. ⌜ r ≡ extensionsCursor (now (s .entry)) 4 ⌝ }
 {
-    start(s, 4)
+    let x = extensions::judge(s, 4);
+    if x.answer != answer::DONE {
+        return ExtensionCursor::none(x.answer);
+    }
+    first(s, 4)
 }
 
 // Whether an extension stands from at, of so many that are left, and its pointer number at pointer.

@@ -51,7 +51,7 @@ impl OrpcThis {
     }
 
     // Whether s begins with a header, and its length: 0, or 13 short, 16 version not understood, 14 a broken array.
-    fn judge(s: &[u8]) -> Walked
+    pub fn judge(s: &[u8]) -> Walked
         ensures { λ r. ⌜ r ≡ thisWalk (now (s .entry)) ⌝ }
     {
         if s.len() < OrpcThis::SIZE {
