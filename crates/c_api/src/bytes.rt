@@ -435,7 +435,11 @@ pub extern "C" fn rimonakh_context_properties(bytes: &[u8]) -> Cursor
 
 // The property where a walk stands.
 #[no_mangle]
-pub extern "C" fn rimonakh_context_next_property(bytes: &[u8], at: usize, left: usize) -> PropertyStep
+pub extern "C" fn rimonakh_context_next_property(
+    bytes: &[u8],
+    at: usize,
+    left: usize,
+) -> PropertyStep
     ensures { λ r. ⌜ r ≡ propertyStep (now (bytes .entry)) at left ⌝ }
 {
     cursors::properties::next(bytes, at, left)

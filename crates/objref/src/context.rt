@@ -18,15 +18,22 @@ pub fn report(s: &[u8], n: usize) {
 
 // A property has at least 40 bytes, so that there are fewer than the bound.
 fn properties(s: &[u8], n: usize) {
+    let c = cursors::properties::start(s);
+    let mut at = c.at;
+    let mut left = c.left;
     let mut k = 0;
     while k < 65536 {
-        let r = Property::read(s, k);
+        let r = cursors::properties::next(s, at, left);
         if r.answer != answer::DONE {
             return;
         }
         let property = r.property;
         fields(property, k, n);
-        data::content(contexts::property_data(s, k), n);
+        let from = r.from;
+        let to = r.to;
+        data::content(&s[from..to], n);
+        at = to;
+        left = r.left;
         k += 1;
     }
 }

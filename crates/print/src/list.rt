@@ -2,6 +2,7 @@
 use crate::line;
 use crate::words;
 use bindings::Part;
+use cursors::parts;
 use kinds::answer;
 
 pub fn parts(s: &[u8], n: usize) {
@@ -11,8 +12,10 @@ pub fn parts(s: &[u8], n: usize) {
 
 // A line for each binding of a part, or one that says that there is none.
 fn part(s: &[u8], p: Part, n: usize) {
-    if bindings::binding_answer(s, p, 0) == answer::DONE {
-        all(s, p, n);
+    let c = parts::start(s, p);
+    let first = parts::next(s, p, c.at, c.left);
+    if first.answer == answer::DONE {
+        all(s, p, c.at, c.left, n);
     } else {
         none(p, n);
     }
@@ -26,14 +29,21 @@ fn none(p: Part, n: usize) {
     }
 }
 
-// The bindings of a part. A list has at most 65,535 words, so it has fewer bindings than the bound.
-fn all(s: &[u8], p: Part, n: usize) {
+// The bindings of a part from at on. A list has at most 65,535 words, so it has fewer bindings than the bound.
+fn all(s: &[u8], p: Part, at: usize, words: usize, n: usize) {
+    let mut i = at;
+    let mut left = words;
     let mut k = 0;
     while k < 65536 {
-        if bindings::binding_answer(s, p, k) != answer::DONE {
+        let b = parts::next(s, p, i, left);
+        if b.answer != answer::DONE {
             return;
         }
-        binding(p, k, bindings::binding(s, p, k), n);
+        let from = b.from;
+        let to = b.to;
+        binding(p, k, &s[from..to], n);
+        i = to;
+        left = b.left;
         k += 1;
     }
 }

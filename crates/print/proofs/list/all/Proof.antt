@@ -1,14 +1,15 @@
--- `list::all`: the number of the binding grows up to 65,536.
+-- `list::all`: the number of the binding grows up to 65,536; a binding that is met lies in the list.
 use Prim.Native.Nat.{_-_}
 use borrow.Author.Needs.{needs}
+use Rattle.cursors.proofs.StepsInside.{binding-order, binding-end}
 use Rattle.print.proofs.list.all.Statement.{statement}
 use Rattle.print.proofs.list.all.Tie as tie
 
 abbrev Inv-loop : tie.InvT-loop
-Inv-loop s p n k₀ k = Unit {0}
+Inv-loop s p at words n i₀ left₀ k₀ i left k = Unit {0}
 
 abbrev μ-loop : tie.MeasureT-loop
-μ-loop s p n k₀ k = 65536 - k
+μ-loop s p at words n i₀ left₀ k₀ i left k = 65536 - k
 
 pub all-spec : {M : Type 1} → statement M
 all-spec =
@@ -19,7 +20,9 @@ all-spec =
     (λ c. search needs)
     (λ c κs. search needs)
     (λ c. search needs)
-    (λ c κs. search needs)
+    (λ c. search binding-order)
+    (λ c. search binding-order)
+    (λ c. search binding-end)
     (λ c κs. search needs)
     (λ c. search needs)
     (λ c. search needs)
