@@ -67,8 +67,8 @@ fn block_words(s: &[u8], at: usize, n: usize) -> usize
     i
 }
 
-// How many of the n words from at go up to and with the first zero word.
-fn text_words(s: &[u8], at: usize, n: usize) -> usize
+// How many of the n words from at go up to and with the first zero word, by blocks first.
+fn long_words(s: &[u8], at: usize, n: usize) -> usize
     requires { ⌜ at + 2 * n ≤ length (now s) ⌝ }
     ensures { λ r. ⌜ (r ≡ length (throughZero (words (now (s .entry)) at n))) × (r ≤ n) ⌝ }
 {
@@ -80,6 +80,29 @@ fn text_words(s: &[u8], at: usize, n: usize) -> usize
         i += 1;
     }
     n
+}
+
+// How many of n words are tested one by one before the blocks, for which a short text is too short.
+fn front_words(n: usize) -> usize
+    ensures { λ r. ⌜ r ≤ n ⌝ }
+{
+    if n < 3 { n } else { 3 }
+}
+
+// The same as `long_words`, for texts that may be short.
+fn text_words(s: &[u8], at: usize, n: usize) -> usize
+    requires { ⌜ at + 2 * n ≤ length (now s) ⌝ }
+    ensures { λ r. ⌜ (r ≡ length (throughZero (words (now (s .entry)) at n))) × (r ≤ n) ⌝ }
+{
+    let first = front_words(n);
+    let mut i = 0;
+    while i < first {
+        if fields::word(s, at + 2 * i) == 0 {
+            return i + 1;
+        }
+        i += 1;
+    }
+    i + long_words(s, at + 2 * i, n - i)
 }
 
 // How many words a binding has before its address or name.
