@@ -1,5 +1,5 @@
 // Columns: slices of one word for each row.
-mod buckets;
+pub mod buckets;
 pub mod members;
 pub mod order;
 pub mod rows;

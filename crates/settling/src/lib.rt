@@ -1,4 +1,5 @@
 // Rows that go: objects that do not stay, with their interfaces and memberships, and sets.
+use columns::buckets;
 use kinds::Oid;
 use kinds::Oxid;
 use table::find;
@@ -22,50 +23,29 @@ pub enum Leaving {
     Unheard(u64),
 }
 
-// A number below 4,096 for each OID.
-fn bucket(oid: Oid) -> usize
-    ensures { λ r. ⌜ r < 4096 ⌝ }
-{
-    let x = oid.0;
-    ((x % 4294967296 * 1013904223 + x / 4294967296 * 668265263) / 16777216 % 4096) as usize
-}
-
 fn row_of(hint: u8) -> usize {
     hint as usize
 }
 
-// Notes the row of each object under its bucket. What the hints then hold is undecided: whoever tries a row compares its OID.
-fn hint_objects<'a>(words: &'a [u64], hints: &'a mut [u8; 4096])
-    requires { ⌜ Whole (now words) ⌝ }
-{
-    let n = find::object_count(words);
-    let mut i = 0;
-    while i < n {
-        let b = bucket(find::oid(words, i));
-        hints[b] = (i % 256) as u8;
-        i += 1;
-    }
-}
-
-// The same for the rows of interfaces, under the OIDs that they name.
-fn hint_served<'a>(words: &'a [u64], hints: &'a mut [u8; 4096])
+// Notes the row of each interface under the bucket of the OID that it names, as `find::hint_objects` does for objects.
+fn hint_served<'a>(words: &'a [u64], hints: &'a mut [u8; buckets::BUCKETS])
     requires { ⌜ Whole (now words) ⌝ }
 {
     let n = find::interface_count(words);
     let mut i = 0;
     while i < n {
-        let b = bucket(find::interface_object(words, i));
+        let b = buckets::of_word(find::interface_object(words, i).0);
         hints[b] = (i % 256) as u8;
         i += 1;
     }
 }
 
 // Whether an interface names an object; a row is tried first.
-fn is_served<'a>(words: &'a [u64], hints: &'a [u8; 4096], oid: Oid) -> bool
+fn is_served<'a>(words: &'a [u64], hints: &'a [u8; buckets::BUCKETS], oid: Oid) -> bool
     requires { ⌜ Whole (now words) ⌝ }
     ensures { λ r. ⌜ Holds (λ e. r ≡ some (λ (i : Interface). eqb (oid .0) (i .object)) (e .interfaces)) (now (words .entry)) ⌝ }
 {
-    let b = bucket(oid);
+    let b = buckets::of_word(oid.0);
     let row = row_of(hints[b]);
     if row < find::interface_count(words) {
         let object = find::interface_object(words, row);
@@ -77,11 +57,11 @@ fn is_served<'a>(words: &'a [u64], hints: &'a [u8; 4096], oid: Oid) -> bool
 }
 
 // Whether an object is live; a row is tried first.
-fn is_live<'a>(words: &'a [u64], hints: &'a [u8; 4096], oid: Oid) -> bool
+fn is_live<'a>(words: &'a [u64], hints: &'a [u8; buckets::BUCKETS], oid: Oid) -> bool
     requires { ⌜ Whole (now words) ⌝ }
     ensures { λ r. ⌜ Holds (λ e. r ≡ isLiveObject e (oid .0)) (now (words .entry)) ⌝ }
 {
-    let b = bucket(oid);
+    let b = buckets::of_word(oid.0);
     let row = row_of(hints[b]);
     if row < find::object_count(words) {
         let there = find::oid(words, row);
@@ -93,7 +73,12 @@ fn is_live<'a>(words: &'a [u64], hints: &'a [u8; 4096], oid: Oid) -> bool
 }
 
 // Whether object i stays.
-fn is_staying<'a>(words: &'a [u64], i: usize, why: Leaving, hints: &'a [u8; 4096]) -> bool
+fn is_staying<'a>(
+    words: &'a [u64],
+    i: usize,
+    why: Leaving,
+    hints: &'a [u8; buckets::BUCKETS],
+) -> bool
     requires { ⌜ Whole (now words) × (i < objectCount (now words)) ⌝ }
     ensures { λ r. ⌜ Holds (λ e. r ≡ stays why e (getD (e .objects) i noObject)) (now (words .entry)) ⌝ }
 {
@@ -105,7 +90,7 @@ fn is_staying<'a>(words: &'a [u64], i: usize, why: Leaving, hints: &'a [u8; 4096
 }
 
 // Takes object i out, unless it stays.
-fn leave<'a>(words: &'a mut [u64], i: usize, why: Leaving, hints: &'a [u8; 4096])
+fn leave<'a>(words: &'a mut [u64], i: usize, why: Leaving, hints: &'a [u8; buckets::BUCKETS])
     requires { ⌜
         Whole (now words) × (i < objectCount (now words)) × (membersBelow (now words) ≡ true)
         × (distinct eqb (oidsOf (now words)) ≡ true) ⌝ }
@@ -126,7 +111,7 @@ fn drop_objects(words: &mut [u64], why: Leaving)
         Became (λ e. objectsLeft (stays why e) e) (now (words .entry)) (now (words .exit))
         × (membersBelow (now (words .exit)) ≡ true) ⌝ }
 {
-    let mut hints = [0u8; 4096];
+    let mut hints = [0u8; buckets::BUCKETS];
     hint_served(words, &mut hints);
     let mut i = find::object_count(words);
     while 0 < i {
@@ -136,7 +121,7 @@ fn drop_objects(words: &mut [u64], why: Leaving)
 }
 
 // Takes interface i out, unless its object is live.
-fn leave_interface<'a>(words: &'a mut [u64], i: usize, hints: &'a [u8; 4096])
+fn leave_interface<'a>(words: &'a mut [u64], i: usize, hints: &'a [u8; buckets::BUCKETS])
     requires { ⌜ Whole (now words) × (i < interfaceCount (now words)) ⌝ }
     ensures { λ _. ⌜ Became (interfaceLeftAt i) (now (words .entry)) (now (words .exit)) ⌝ }
 {
@@ -152,8 +137,8 @@ fn drop_interfaces(words: &mut [u64])
     requires { ⌜ Whole (now words) ⌝ }
     ensures { λ _. ⌜ Became interfacesLeft (now (words .entry)) (now (words .exit)) ⌝ }
 {
-    let mut hints = [0u8; 4096];
-    hint_objects(words, &mut hints);
+    let mut hints = [0u8; buckets::BUCKETS];
+    find::hint_objects(words, &mut hints);
     let mut i = find::interface_count(words);
     while 0 < i {
         i -= 1;

@@ -1,4 +1,5 @@
 // Rows of live entries by their identifiers, and what stands in them.
+use columns::buckets;
 use columns::members::Members;
 use kinds::Guid;
 use kinds::Oid;
@@ -124,6 +125,19 @@ pub fn object_row(words: &[u64], oid: Oid) -> usize
     ensures { λ r. ⌜ Holds (λ e. r ≡ objectRow e (oid .0)) (now (words .entry)) ⌝ }
 {
     columns::index_of(oids(words), oid.0)
+}
+
+// Notes the row of each object under its bucket. What the hints then hold is undecided: whoever tries a row compares its OID.
+pub fn hint_objects<'a>(words: &'a [u64], hints: &'a mut [u8; buckets::BUCKETS])
+    requires { ⌜ Whole (now words) ⌝ }
+{
+    let n = object_count(words);
+    let mut i = 0;
+    while i < n {
+        let b = buckets::of_word(oid(words, i).0);
+        hints[b] = (i % 256) as u8;
+        i += 1;
+    }
 }
 
 // The row of the set with a number; the number of live sets where there is none.

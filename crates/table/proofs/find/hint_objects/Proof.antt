@@ -1,11 +1,11 @@
--- `settling::hint_objects`: each store is within the array, and each row is below 2 ^ 8.
+-- `find::hint_objects`: each store is within the array, and each row is below 2 ^ 8.
 use Prim.Native.Nat.{_≤_, _-_}
 use mathlib.Core.Path.{_≡_}
 use native.Mathlib.Omega.{arith}
 use borrow.Author.Needs.{needs}
 use Rattle.table.specs.View.{objectCount}
-use Rattle.settling.proofs.hint_objects.Statement.{statement}
-use Rattle.settling.proofs.hint_objects.Tie as tie
+use Rattle.table.proofs.find.hint_objects.Statement.{statement}
+use Rattle.table.proofs.find.hint_objects.Tie as tie
 
 abbrev Inv-loop : tie.InvT-loop
 Inv-loop words hints₀ n i₀ hints i = (i ≤ n) × (n ≡ objectCount words) × (n ≤ 256)
