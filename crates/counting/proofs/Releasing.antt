@@ -26,9 +26,10 @@ use Rattle.edit.specs.Edits.{Became, changeInterface, dropInterface}
 use Rattle.table.proofs.LiveRows.{interfaces-length}
 use Rattle.settling.specs.Leaving.{withoutLeaving}
 use Rattle.settling.specs.declared.Leaving.the-variants.{NoInterface}
-use Rattle.counting.specs.Dropping.{InterfaceDropped}
+use Rattle.counting.specs.Dropping.{Serves, InterfaceDropped}
 use Rattle.counting.specs.Replies.{releaseReply}
 use Rattle.counting.proofs.TwoCounts.{counts-as, still-counted}
+use Rattle.counting.proofs.Dropping.{serves-counted}
 use Rattle.calls.proofs.Calls.{interface-tested, refused-step, accepted-step}
 
 -- clients are 0 to 7
@@ -137,6 +138,17 @@ module _ {ws s : List ℕ} {c : ℕ} {i : Guid} {p q r n : ℕ} {h : InterfaceCo
 
     pub still-members : membersLiveIn ws′ ≡ true
     still-members = ap setMembersLive (b s) ∙ sound-fields _ (k .found .table .entries) .setMembersLive
+
+    -- and so is who serves whom, whatever the store
+    pub still-serves : Holds (Serves r (h .object .0)) ws′
+    still-serves z =
+        let f = sound-fields _ (k .found .table .entries) in
+        let l = interfaces-length ws in
+        let d = k .found .count in
+        let m = k .live in
+        subst (Serves r (h .object .0)) (sym (b z))
+        (serves-counted r (h .object .0) stored (view (memory ws z)) (λ x. refl) (omega arith)
+        (record { its = ap (λ (x : InterfaceCounts). x .object .0) (k .counts); named = f .interfaceObjectsLive; serving = f .objectsHaveInterfaces }))
 
   -- the counts are stored
   module _ (ws′ : List ℕ) (b : Became (changeInterface r stored) ws ws′) {x : Bool} (tested : x ≡ held (getD (interfacesOf ws′) r noInterface)) where

@@ -16,7 +16,7 @@ ghost use Rattle.rules.specs.Calls.{Call, Edit, numbered};
 ghost use Rattle.table.specs.View.{interfaceCount, memory, view, Holds, SoundTable, Stepped, Performed, oidsOf, membersLiveIn};
 ghost use Rattle.edit.specs.Edits.{Became, changeInterface};
 ghost use Rattle.counting.specs.Replies.{releaseReply};
-ghost use Rattle.counting.specs.Dropping.{InterfaceDropped};
+ghost use Rattle.counting.specs.Dropping.{Serves, InterfaceDropped};
 ghost use Rattle.rules.specs.Contract.{Whole};
 
 // What a release took of each count, and how many interfaces and objects went: 0 or 1 of each.
@@ -49,13 +49,14 @@ pub fn add<'a>(
 }
 
 // The row of the interface with an IPID, as `find::interface_row` gives it; a row is tried first, which may be any number.
-fn interface_row<'a>(words: &'a [u64], store: &'a [u8], hint: usize, ipid: Guid) -> usize
+pub fn interface_row<'a>(words: &'a [u64], store: &'a [u8], hint: u8, ipid: Guid) -> usize
     requires { ⌜ SoundTable (memory (now words) (now store)) ⌝ }
     ensures { λ r. ⌜ Holds (λ e. r ≡ interfaceRow e ipid) (now (words .entry)) ⌝ }
 {
-    if hint < find::interface_count(words) {
-        if is_same(find::ipid(words, hint), ipid) {
-            return hint;
+    let row = hint as usize;
+    if row < find::interface_count(words) {
+        if is_same(find::ipid(words, row), ipid) {
+            return row;
         }
     }
     find::interface_row(words, ipid)
@@ -84,20 +85,21 @@ pub fn add_step<'a>(
         Stepped (Call.editing (Edit.add client ipid public private)) (memory (now (words .entry)) (now (store .entry)))
         (numbered r) (memory (now (words .exit)) (now (store .entry))) ⌝ }
 {
-    add_hinted(words, store, client, ipid, 0, public, private)
+    let i = find::interface_row(words, ipid);
+    add_at(words, store, client, ipid, i, public, private)
 }
 
-// The same with a row to try first.
-pub fn add_hinted<'a>(
+// The same at the row that the IPID has.
+pub fn add_at<'a>(
     words: &'a mut [u64],
     store: &'a [u8],
     client: u32,
     ipid: Guid,
-    hint: usize,
+    i: usize,
     public: u32,
     private: u32,
 ) -> u32
-    requires { ⌜ SoundTable (memory (now words) (now store)) ⌝ }
+    requires { ⌜ SoundTable (memory (now words) (now store)) × Holds (λ e. i ≡ interfaceRow e ipid) (now words) ⌝ }
     ensures { λ r. ⌜
         Stepped (Call.editing (Edit.add client ipid public private)) (memory (now (words .entry)) (now (store .entry)))
         (numbered r) (memory (now (words .exit)) (now (store .entry))) ⌝ }
@@ -105,7 +107,6 @@ pub fn add_hinted<'a>(
     if limits::LAST_CLIENT < client {
         return answer::NO_CLIENT;
     }
-    let i = interface_row(words, store, hint, ipid);
     if find::interface_count(words) <= i {
         return answer::NO_INTERFACE;
     }
@@ -151,18 +152,22 @@ fn refused(number: u32) -> Released
     }
 }
 
-// Takes interface i out, and with it each object that no interface names then; answers whether that is this object.
+// Takes interface i of this object out, and with it the object where no interface names it then; answers whether it went.
 fn drop_interface(words: &mut [u64], i: usize, object: Oid) -> u32
     requires { ⌜
         Whole (now words) × (i < interfaceCount (now words))
-        × (proper (oidsOf (now words)) ≡ true) × (membersLiveIn (now words) ≡ true) ⌝ }
+        × (proper (oidsOf (now words)) ≡ true) × (membersLiveIn (now words) ≡ true)
+        × Holds (Serves i (object .0)) (now words) ⌝ }
     ensures { λ r. ⌜
         ((s : List ℕ) → InterfaceDropped i (object .0) (view (memory (now (words .entry)) s)) r (view (memory (now (words .exit)) s))) ⌝ }
 {
     edit::remove_interface(words, i);
-    let served = find::is_served(words, object);
-    settling::remove_leaving(words, Leaving::NoInterface);
-    if served { 0 } else { 1 }
+    if find::is_served(words, object) {
+        return 0;
+    }
+    let row = find::object_row(words, object);
+    edit::remove_object(words, row);
+    1
 }
 
 // Gives references back: the public count and the client's private one fall by the smaller of the asked number and themselves. An
@@ -199,20 +204,21 @@ pub fn release_step<'a>(
         Stepped (Call.editing (Edit.release client ipid public private)) (memory (now (words .entry)) (now (store .entry)))
         (releaseReply r) (memory (now (words .exit)) (now (store .entry))) ⌝ }
 {
-    release_hinted(words, store, client, ipid, 0, public, private)
+    let i = find::interface_row(words, ipid);
+    release_at(words, store, client, ipid, i, public, private)
 }
 
-// The same with a row to try first.
-pub fn release_hinted<'a>(
+// The same at the row that the IPID has.
+pub fn release_at<'a>(
     words: &'a mut [u64],
     store: &'a [u8],
     client: u32,
     ipid: Guid,
-    hint: usize,
+    i: usize,
     public: u32,
     private: u32,
 ) -> Released
-    requires { ⌜ SoundTable (memory (now words) (now store)) ⌝ }
+    requires { ⌜ SoundTable (memory (now words) (now store)) × Holds (λ e. i ≡ interfaceRow e ipid) (now words) ⌝ }
     ensures { λ r. ⌜
         Stepped (Call.editing (Edit.release client ipid public private)) (memory (now (words .entry)) (now (store .entry)))
         (releaseReply r) (memory (now (words .exit)) (now (store .entry))) ⌝ }
@@ -220,7 +226,6 @@ pub fn release_hinted<'a>(
     if limits::LAST_CLIENT < client {
         return refused(answer::NO_CLIENT);
     }
-    let i = interface_row(words, store, hint, ipid);
     if find::interface_count(words) <= i {
         return refused(answer::NO_INTERFACE);
     }

@@ -11,14 +11,14 @@ use Rattle.kinds.specs.Refusals.{order}
 use Rattle.kinds.specs.declared.Guid.{Guid}
 use Rattle.fields.specs.Fields.{field, guidAt}
 use Rattle.lists.proofs.Tests.{same-or-not}
-use Rattle.rules.specs.Entries.{Entries, publicOf, privateOf}
+use Rattle.rules.specs.Entries.{Entries, publicOf, privateOf, interfaceRow}
 use Rattle.rules.specs.Calls.{Call, Edit, Counting, adding, releasing, Reply}
 use Rattle.rules.specs.Items.{Item, itemAt, itemCall}
 use Rattle.rules.specs.Rules.{isLiveInterface, interfaceOf, passesCount, noClient, refusals, number, next}
 use Rattle.rules.specs.Contract.{Memory}
 use Rattle.rules.proofs.Stepping.{reply-number, step-sound}
 use Rattle.rules.proofs.OneByOne.{item-done}
-use Rattle.table.specs.View.{view, SoundTable, Stepped}
+use Rattle.table.specs.View.{memory, view, Holds, SoundTable, Stepped}
 use Rattle.listing.specs.Listing.{wayOf, ItemStepped}
 
 -- the numbers of an item are bytes
@@ -49,6 +49,13 @@ item-stepped w c t {m} {m′} {x} s p words store =
           (same-or-not (x .number) 0);
       table = step-sound view (itemCall w c t) m s p words store;
     }
+
+-- the row of the IPID that was read
+pub item-row : (ws items : List ℕ) (k : ℕ) {i : Guid} {row : ℕ} → i ≡ guidAt items (24 * k) → Holds (λ e. row ≡ interfaceRow e (itemAt items k .ipid)) ws → Holds (λ e. row ≡ interfaceRow e i) ws
+item-row ws items k e h s = h s ∙ ap (interfaceRow (view (memory ws s))) (sym e)
+
+pub read-row : (ws items : List ℕ) (k : ℕ) {i : Guid} {row : ℕ} → i ≡ guidAt items (24 * k) → Holds (λ e. row ≡ interfaceRow e i) ws → Holds (λ e. row ≡ interfaceRow e (itemAt items k .ipid)) ws
+read-row ws items k e h s = h s ∙ ap (interfaceRow (view (memory ws s))) e
 
 -- the item that was read, given back or added
 module _ (c : ℕ) (s : List ℕ) (k : ℕ) {i : Guid} {p q : ℕ} (ipid : i ≡ guidAt s (24 * k)) (public : p ≡ field s (24 * k + 16) 4) (private : q ≡ field s (24 * k + 20) 4)

@@ -1,2 +1,3 @@
 pub mod ItemSteps
 pub mod Loop
+pub mod Unknown

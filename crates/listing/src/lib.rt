@@ -1,15 +1,20 @@
 // Whole lists of adds and releases: items of 24 bytes, an IPID and two counts, as RemAddRef and RemRelease carry them.
+use columns::buckets;
 use kinds::Guid;
 use kinds::answer;
 use kinds::limits;
 use table::find;
+ghost use mathlib.Core.Path.{_≡_};
 ghost use Prim.Native.Nat.{_≤_, _<_};
+ghost use lib.ListN.{length};
+ghost use Rattle.columns.specs.Buckets.{guidBucket, Marked};
 ghost use Rattle.rules.specs.Contract.{Whole};
+ghost use Rattle.rules.specs.Entries.{interfaceRow};
 ghost use Rattle.rules.specs.Rules.{mostListed};
 ghost use Rattle.rules.specs.Calls.{Call, adding, releasing};
 ghost use Rattle.rules.specs.Items.{itemAt};
-ghost use Rattle.table.specs.View.{memory, SoundTable, Stepped, Performed};
-ghost use Rattle.listing.specs.Listing.{wayOf, listReply, ItemStepped};
+ghost use Rattle.table.specs.View.{memory, Holds, SoundTable, Stepped, Performed};
+ghost use Rattle.listing.specs.Listing.{wayOf, listReply, ipidsOf, ListTaken, ItemStepped};
 
 // Adds references by a list of items for a client, and writes the number of each item to its byte of buffer, whose rest is kept:
 // 0, or 1; 20; 13; 10; 15. An item's own number is 0, 6 or 8, and does not stop the rest.
@@ -75,50 +80,141 @@ pub fn list_step<'a>(
     if buffer.len() < n {
         return answer::NO_ROOM;
     }
-    let mut hints = [0u8; 4096];
-    let mut live = hint_rows(words, &mut hints, 0);
+    if n < FEW {
+        return search_items(words, store, back, client, items, buffer);
+    }
+    note_items(words, store, back, client, items, buffer)
+}
+
+// A list of fewer items is not worth the notes of `note_rows`.
+const FEW: usize = 8;
+
+// The items of a list that is not refused, with a search for each.
+fn search_items<'a>(
+    words: &'a mut [u64],
+    store: &'a [u8],
+    back: bool,
+    client: u32,
+    items: &'a [u8],
+    buffer: &'a mut [u8],
+) -> u32
+    requires { ⌜ SoundTable (memory (now words) (now store)) × ListTaken client (now items) (now buffer) ⌝ }
+    ensures { λ r. ⌜
+        Stepped (Call.countList (wayOf back) client (now (items .entry)) (now (buffer .entry))) (memory (now (words .entry)) (now (store .entry)))
+        (listReply r (now (buffer .exit))) (memory (now (words .exit)) (now (store .entry))) ⌝ }
+{
+    let n = items.len() / 24;
     let mut k = 0;
     while k < n {
-        let number = item_step(words, store, back, client, items, k, &hints);
+        let row = find::interface_row(words, fields::read_guid(items, 24 * k));
+        let number = item_step(words, store, back, client, items, k, row);
         buffer[k] = number as u8;
-        live = hint_rows(words, &mut hints, live);
         k += 1;
     }
     answer::DONE
 }
 
-// A number below 4,096 for each IPID.
-fn bucket(g: Guid) -> usize
-    ensures { λ r. ⌜ r < 4096 ⌝ }
+// The same by notes of the interfaces' rows.
+fn note_items<'a>(
+    words: &'a mut [u64],
+    store: &'a [u8],
+    back: bool,
+    client: u32,
+    items: &'a [u8],
+    buffer: &'a mut [u8],
+) -> u32
+    requires { ⌜ SoundTable (memory (now words) (now store)) × ListTaken client (now items) (now buffer) ⌝ }
+    ensures { λ r. ⌜
+        Stepped (Call.countList (wayOf back) client (now (items .entry)) (now (buffer .entry))) (memory (now (words .entry)) (now (store .entry)))
+        (listReply r (now (buffer .exit))) (memory (now (words .exit)) (now (store .entry))) ⌝ }
 {
-    let low = g.low % 4294967296 * 1013904223 + g.low / 4294967296 * 668265263;
-    let high = g.high % 4294967296 * 374761393 + g.high / 4294967296 * 461845907;
-    ((low + high) / 16777216 % 4096) as usize
+    let n = items.len() / 24;
+    let mut marks = [false; buckets::BUCKETS];
+    let mut hints = [0u8; buckets::BUCKETS];
+    note_rows(words, &mut marks, &mut hints);
+    let mut live = find::interface_count(words);
+    let mut k = 0;
+    while k < n {
+        let row = noted_row(
+            words,
+            store,
+            &marks,
+            &hints,
+            fields::read_guid(items, 24 * k),
+        );
+        let number = item_step(words, store, back, client, items, k, row);
+        buffer[k] = number as u8;
+        live = follow_row(words, &mut hints, row, live);
+        k += 1;
+    }
+    answer::DONE
 }
 
-// Notes the row of each interface under its bucket, where there are not as many as before; answers how many there are. What the
-// hints then hold is undecided: whoever tries a row compares its IPID.
-fn hint_rows<'a>(words: &'a [u64], hints: &'a mut [u8; 4096], before: usize) -> usize
+// Marks the bucket of each IPID, and hints at its row there. Adds and releases enter no interface, so an IPID whose bucket has no mark
+// stays unknown. What the hints hold is undecided: whoever tries a row compares its IPID.
+fn note_rows<'a>(
+    words: &'a [u64],
+    marks: &'a mut [bool; buckets::BUCKETS],
+    hints: &'a mut [u8; buckets::BUCKETS],
+)
+    requires { ⌜ Whole (now words) × (length (now marks) ≡ 4096) ⌝ }
+    ensures { λ _. ⌜ Marked guidBucket (now (marks .exit)) (ipidsOf (now (words .entry))) ⌝ }
+{
+    let mut i = find::interface_count(words);
+    while 0 < i {
+        i -= 1;
+        let b = buckets::of_guid(find::ipid(words, i));
+        marks[b] = true;
+        hints[b] = (i % 256) as u8;
+    }
+}
+
+// The row of the interface with an IPID, as `find::interface_row` gives it.
+fn noted_row<'a>(
+    words: &'a [u64],
+    store: &'a [u8],
+    marks: &'a [bool; buckets::BUCKETS],
+    hints: &'a [u8; buckets::BUCKETS],
+    ipid: Guid,
+) -> usize
+    requires { ⌜ SoundTable (memory (now words) (now store)) × Marked guidBucket (now marks) (ipidsOf (now words)) ⌝ }
+    ensures { λ r. ⌜ Holds (λ e. r ≡ interfaceRow e ipid) (now (words .entry)) ⌝ }
+{
+    let b = buckets::of_guid(ipid);
+    if !marks[b] {
+        return find::interface_count(words);
+    }
+    counting::interface_row(words, store, hints[b], ipid)
+}
+
+// Where the interface at a row went, the hints at later rows follow. Answers how many interfaces there are.
+fn follow_row<'a>(
+    words: &'a [u64],
+    hints: &'a mut [u8; buckets::BUCKETS],
+    row: usize,
+    before: usize,
+) -> usize
     requires { ⌜ Whole (now words) ⌝ }
 {
     let n = find::interface_count(words);
     if n == before {
         return n;
     }
-    let mut i = 0;
-    while i < n {
-        let b = bucket(find::ipid(words, i));
-        hints[b] = (i % 256) as u8;
-        i += 1;
+    let gone = (row % 256) as u8;
+    let mut b = 0;
+    while b < buckets::BUCKETS {
+        hints[b] = moved(hints[b], gone);
+        b += 1;
     }
     n
 }
 
-fn row_of(hint: u8) -> usize {
-    hint as usize
+// A row after another one went.
+fn moved(row: u8, gone: u8) -> u8 {
+    if gone < row { row - 1 } else { row }
 }
 
-// Item k of a list.
+// Item k of a list, at the row that its IPID has.
 fn item_step<'a>(
     words: &'a mut [u64],
     store: &'a [u8],
@@ -126,9 +222,11 @@ fn item_step<'a>(
     client: u32,
     items: &'a [u8],
     k: usize,
-    hints: &'a [u8; 4096],
+    row: usize,
 ) -> u32
-    requires { ⌜ SoundTable (memory (now words) (now store)) × (k < mostListed) × (client ≤ 7) ⌝ }
+    requires { ⌜
+        SoundTable (memory (now words) (now store)) × (k < mostListed) × (client ≤ 7)
+        × Holds (λ e. row ≡ interfaceRow e (itemAt (now items) k .ipid)) (now words) ⌝ }
     ensures { λ r. ⌜
         ItemStepped (wayOf back) client (itemAt (now (items .entry)) k) (memory (now (words .entry)) (now (store .entry)))
         r (memory (now (words .exit)) (now (store .entry))) ⌝ }
@@ -136,11 +234,9 @@ fn item_step<'a>(
     let ipid = fields::read_guid(items, 24 * k);
     let public = fields::read_u32(items, 24 * k + 16);
     let private = fields::read_u32(items, 24 * k + 20);
-    let b = bucket(ipid);
-    let hint = row_of(hints[b]);
     if back {
-        let released = counting::release_hinted(words, store, client, ipid, hint, public, private);
+        let released = counting::release_at(words, store, client, ipid, row, public, private);
         return released.answer;
     }
-    counting::add_hinted(words, store, client, ipid, hint, public, private)
+    counting::add_at(words, store, client, ipid, row, public, private)
 }

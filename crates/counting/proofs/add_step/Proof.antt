@@ -1,13 +1,13 @@
--- `counting::add_step`: any row may be tried first.
+-- `counting::add_step`: the row of the IPID is searched.
 use borrow.Author.Needs.{needs}
 use Rattle.counting.proofs.add_step.Statement.{statement}
 use Rattle.counting.proofs.add_step.Tie as tie
 
-add-hinted-requires : tie.Need-add-hinted-requires
-add-hinted-requires c κs = c .before .before .before .pre
+add-at-requires : tie.Need-add-at-requires
+add-at-requires c κs = (c .before .before .before .before .before .pre, c .before .interface-row .ensures)
 
 returns : tie.Need-returns
-returns c = c .before .before .add-hinted .ensures
+returns c = c .before .before .add-at .ensures
 
 pub add-step-spec : {M : Type 1} → statement M
-add-step-spec = tie.close (tie.spec add-hinted-requires (λ c. search needs) returns)
+add-step-spec = tie.close (tie.spec (λ c κs. search needs) add-at-requires (λ c. search needs) returns)

@@ -1,4 +1,4 @@
--- `counting::add_hinted`: a client that is none is refused, an interface that is not live, then a sum that is too large; else the counts are stored.
+-- `counting::add_at`: a client that is none is refused, a row that is not live, then a sum that is too large; else the counts are stored.
 use Prim.Native.Nat.{ℕ, _+_, _^_, _<_, _≤_}
 use mathlib.Core.Path.{_≡_, refl, sym, ap, _∙_}
 use mathlib.Core.Bool.{true, false}
@@ -23,8 +23,8 @@ use Rattle.calls.proofs.Calls.{refused-step, accepted-step, row-gives, row-pass
 use Rattle.counting.proofs.TwoCounts.{counts-as}
 use Rattle.counting.proofs.Releasing.{client-missing, client-here}
 use borrow.Author.Needs.{needs}
-use Rattle.counting.proofs.add_hinted.Statement.{statement}
-use Rattle.counting.proofs.add_hinted.Tie as tie
+use Rattle.counting.proofs.add_at.Statement.{statement}
+use Rattle.counting.proofs.add_at.Tie as tie
 
 -- no such client
 no-client : (ws s : List ℕ) (c : ℕ) (i : Guid) (p q : ℕ) → 7 < c → 20 ≡ number (Call.editing (Edit.add c i p q)) (view (memory ws s))
@@ -69,12 +69,12 @@ within-count : (n : ℕ) → n ≤ 4294967295 → passesCount n ≡ false
 within-count n h = lt-leb (2 ^ 32) n (omega arith)
 
 -- the rows of the sums, where the interface was found
-sums-left : (c : tie.After-interface-counts) → let a = c .before .before .before .before .before .before .before .before .before .before .args in let h = c .interface-counts .result in
+sums-left : (c : tie.After-interface-counts) → let a = c .before .before .before .before .before .before .before .before .args in let h = c .interface-counts .result in
     number (Call.editing (Edit.add (a .client) (a .ipid) (a .public) (a .private))) (view (memory (a .words .now) (a .store .now)))
     ≡ order (passesCount (h .public + a .public) gives 8 ∷ passesCount (h .private + a .private) gives 8 ∷ [])
 sums-left c =
-    let a = c .before .before .before .before .before .before .before .before .before .before .args in
-    sums (a .words .now) (a .store .now) (a .client) (a .ipid) (a .public) (a .private) (c .before .before .before .before .before .before .before .if1 .left) (c .before .before .before .before .before .interface-row .ensures (a .store .now)) (c .before .before .before .interface-count .ensures .0)
+    let a = c .before .before .before .before .before .before .before .before .args in
+    sums (a .words .now) (a .store .now) (a .client) (a .ipid) (a .public) (a .private) (c .before .before .before .before .before .if1 .left) (c .before .before .before .before .before .before .before .before .pre .1 (a .store .now)) (c .before .before .before .interface-count .ensures .0)
     (c .interface-counts .ensures) (c .before .before .if2 .left)
 
 returns : tie.Need-returns
@@ -83,15 +83,12 @@ returns c =
     let a = c .before .before .before .args in
     refused-step 20 (no-client (a .words .now) (a .store .now) (a .client) (a .ipid) (a .public) (a .private) (c .if1 .taken)) (λ z. omega arith)
 
-interface-row-requires : tie.Need-interface-row-requires
-interface-row-requires c κs = c .before .before .before .before .pre
-
 returns-2 : tie.Need-returns-2
 unfolding refusedReply results
 returns-2 c =
-    let a = c .before .before .before .before .before .before .before .before .args in
+    let a = c .before .before .before .before .before .before .args in
     refused-step 6
-    (gone (a .words .now) (a .store .now) (a .client) (a .ipid) (a .public) (a .private) (c .before .before .before .before .before .if1 .left) (c .before .before .before .interface-row .ensures (a .store .now)) (c .before .interface-count .ensures .0) (c .if2 .taken))
+    (gone (a .words .now) (a .store .now) (a .client) (a .ipid) (a .public) (a .private) (c .before .before .before .if1 .left) (c .before .before .before .before .before .before .pre .1 (a .store .now)) (c .before .interface-count .ensures .0) (c .if2 .taken))
     (λ z. omega arith)
 
 returns-3 : tie.Need-returns-3
@@ -111,21 +108,20 @@ returns-4 c =
 returns-5 : tie.Need-returns-5
 unfolding acceptedReply results
 returns-5 c =
-    let a = c .before .before .before .before .before .before .before .before .before .before .before .before .before .before .before .before .before .before .args in
-    let t = c .before .before .before .before .before .before .before .before .before .before .before .before .before .before .before .before .before .before .pre in
+    let a = c .before .before .before .before .before .before .before .before .before .before .before .before .before .before .before .before .args in
+    let t = c .before .before .before .before .before .before .before .before .before .before .before .before .before .before .before .before .pre .0 in
     accepted-step 0
     (rows-end (row-passes _ _ _ (row-passes _ _ _ (sums-left (c .before .before .before .before .before .before .before .before)) (within-count _ (c .before .before .before .before .before .if3 .left))) (within-count _ (c .before .before .before .before .if4 .left))))
     refl _
     (c .before .before .set-counts .ensures (a .store .now)
-    ∙ added (a .words .now) (a .store .now) (a .client) (a .ipid) (a .public) (a .private) (c .before .before .before .before .before .before .before .before .before .before .before .before .before .before .before .if1 .left) (c .before .before .before .before .before .before .before .before .before .before .before .before .before .interface-row .ensures (a .store .now)) (c .before .before .before .before .before .before .before .before .before .before .before .interface-count .ensures .0)
+    ∙ added (a .words .now) (a .store .now) (a .client) (a .ipid) (a .public) (a .private) (c .before .before .before .before .before .before .before .before .before .before .before .before .before .if1 .left) (c .before .before .before .before .before .before .before .before .before .before .before .before .before .before .before .before .pre .1 (a .store .now)) (c .before .before .before .before .before .before .before .before .before .before .before .interface-count .ensures .0)
     (c .before .before .before .before .before .before .before .before .interface-counts .ensures) (c .before .before .before .before .before .before .before .before .before .before .if2 .left) (t .entries))
 
-pub add-hinted-spec : {M : Type 1} → statement M
-add-hinted-spec =
+pub add-at-spec : {M : Type 1} → statement M
+add-at-spec =
     tie.close
     (tie.spec
     returns
-    interface-row-requires
     (λ c κs. search needs)
     (λ c. search needs)
     returns-2
