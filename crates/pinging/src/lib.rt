@@ -1,4 +1,5 @@
 // Pings: the sets of objects that a client keeps alive.
+use columns::buckets;
 use columns::members::Members;
 use kinds::Oid;
 use kinds::SetId;
@@ -11,7 +12,7 @@ ghost use mathlib.Core.Bool.{true};
 ghost use mathlib.Core.List.{List, []};
 ghost use Prim.Native.Nat.{ℕ, _-_, _^_, _<_};
 ghost use Rattle.kinds.specs.Refusals.{order};
-ghost use Rattle.rules.specs.Entries.{oids, setPlaces};
+ghost use Rattle.rules.specs.Entries.{oids, objectRow, setPlaces};
 ghost use Rattle.rules.specs.Sound.{proper};
 ghost use Rattle.rules.specs.Rules.{staleSequence, pingSetNumber, heardNow};
 ghost use Rattle.rules.specs.Calls.{Call, Edit, numbered};
@@ -149,13 +150,55 @@ struct Listed {
     live: bool,
 }
 
+// Lists with fewer OIDs are not worth hints.
+const FEW: usize = 8;
+
+// Hints at the rows of the objects, where a list is not short.
+fn hint_listed<'a>(
+    words: &'a [u64],
+    hints: &'a mut [u8; buckets::BUCKETS],
+    adds: usize,
+    deletes: usize,
+)
+    requires { ⌜ Whole (now words) ⌝ }
+{
+    if adds < FEW {
+        if deletes < FEW {
+            return;
+        }
+    }
+    find::hint_objects(words, hints);
+}
+
+// The row of the object with an OID, as `find::object_row` gives it; a row is tried first, which may be any number.
+fn object_row(words: &[u64], hint: u8, oid: Oid) -> usize
+    requires { ⌜ Whole (now words) × (proper (oidsOf (now words)) ≡ true) ⌝ }
+    ensures { λ r. ⌜ Holds (λ e. r ≡ objectRow e (oid .0)) (now (words .entry)) ⌝ }
+{
+    let row = hint as usize;
+    if row < find::object_count(words) {
+        let there = find::oid(words, row);
+        if oid.0 == there.0 {
+            return row;
+        }
+    }
+    find::object_row(words, oid)
+}
+
 // One more OID; one that is not live changes no member.
-fn update_member(words: &[u64], listed: Listed, oid: Oid, member: bool) -> Listed
+fn update_member<'a>(
+    words: &'a [u64],
+    hints: &'a [u8; buckets::BUCKETS],
+    listed: Listed,
+    oid: Oid,
+    member: bool,
+) -> Listed
     requires { ⌜ Whole (now words) × (proper (oidsOf (now words)) ≡ true) ⌝ }
     ensures { λ r. ⌜ Holds (λ e. OneListed «member» (oids e) (oid .0) listed r) (now (words .entry)) ⌝ }
 {
     let members = listed.members;
-    let row = find::object_row(words, oid);
+    let b = buckets::of_word(oid.0);
+    let row = object_row(words, hints[b], oid);
     if find::object_count(words) <= row {
         return Listed {
             members: members,
@@ -169,7 +212,13 @@ fn update_member(words: &[u64], listed: Listed, oid: Oid, member: bool) -> Liste
 }
 
 // The OIDs of a list; of one to be added no further than the first that is not live.
-fn update_members<'a>(words: &'a [u64], members: Members, ids: &'a [u64], member: bool) -> Listed
+fn update_members<'a>(
+    words: &'a [u64],
+    hints: &'a [u8; buckets::BUCKETS],
+    members: Members,
+    ids: &'a [u64],
+    member: bool,
+) -> Listed
     requires { ⌜ Whole (now words) × (proper (oidsOf (now words)) ≡ true) ⌝ }
     ensures { λ r. ⌜ Holds (λ e. AllListed «member» (oids e) (now (ids .entry)) members r) (now (words .entry)) ⌝ }
 {
@@ -179,7 +228,7 @@ fn update_members<'a>(words: &'a [u64], members: Members, ids: &'a [u64], member
     };
     let mut k = 0;
     while k < ids.len() {
-        listed = update_member(words, listed, Oid(ids[k]), member);
+        listed = update_member(words, hints, listed, Oid(ids[k]), member);
         if !listed.live {
             return listed;
         }
@@ -191,6 +240,7 @@ fn update_members<'a>(words: &'a [u64], members: Members, ids: &'a [u64], member
 // The same of OIDs in bytes.
 fn update_members_bytes<'a>(
     words: &'a [u64],
+    hints: &'a [u8; buckets::BUCKETS],
     members: Members,
     bytes: &'a [u8],
     member: bool,
@@ -205,7 +255,13 @@ fn update_members_bytes<'a>(
     let n = bytes.len() / 8;
     let mut k = 0;
     while k < n {
-        listed = update_member(words, listed, Oid(fields::read_u64(bytes, 8 * k)), member);
+        listed = update_member(
+            words,
+            hints,
+            listed,
+            Oid(fields::read_u64(bytes, 8 * k)),
+            member,
+        );
         if !listed.live {
             return listed;
         }
@@ -320,12 +376,14 @@ pub fn complex_ping_step<'a>(
         return refused(number);
     }
     let before = members_before(words, set);
-    let joined = update_members(words, before, adds, true);
+    let mut hints = [0u8; buckets::BUCKETS];
+    hint_listed(words, &mut hints, adds.len(), deletes.len());
+    let joined = update_members(words, &hints, before, adds, true);
     if !joined.live {
         return refused(answer::NO_OBJECT);
     }
     let members = joined.members;
-    let left = update_members(words, members, deletes, false);
+    let left = update_members(words, &hints, members, deletes, false);
     let after = left.members;
     ping_listed(words, store, set, sequence, after)
 }
@@ -349,12 +407,14 @@ pub fn complex_ping_bytes_step<'a>(
         return refused(number);
     }
     let before = members_before(words, set);
-    let joined = update_members_bytes(words, before, adds, true);
+    let mut hints = [0u8; buckets::BUCKETS];
+    hint_listed(words, &mut hints, adds.len() / 8, deletes.len() / 8);
+    let joined = update_members_bytes(words, &hints, before, adds, true);
     if !joined.live {
         return refused(answer::NO_OBJECT);
     }
     let members = joined.members;
-    let left = update_members_bytes(words, members, deletes, false);
+    let left = update_members_bytes(words, &hints, members, deletes, false);
     let after = left.members;
     ping_listed(words, store, set, sequence, after)
 }

@@ -45,36 +45,39 @@ members-before-requires c κs =
     let a = st .args in
     (st .pre .words, early-named (a .set .0) (a .sequence) (length (a .adds .now)) (length (a .deletes .now)) (At st []) (sym (early (c .before .before) []) ∙ c .before .if1 .left), sound-below (a .words .now) (a .store .now) (st .pre))
 
+hint-listed-requires : tie.Need-hint-listed-requires
+hint-listed-requires c κs = c .before .before .before .before .before .before .before .before .before .before .before .pre .words
+
 update-members-requires : tie.Need-update-members-requires
-update-members-requires c κs = let t = c .before .before .before .before .before .before .before .before .before .before .pre in (t .words, sound-fields _ (t .entries) .objectsProper)
+update-members-requires c κs = let t = c .before .before .before .before .before .before .before .before .before .before .before .before .before .before .pre in (t .words, sound-fields _ (t .entries) .objectsProper)
 
 returns-2 : tie.Need-returns-2
 unfolding refusedReply results
 returns-2 c =
-    let st = c .before .before .before .before .before .before .before .before .before .before .before .before .before .before in
+    let st = c .before .before .before .before .before .before .before .before .before .before .before .before .before .before .before .before .before .before in
     let a = st .args in
     let s = a .store .now in
     let dead = sym (c .before .before .before .update-members .ensures s .live) ∙ not-true _ (c .before .if2 .taken) in
-    rw (c .refused2 .ensures) (refused-step 5 (dead-gives (a .set .0) (a .sequence) (a .adds .now) (a .deletes .now) (At st s) (sym (early (c .before .before .before .before .before .before .before .before) s) ∙ c .before .before .before .before .before .before .before .if1 .left) dead) (λ z. omega arith))
+    rw (c .refused2 .ensures) (refused-step 5 (dead-gives (a .set .0) (a .sequence) (a .adds .now) (a .deletes .now) (At st s) (sym (early (c .before .before .before .before .before .before .before .before .before .before .before .before) s) ∙ c .before .before .before .before .before .before .before .before .before .before .before .if1 .left) dead) (λ z. omega arith))
 
 update-members-requires-2 : tie.Need-update-members-requires-2
-update-members-requires-2 c κs = let t = c .before .before .before .before .before .before .before .before .before .before .before .before .before .before .before .pre in (t .words, sound-fields _ (t .entries) .objectsProper)
+update-members-requires-2 c κs = let t = c .before .before .before .before .before .before .before .before .before .before .before .before .before .before .before .before .before .before .before .before .pre in (t .words, sound-fields _ (t .entries) .objectsProper)
 
 ping-listed-requires : tie.Need-ping-listed-requires
 ping-listed-requires c κs =
-    let st = c .before .before .before .before .before .before .before .before .before .before .before .before .before .before .before .before .before .before in
+    let st = c .before .before .before .before .before .before .before .before .before .before .before .before .before .before .before .before .before .before .before .before .before .before .before in
     let a = st .args in
-    (st .pre, early-named (a .set .0) (a .sequence) (length (a .adds .now)) (length (a .deletes .now)) (At st (a .store .now)) (sym (early (c .before .before .before .before .before .before .before .before .before .before .before .before) (a .store .now)) ∙ c .before .before .before .before .before .before .before .before .before .before .before .if1 .left))
+    (st .pre, early-named (a .set .0) (a .sequence) (length (a .adds .now)) (length (a .deletes .now)) (At st (a .store .now)) (sym (early (c .before .before .before .before .before .before .before .before .before .before .before .before .before .before .before .before .before) (a .store .now)) ∙ c .before .before .before .before .before .before .before .before .before .before .before .before .before .before .before .before .if1 .left))
 
 returns-3 : tie.Need-returns-3
 returns-3 c =
-    let st = c .before .before .before .before .before .before .before .before .before .before .before .before .before .before .before .before .before .before .before .before .before in
+    let st = c .before .before .before .before .before .before .before .before .before .before .before .before .before .before .before .before .before .before .before .before .before .before .before .before .before .before in
     let a = st .args in
     let s = a .store .now in
     let n = oids-length (a .words .now) in
     c .before .before .ping-listed .ensures (a .adds .now) (a .deletes .now)
-    (reduced (a .set .0) (a .sequence) (a .adds .now) (a .deletes .now) (At st s) (sound-fields _ (st .pre .entries) .objectsProper) (omega arith) (sym (early (c .before .before .before .before .before .before .before .before .before .before .before .before .before .before .before) s) ∙ c .before .before .before .before .before .before .before .before .before .before .before .before .before .before .if1 .left)
-    (c .before .before .before .before .before .before .before .before .before .before .before .before .members-before .ensures s) (c .before .before .before .before .before .before .before .before .before .before .update-members .ensures s) (not-false _ (c .before .before .before .before .before .before .before .before .if2 .left)) (c .before .before .before .before .before .update-members2 .ensures s))
+    (reduced (a .set .0) (a .sequence) (a .adds .now) (a .deletes .now) (At st s) (sound-fields _ (st .pre .entries) .objectsProper) (omega arith) (sym (early (c .before .before .before .before .before .before .before .before .before .before .before .before .before .before .before .before .before .before .before .before) s) ∙ c .before .before .before .before .before .before .before .before .before .before .before .before .before .before .before .before .before .before .before .if1 .left)
+    (c .before .before .before .before .before .before .before .before .before .before .before .before .before .before .before .before .before .members-before .ensures s) (c .before .before .before .before .before .before .before .before .before .before .before .update-members .ensures s) (not-false _ (c .before .before .before .before .before .before .before .before .before .if2 .left)) (c .before .before .before .before .before .update-members2 .ensures s))
 
 pub complex-ping-step-spec : {M : Type 1} → statement M
 complex-ping-step-spec =
@@ -85,6 +88,7 @@ complex-ping-step-spec =
     (λ c. search needs)
     returns
     members-before-requires
+    hint-listed-requires
     update-members-requires
     (λ c κs. search needs)
     (λ c. search needs)

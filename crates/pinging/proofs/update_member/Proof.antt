@@ -14,7 +14,7 @@ use Rattle.pinging.proofs.update_member.Tie as tie
 
 returns : tie.Need-returns
 returns c s =
-    let start = c .before .before .before .before .before in
+    let start = c .before .before .before .before .before .before .before in
     let a = start .args in
     let n = oids-length (a .words .now) in
     let row = c .before .before .object-row .ensures s in
@@ -26,7 +26,7 @@ returns c s =
 
 returns-2 : tie.Need-returns-2
 returns-2 c s =
-    let start = c .before .before .before .before .before .before in
+    let start = c .before .before .before .before .before .before .before .before in
     let a = start .args in
     let n = oids-length (a .words .now) in
     let row = c .before .before .before .object-row .ensures s in
@@ -38,4 +38,12 @@ returns-2 c s =
 
 pub update-member-spec : {M : Type 1} → statement M
 update-member-spec =
-    tie.close (tie.spec (λ c κs. search needs) (λ c κs. search needs) returns (λ c κs. search needs) returns-2)
+    tie.close
+    (tie.spec
+    (λ c κs. search needs)
+    (λ c. search needs)
+    (λ c κs. search needs)
+    (λ c κs. search needs)
+    returns
+    (λ c κs. search needs)
+    returns-2)

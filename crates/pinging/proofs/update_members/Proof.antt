@@ -15,11 +15,11 @@ use Rattle.pinging.proofs.update_members.Statement.{statement}
 use Rattle.pinging.proofs.update_members.Tie as tie
 
 abbrev Inv-loop : tie.InvT-loop
-Inv-loop words ids member listed₀ k₀ listed k =
+Inv-loop words hints ids member listed₀ k₀ listed k =
     (k ≤ length ids) × (listed .live ≡ true) × ((s : List ℕ) → AllListed member (oids (view (memory words s))) (take k ids) (listed₀ .members) listed)
 
 abbrev μ-loop : tie.MeasureT-loop
-μ-loop words ids member listed₀ k₀ listed k = length ids - k
+μ-loop words hints ids member listed₀ k₀ listed k = length ids - k
 
 loop-holds : tie.Need-loop-holds Inv-loop μ-loop
 loop-holds c =

@@ -17,11 +17,11 @@ use Rattle.pinging.proofs.update_members_bytes.Statement.{statement}
 use Rattle.pinging.proofs.update_members_bytes.Tie as tie
 
 abbrev Inv-loop : tie.InvT-loop
-Inv-loop words bytes member listed₀ n k₀ listed k =
+Inv-loop words hints bytes member listed₀ n k₀ listed k =
     (k ≤ n) × (listed .live ≡ true) × ((s : List ℕ) → AllListed member (oids (view (memory words s))) (take k (oidsIn bytes)) (listed₀ .members) listed)
 
 abbrev μ-loop : tie.MeasureT-loop
-μ-loop words bytes member listed₀ n k₀ listed k = n - k
+μ-loop words hints bytes member listed₀ n k₀ listed k = n - k
 
 loop-holds : tie.Need-loop-holds Inv-loop μ-loop
 loop-holds c =
