@@ -7,3 +7,4 @@ pub mod Filtering
 pub mod FilterLoops
 pub mod FilterWriting
 pub mod FilterTowers
+pub mod Marks

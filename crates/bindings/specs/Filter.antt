@@ -1,5 +1,5 @@
 -- A binding list with only the string bindings of the requested protocols (document 02, request 6).
-use Prim.Native.Nat.{ℕ, _*_, _/_}
+use Prim.Native.Nat.{ℕ, _*_, _/_, _%_, _^_}
 use mathlib.Core.Path.{_≡_}
 use mathlib.Core.Bool.{Bool, true, cond}
 use mathlib.Core.List.{List, [], _∷_, _++_, map}
@@ -33,6 +33,15 @@ wordsIn s = tabulate (length s / 2) (λ k. field s (2 * k) 2)
 -- the towers of a string part's bindings that are requested
 abbrev pub towersOf : List ℕ → List ℕ → List ℕ
 towersOf protocols ws = keep (among protocols) (map (λ (b : List ℕ). getD b 0 0) (bindingsOf Strings ws))
+
+-- marks of numbers, a bit for each in words of 64 bits
+unfoldable pub isMarked : List ℕ → ℕ → Bool
+isMarked ms x = eqb (getD ms (x / 64) 0 / 2 ^ (x % 64) % 2) 1
+
+-- the numbers of a list are marked, and no others
+pub record Marks (ms xs : List ℕ) : Type 0 where
+  pub size : length ms ≡ 1024
+  pub each : (x : ℕ) → isMarked ms x ≡ among xs x
 
 -- ---- writing it into a buffer of n bytes
 

@@ -5,14 +5,14 @@ use crate::list_answer;
 use kinds::answer;
 ghost use mathlib.Core.Path.{_≡_};
 ghost use mathlib.Core.Bool.{cond};
-ghost use mathlib.Core.List.{[], _∷_, _++_};
-ghost use Prim.Native.Nat.{_+_, _*_, _<_, _≤_};
+ghost use mathlib.Core.List.{List, [], _∷_, _++_};
+ghost use Prim.Native.Nat.{ℕ, _+_, _*_, _<_, _≤_};
 ghost use lib.ListN.{length, take};
 ghost use Rattle.lists.specs.Lists.{among};
 ghost use Rattle.fields.specs.Fields.{written, stored};
 ghost use Rattle.bindings.specs.Bindings.{words, joined, split, listAnswer};
 ghost use Rattle.bindings.specs.ListBytes.{wordBytes};
-ghost use Rattle.bindings.specs.Filter.{requested, filtered, chosen, wordsIn, towersOf, writeFiltered};
+ghost use Rattle.bindings.specs.Filter.{requested, filtered, chosen, wordsIn, towersOf, isMarked, Marks, writeFiltered};
 
 // A writer's answer, and the number of bytes that it wrote.
 #[repr(C)]
@@ -34,19 +34,49 @@ fn is_requested(protocols: &[u16], tower: u16) -> bool
     false
 }
 
-// The same of protocols in bytes, two for each.
-fn is_requested_bytes(protocols: &[u8], tower: u16) -> bool
-    ensures { λ r. ⌜ r ≡ among (wordsIn (now (protocols .entry))) tower ⌝ }
+// Marks of the numbers below 65,536: a bit for each.
+pub const MARKS: usize = 1024;
+
+// Marks one more number.
+fn mark(marks: &mut [u64; MARKS], x: u16)
+    ensures { λ _. ⌜ ((xs : List ℕ) → Marks (now (marks .entry)) xs → Marks (now (marks .exit)) (x ∷ xs)) ⌝ }
 {
-    let n = protocols.len() / 2;
-    let mut i = 0;
-    while i < n {
-        if tower == fields::word(protocols, 2 * i) {
-            return true;
-        }
-        i += 1;
+    let n = x as usize;
+    let i = n / 64;
+    let bit = 1u64 << (n % 64);
+    marks[i] = marks[i] | bit;
+}
+
+fn is_marked(marks: &[u64; MARKS], x: u16) -> bool
+    ensures { λ r. ⌜ r ≡ isMarked (now (marks .entry)) x ⌝ }
+{
+    let n = x as usize;
+    let i = n / 64;
+    (marks[i] >> (n % 64)) % 2 == 1
+}
+
+// Marks the protocols, where nothing is marked yet.
+pub fn mark_all(marks: &mut [u64; MARKS], protocols: &[u16])
+    requires { ⌜ Marks (now marks) [] ⌝ }
+    ensures { λ _. ⌜ Marks (now (marks .exit)) (now (protocols .entry)) ⌝ }
+{
+    let mut i = protocols.len();
+    while 0 < i {
+        i -= 1;
+        mark(marks, protocols[i]);
     }
-    false
+}
+
+// The same of protocols in bytes, two for each.
+pub fn mark_all_bytes(marks: &mut [u64; MARKS], protocols: &[u8])
+    requires { ⌜ Marks (now marks) [] ⌝ }
+    ensures { λ _. ⌜ Marks (now (marks .exit)) (wordsIn (now (protocols .entry))) ⌝ }
+{
+    let mut i = protocols.len() / 2;
+    while 0 < i {
+        i -= 1;
+        mark(marks, fields::word(protocols, 2 * i));
+    }
 }
 
 // Puts a tower at n where it is wanted, and gives the place after it.
@@ -62,13 +92,14 @@ fn put_tower(towers: &mut [u16], n: usize, tower: u16, wanted: bool) -> usize
     n
 }
 
-// Puts the towers of a list's string bindings that are requested at the front of towers, and gives their number: of protocols in bytes
-// they alone matter for the list.
-pub fn requested_towers(s: &[u8], protocols: &[u8], towers: &mut [u16]) -> usize
+// Puts the towers of a list's string bindings that are marked at the front of towers, and gives their number: of the protocols they
+// alone matter for the list.
+pub fn requested_towers(s: &[u8], marks: &[u64; MARKS], towers: &mut [u16]) -> usize
     requires { ⌜ (listAnswer (now s) ≡ 0) × (split (now s) ≤ length (now towers)) ⌝ }
     ensures { λ r. ⌜
         (r ≤ length (now (towers .exit)))
-        × (take r (now (towers .exit)) ≡ towersOf (wordsIn (now (protocols .entry))) (words (now (s .entry)) 4 (split (now (s .entry))))) ⌝ }
+        × ((protocols : List ℕ) → Marks (now (marks .entry)) protocols
+        → take r (now (towers .exit)) ≡ towersOf protocols (words (now (s .entry)) 4 (split (now (s .entry))))) ⌝ }
 {
     let mut i = 4;
     let mut left = fields::read_u16(s, 2) as usize;
@@ -78,7 +109,7 @@ pub fn requested_towers(s: &[u8], protocols: &[u8], towers: &mut [u16]) -> usize
         if tower == 0 {
             return n;
         }
-        n = put_tower(towers, n, tower, is_requested_bytes(protocols, tower));
+        n = put_tower(towers, n, tower, is_marked(marks, tower));
         let m = binding_words(s, i, left, Part::Strings);
         i += 2 * m;
         left -= m;

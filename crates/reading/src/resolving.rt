@@ -6,8 +6,12 @@ use kinds::answer;
 use kinds::limits;
 use table::find;
 ghost use mathlib.Core.Path.{_≡_};
-ghost use Rattle.bindings.specs.Filter.{wordsIn};
+ghost use mathlib.Core.Bool.{false};
+ghost use mathlib.Core.List.{List};
+ghost use Prim.Native.Nat.{ℕ};
+ghost use Rattle.bindings.specs.Filter.{wordsIn, Marks};
 ghost use Rattle.rules.specs.Calls.{Call, Look};
+ghost use Rattle.rules.specs.Rules.{tooMany};
 ghost use Rattle.table.specs.View.{memory, SoundTable, Stepped, Performed};
 ghost use Rattle.reading.specs.Replies.{resolveReply};
 
@@ -89,8 +93,35 @@ pub fn resolve_filtered<'a>(
     resolve_filtered_step(words, store, oxid, protocols, buffer)
 }
 
+// A request of more protocols is read once, into marks.
+const FEW: usize = 64;
+
 // The same on a sound table.
 pub fn resolve_filtered_step<'a>(
+    words: &'a [u64],
+    store: &'a [u8],
+    oxid: Oxid,
+    protocols: &'a [u16],
+    buffer: &'a mut [u8],
+) -> Resolved
+    requires { ⌜ SoundTable (memory (now words) (now store)) ⌝ }
+    ensures { λ r. ⌜
+        Stepped (Call.looking (Look.resolveFiltered (oxid .0) (now (protocols .entry)) (now (buffer .entry)))) (memory (now (words .entry)) (now (store .entry)))
+        (resolveReply r (now (buffer .exit))) (memory (now (words .entry)) (now (store .entry))) ⌝ }
+{
+    if protocols.len() <= FEW {
+        return resolve_searched(words, store, oxid, protocols, buffer);
+    }
+    if answer::MOST_LISTED < protocols.len() {
+        return refused(answer::TOO_MANY);
+    }
+    let mut marks = [0u64; filter::MARKS];
+    filter::mark_all(&mut marks, protocols);
+    resolve_marked(words, store, oxid, &marks, buffer)
+}
+
+// The same with a search of the protocols for each binding.
+fn resolve_searched<'a>(
     words: &'a [u64],
     store: &'a [u8],
     oxid: Oxid,
@@ -122,7 +153,31 @@ pub fn resolve_filtered_step<'a>(
     }
 }
 
-// The same of protocols in bytes, two for each, little-endian, in any place: of them only the towers that the list has matter.
+// The same of protocols that are marked, within the limit: of them only the towers that the list has matter.
+fn resolve_marked<'a>(
+    words: &'a [u64],
+    store: &'a [u8],
+    oxid: Oxid,
+    marks: &'a [u64; filter::MARKS],
+    buffer: &'a mut [u8],
+) -> Resolved
+    requires { ⌜ SoundTable (memory (now words) (now store)) ⌝ }
+    ensures { λ r. ⌜
+        ((protocols : List ℕ) → tooMany protocols ≡ false → Marks (now (marks .entry)) protocols
+        → Stepped (Call.looking (Look.resolveFiltered (oxid .0) protocols (now (buffer .entry)))) (memory (now (words .entry)) (now (store .entry)))
+        (resolveReply r (now (buffer .exit))) (memory (now (words .entry)) (now (store .entry)))) ⌝ }
+{
+    let i = find::exporter_row(words, oxid);
+    if find::exporter_count(words) <= i {
+        return refused(answer::NO_EXPORTER);
+    }
+    let list = find::list(words, store, i);
+    let mut towers = [0u16; limits::LONGEST_LIST / 2];
+    let n = filter::requested_towers(list, marks, &mut towers);
+    resolve_searched(words, store, oxid, &towers[..n], buffer)
+}
+
+// The same of protocols in bytes, two for each, little-endian, in any place.
 pub fn resolve_filtered_bytes_step<'a>(
     words: &'a [u64],
     store: &'a [u8],
@@ -138,12 +193,7 @@ pub fn resolve_filtered_bytes_step<'a>(
     if answer::MOST_LISTED < protocols.len() / 2 {
         return refused(answer::TOO_MANY);
     }
-    let i = find::exporter_row(words, oxid);
-    if find::exporter_count(words) <= i {
-        return refused(answer::NO_EXPORTER);
-    }
-    let list = find::list(words, store, i);
-    let mut towers = [0u16; limits::LONGEST_LIST / 2];
-    let n = filter::requested_towers(list, protocols, &mut towers);
-    resolve_filtered_step(words, store, oxid, &towers[..n], buffer)
+    let mut marks = [0u64; filter::MARKS];
+    filter::mark_all_bytes(&mut marks, protocols);
+    resolve_marked(words, store, oxid, &marks, buffer)
 }
