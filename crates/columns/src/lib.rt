@@ -168,7 +168,7 @@ fn word_at(col: &[u64], i: usize) -> u64
 }
 
 // The GUID whose halves stand at i; a half is 0 past its column's end.
-fn guid_at<'a>(lows: &'a [u64], highs: &'a [u64], i: usize) -> Guid
+pub fn guid_at<'a>(lows: &'a [u64], highs: &'a [u64], i: usize) -> Guid
     ensures { λ r. ⌜ r ≡ guidAt (now (lows .entry)) (now (highs .entry)) i ⌝ }
 {
     Guid {
@@ -208,7 +208,7 @@ pub fn guid_index_of<'a>(lows: &'a [u64], highs: &'a [u64], g: Guid) -> usize
     guid_index_from(lows, highs, 0, g)
 }
 
-fn has_guid_from<'a>(lows: &'a [u64], highs: &'a [u64], from: usize, g: Guid) -> bool
+pub fn has_guid_from<'a>(lows: &'a [u64], highs: &'a [u64], from: usize, g: Guid) -> bool
     ensures { λ r. ⌜ r ≡ some (sameGuid g) (drop from (guids (now (lows .entry)) (now (highs .entry)))) ⌝ }
 {
     guid_index_from(lows, highs, from, g) < lows.len()

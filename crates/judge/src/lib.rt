@@ -5,20 +5,11 @@ ghost use mathlib.Core.Path.{_≡_};
 ghost use mathlib.Core.Bool.{true};
 ghost use Prim.Native.Nat.{_<_};
 ghost use Rattle.lists.specs.Lists.{holding};
-ghost use Rattle.rules.specs.Entries.{oids, ipids};
+ghost use mathlib.Core.List.{[], _∷_};
+ghost use Rattle.rules.specs.Entries.{oxids, oids, ipids};
 ghost use Rattle.table.specs.View.{memory, view, soundMemory, Holds, oidsOf};
 ghost use Rattle.rules.specs.Contract.{Whole};
-ghost use Rattle.rules.specs.Sound.{proper, properGuids, interfacesHeld, setMembersLive, heardRecently, listsKept, exporterClauses, objectClauses, interfaceClauses, setClauses};
-
-// Nonzero and distinct.
-fn are_proper(col: &[u64]) -> bool
-    ensures { λ r. ⌜ r ≡ proper (now (col .entry)) ⌝ }
-{
-    if !columns::all_nonzero(col) {
-        return false;
-    }
-    columns::all_distinct(col)
-}
+ghost use Rattle.rules.specs.Sound.{proper, properGuids, interfacesHeld, setMembersLive, heardRecently, listsKept, objectExportersLive, interfaceObjectsLive, objectsHaveInterfaces, namingClauses, objectClauses, interfaceClauses, setClauses};
 
 // Each exporter's list keeps the list rules and is no longer than it may be; it begins where the one before it ends.
 fn lists_kept<'a>(words: &'a [u64], store: &'a [u8]) -> bool
@@ -42,15 +33,46 @@ fn lists_kept<'a>(words: &'a [u64], store: &'a [u8]) -> bool
     true
 }
 
-fn exporters_sound<'a>(words: &'a [u64], store: &'a [u8]) -> bool
-    requires { ⌜ Whole (now words) × Whole (now store) ⌝ }
-    ensures { λ r. ⌜ r ≡ holding (exporterClauses (view (memory (now (words .entry)) (now (store .entry))))) ⌝ }
+// The OXIDs are proper, and each object's exporter is live.
+fn exporters_named(words: &[u64]) -> bool
+    requires { ⌜ Whole (now words) ⌝ }
+    ensures { λ r. ⌜ Holds (λ e. r ≡ holding (proper (oxids e) ∷ objectExportersLive e ∷ [])) (now (words .entry)) ⌝ }
 {
-    let n = find::exporter_count(words);
-    if !are_proper(layout::column(words, layout::OXIDS, n)) {
+    let exporters = find::exporter_count(words);
+    let objects = find::object_count(words);
+    let oxids = layout::column(words, layout::OXIDS, exporters);
+    let owners = layout::column(words, layout::OBJECT_EXPORTERS, objects);
+    let mut rows = [0u8; 256];
+    if !identifiers::note(&mut rows, oxids) {
         return false;
     }
-    lists_kept(words, store)
+    identifiers::all_found(&rows, oxids, owners)
+}
+
+// The OIDs are proper, each interface's object is live, and each object has an interface.
+fn objects_named(words: &[u64]) -> bool
+    requires { ⌜ Whole (now words) ⌝ }
+    ensures { λ r. ⌜ Holds (λ e. r ≡ holding (proper (oids e) ∷ interfaceObjectsLive e ∷ objectsHaveInterfaces e ∷ [])) (now (words .entry)) ⌝ }
+{
+    let objects = find::object_count(words);
+    let interfaces = find::interface_count(words);
+    let oids = layout::column(words, layout::OIDS, objects);
+    let named = layout::column(words, layout::INTERFACE_OBJECTS, interfaces);
+    let mut rows = [0u8; 4096];
+    if !identifiers::note(&mut rows, oids) {
+        return false;
+    }
+    identifiers::all_paired(&rows, oids, named)
+}
+
+fn naming_sound(words: &[u64]) -> bool
+    requires { ⌜ Whole (now words) ⌝ }
+    ensures { λ r. ⌜ Holds (λ e. r ≡ holding (namingClauses e)) (now (words .entry)) ⌝ }
+{
+    if !exporters_named(words) {
+        return false;
+    }
+    objects_named(words)
 }
 
 // Pinged objects were heard under 360 seconds before the clock.
@@ -74,24 +96,9 @@ fn objects_sound(words: &[u64]) -> bool
     requires { ⌜ Whole (now words) ⌝ }
     ensures { λ r. ⌜ Holds (λ e. r ≡ holding (objectClauses e)) (now (words .entry)) ⌝ }
 {
-    let exporters = find::exporter_count(words);
     let objects = find::object_count(words);
-    let interfaces = find::interface_count(words);
-    let oxids = layout::column(words, layout::OXIDS, exporters);
-    let oids = layout::column(words, layout::OIDS, objects);
-    let owners = layout::column(words, layout::OBJECT_EXPORTERS, objects);
     let times = layout::column(words, layout::HEARD_TIMES, objects);
-    let named = layout::column(words, layout::INTERFACE_OBJECTS, interfaces);
     let clock = words[layout::CLOCK];
-    if !are_proper(oids) {
-        return false;
-    }
-    if !columns::all_in(owners, oxids) {
-        return false;
-    }
-    if !columns::all_in(oids, named) {
-        return false;
-    }
     if !columns::all_at_most(times, clock) {
         return false;
     }
@@ -125,33 +132,18 @@ fn ipids_proper(words: &[u64]) -> bool
     let unknown_highs = layout::column(words, layout::UNKNOWN_HIGHS, n);
     let lows = layout::column(words, layout::IPID_LOWS, m);
     let highs = layout::column(words, layout::IPID_HIGHS, m);
-    if !columns::guids_not_nil(unknown_lows, unknown_highs) {
+    let mut marks = [false; columns::buckets::BUCKETS];
+    if !identifiers::enter_guids(&mut marks, lows, highs, &lows[..0], &highs[..0]) {
         return false;
     }
-    if !columns::guids_not_nil(lows, highs) {
-        return false;
-    }
-    if !columns::guids_distinct(unknown_lows, unknown_highs) {
-        return false;
-    }
-    if !columns::guids_distinct(lows, highs) {
-        return false;
-    }
-    columns::guids_apart(unknown_lows, unknown_highs, lows, highs)
+    identifiers::enter_guids(&mut marks, unknown_lows, unknown_highs, lows, highs)
 }
 
 fn interfaces_sound(words: &[u64]) -> bool
     requires { ⌜ Whole (now words) ⌝ }
     ensures { λ r. ⌜ Holds (λ e. r ≡ holding (interfaceClauses e)) (now (words .entry)) ⌝ }
 {
-    let objects = find::object_count(words);
-    let interfaces = find::interface_count(words);
-    let oids = layout::column(words, layout::OIDS, objects);
-    let owners = layout::column(words, layout::INTERFACE_OBJECTS, interfaces);
     if !ipids_proper(words) {
-        return false;
-    }
-    if !columns::all_in(owners, oids) {
         return false;
     }
     interfaces_held(words)
@@ -183,7 +175,7 @@ fn sets_sound(words: &[u64]) -> bool
     let next = words[layout::NEXT_SET];
     let numbers = layout::column(words, layout::SET_NUMBERS, n);
     let times = layout::column(words, layout::PING_TIMES, n);
-    if !are_proper(numbers) {
+    if !identifiers::are_proper(numbers) {
         return false;
     }
     if !columns::all_at_most(times, clock) {
@@ -211,7 +203,10 @@ pub fn sound<'a>(words: &'a [u64], store: &'a [u8]) -> bool
     if store.len() != limits::BYTES {
         return false;
     }
-    if !exporters_sound(words, store) {
+    if !lists_kept(words, store) {
+        return false;
+    }
+    if !naming_sound(words) {
         return false;
     }
     if !objects_sound(words) {

@@ -129,4 +129,13 @@ sound-grouped e g =
     let os = g .objects in
     let is = g .interfaces in
     let ss = g .sets in
-    cc (sound-groups e, ((xs .ids and xs .lists and xs .inside and none) .together and (os .ids and os .named and (sym (serving-objects (e .objects) (e .interfaces)) ∙ is .serving) and os .byClock and os .lately and none) .together and (g .ids and is .named and is .counted and none) .together and (ss .ids and ss .byClock and ss .lately and ss .below and ss .nonzero and ss .named and none) .together and none) .together)
+    cc (
+      sound-groups e,
+      ((xs .lists and xs .inside and none) .together
+          and (xs .ids and os .named and os .ids and is .named and (sym (serving-objects (e .objects) (e .interfaces)) ∙ is .serving) and none) .together
+          and (os .byClock and os .lately and none) .together
+          and (g .ids and is .counted and none) .together
+          and (ss .ids and ss .byClock and ss .lately and ss .below and ss .nonzero and ss .named and none) .together
+          and none)
+          .together,
+    )

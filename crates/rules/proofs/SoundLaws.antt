@@ -78,9 +78,10 @@ _and_ {b} {bs} p q = record { together = holding-cons b bs p (q .together) }
 -- the groups hold where every clause does
 groups-hold : (e : Entries) → Sound e → holding (groups e) ≡ true
 groups-hold e s =
-    ((s .exportersProper and s .listsKept and s .listsInside and none) .together
-    and (s .objectsProper and s .objectExportersLive and s .objectsHaveInterfaces and s .heardBefore and s .heardRecently and none) .together
-    and (s .ipidsProper and s .interfaceObjectsLive and s .interfacesHeld and none) .together
+    ((s .listsKept and s .listsInside and none) .together
+    and (s .exportersProper and s .objectExportersLive and s .objectsProper and s .interfaceObjectsLive and s .objectsHaveInterfaces and none) .together
+    and (s .heardBefore and s .heardRecently and none) .together
+    and (s .ipidsProper and s .interfacesHeld and none) .together
     and (s .setsProper and s .pingedBefore and s .pingedRecently and s .setsBelowNext and s .nextNonzero and s .setMembersLive and none) .together
     and none)
     .together
@@ -89,16 +90,17 @@ groups-sound : (e : Entries) → holding (groups e) ≡ true → sound e ≡ tru
 unfolding sound
 groups-sound e h =
     let xs = clause-at (groups e) 0 h in
-    let os = clause-at (groups e) 1 h in
-    let is = clause-at (groups e) 2 h in
-    let ss = clause-at (groups e) 3 h in
-    (clause-at _ 0 xs and clause-at _ 0 os and clause-at _ 0 is and clause-at _ 0 ss
-    and clause-at _ 1 is and clause-at _ 1 os and clause-at _ 2 os and clause-at _ 2 is and clause-at _ 5 ss
-    and clause-at _ 3 os and clause-at _ 1 ss and clause-at _ 4 os and clause-at _ 2 ss
-    and clause-at _ 4 ss and clause-at _ 3 ss and clause-at _ 1 xs and clause-at _ 2 xs and none)
+    let ns = clause-at (groups e) 1 h in
+    let os = clause-at (groups e) 2 h in
+    let is = clause-at (groups e) 3 h in
+    let ss = clause-at (groups e) 4 h in
+    (clause-at _ 0 ns and clause-at _ 2 ns and clause-at _ 0 is and clause-at _ 0 ss
+    and clause-at _ 3 ns and clause-at _ 1 ns and clause-at _ 4 ns and clause-at _ 1 is and clause-at _ 5 ss
+    and clause-at _ 0 os and clause-at _ 1 ss and clause-at _ 1 os and clause-at _ 2 ss
+    and clause-at _ 4 ss and clause-at _ 3 ss and clause-at _ 0 xs and clause-at _ 1 xs and none)
     .together
 
--- `sound` is its four groups together
+-- `sound` is its groups together
 pub sound-groups : (e : Entries) → sound e ≡ holding (groups e)
 sound-groups e =
     same-test (sound e) (holding (groups e))

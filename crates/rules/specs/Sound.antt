@@ -118,20 +118,24 @@ sound e =
     ∷ listsInside e
     ∷ [])
 
--- ---- the same clauses in groups, by the kind of entry that they are about
+-- ---- the same clauses in groups, as they are judged
+
+-- the identifiers of exporters and objects, and what names them
+abbrev pub namingClauses : Entries → List Bool
+namingClauses e = proper (oxids e) ∷ objectExportersLive e ∷ proper (oids e) ∷ interfaceObjectsLive e ∷ objectsHaveInterfaces e ∷ []
 
 abbrev pub exporterClauses : Entries → List Bool
-exporterClauses e = proper (oxids e) ∷ listsKept e ∷ listsInside e ∷ []
+exporterClauses e = listsKept e ∷ listsInside e ∷ []
 
 abbrev pub objectClauses : Entries → List Bool
-objectClauses e = proper (oids e) ∷ objectExportersLive e ∷ objectsHaveInterfaces e ∷ heardBefore e ∷ heardRecently e ∷ []
+objectClauses e = heardBefore e ∷ heardRecently e ∷ []
 
 abbrev pub interfaceClauses : Entries → List Bool
-interfaceClauses e = properGuids (ipids e) ∷ interfaceObjectsLive e ∷ interfacesHeld e ∷ []
+interfaceClauses e = properGuids (ipids e) ∷ interfacesHeld e ∷ []
 
 abbrev pub setClauses : Entries → List Bool
 setClauses e = proper (setNumbers e) ∷ pingedBefore e ∷ pingedRecently e ∷ setsBelowNext e ∷ not (eqb (e .next) 0) ∷ setMembersLive e ∷ []
 
--- `sound` is these four together: `sound-groups`
+-- `sound` is these five together: `sound-groups`
 abbrev pub groups : Entries → List Bool
-groups e = holding (exporterClauses e) ∷ holding (objectClauses e) ∷ holding (interfaceClauses e) ∷ holding (setClauses e) ∷ []
+groups e = holding (exporterClauses e) ∷ holding (namingClauses e) ∷ holding (objectClauses e) ∷ holding (interfaceClauses e) ∷ holding (setClauses e) ∷ []

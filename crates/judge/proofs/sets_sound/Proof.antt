@@ -3,6 +3,7 @@ use Prim.Native.Nat.{ℕ}
 use mathlib.Core.Path.{_≡_, refl, ap, _∙_}
 use mathlib.Core.Bool.{not}
 use mathlib.Core.List.{List, map}
+use native.Mathlib.Omega.{arith}
 use borrow.Author.Tests.{eq-eqb, ne-eqb}
 use lib.Dec.{leb, ltb}
 use lib.ListN.{drop}
@@ -12,7 +13,7 @@ use Rattle.rules.specs.Entries.{Entries, PingSet, setNumbers}
 use Rattle.rules.specs.Sound.{proper, overdue, pingedBefore, pingedRecently, setsBelowNext, setClauses}
 use Rattle.table.specs.View.{memory, view}
 use Rattle.table.proofs.Columns.{set-numbers-column, pinged-column, column-read}
-use Rattle.judge.proofs.Clauses.{judged-fails, judged-passes, judged-last, column-test}
+use Rattle.judge.proofs.Clauses.{judged-fails, judged-passes, judged-last, column-test, column-short}
 use borrow.Author.Needs.{needs}
 use Rattle.judge.proofs.sets_sound.Statement.{statement}
 use Rattle.judge.proofs.sets_sound.Tie as tie
@@ -78,6 +79,9 @@ returns-5 c = λ s. holding-fails _ _ (left-4 (c .before) s) (ap not (eq-eqb _ 0
 returns-6 : tie.Need-returns-6
 returns-6 c = λ s. judged-last (left-5 (c .before) s) (c .members-live .ensures s)
 
+are-proper-requires : tie.Need-are-proper-requires
+are-proper-requires c κs = let e = column-short (c .before .before .before .before .before .before .args .words .now) 64 (c .before .column .ensures) (c .before .before .before .before .set-count .ensures .1) in omega arith
+
 pub sets-sound-spec : {M : Type 1} → statement M
 sets-sound-spec =
     tie.close
@@ -87,7 +91,7 @@ sets-sound-spec =
     (λ c. search needs)
     (λ c κs. search needs)
     (λ c κs. search needs)
-    (λ c κs. search needs)
+    are-proper-requires
     returns
     (λ c κs. search needs)
     returns-2
