@@ -20,14 +20,3 @@ pub fn of_word(x: u64) -> usize
 {
     of_guid(Guid { low: x, high: 0 })
 }
-
-// Notes the row of each word under its bucket, to be tried first. What the hints then hold is undecided: whoever tries a row
-// compares its word, and searches where it is another.
-pub fn set_hints(hints: &mut [u16; BUCKETS], col: &[u64]) {
-    let mut i = 0;
-    while i < col.len() {
-        let b = of_word(col[i]);
-        hints[b] = (i % 65536) as u16;
-        i += 1;
-    }
-}

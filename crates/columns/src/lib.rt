@@ -7,13 +7,12 @@ pub mod rows;
 ghost use mathlib.Core.Path.{_≡_};
 ghost use Prim.Native.Nat.{_+_, _-_};
 ghost use mathlib.Core.Bool.{not};
-ghost use lib.ListN.{length, getD, drop};
+ghost use lib.ListN.{getD, drop};
 ghost use lib.Dec.{eqb, ltb, leb};
-ghost use Rattle.lists.specs.Lists.{every, some, nonzero, firstIndex, distinct, apart, among};
+ghost use Rattle.lists.specs.Lists.{every, some, firstIndex, among};
 ghost use Rattle.columns.specs.Moved.{removedAt, copiedDown};
 ghost use Rattle.lists.specs.Guids.{nil, sameGuid};
 ghost use Rattle.columns.specs.Guids.{guidAt, guids};
-ghost use Rattle.columns.specs.Buckets.{guidBucket, Marked};
 use kinds::Guid;
 
 // The first index of x, or the column's length where it has none.
@@ -34,72 +33,6 @@ pub fn has(col: &[u64], x: u64) -> bool
     ensures { λ r. ⌜ r ≡ among (now (col .entry)) x ⌝ }
 {
     index_of(col, x) < col.len()
-}
-
-// The same, with a row to try first.
-fn has_hinted(col: &[u64], hint: u16, x: u64) -> bool
-    ensures { λ r. ⌜ r ≡ among (now (col .entry)) x ⌝ }
-{
-    let row = hint as usize;
-    if row < col.len() {
-        if x == col[row] {
-            return true;
-        }
-    }
-    has(col, x)
-}
-
-// No word is 0.
-pub fn all_nonzero(col: &[u64]) -> bool
-    ensures { λ r. ⌜ r ≡ nonzero (now (col .entry)) ⌝ }
-{
-    let mut i = 0;
-    while i < col.len() {
-        if col[i] == 0 {
-            return false;
-        }
-        i += 1;
-    }
-    true
-}
-
-// No word stands twice. From the last word to the first: where its bucket is not yet marked, no later word is the same.
-pub fn all_distinct(col: &[u64]) -> bool
-    ensures { λ r. ⌜ r ≡ distinct eqb (now (col .entry)) ⌝ }
-{
-    let mut marks = [false; buckets::BUCKETS];
-    let mut i = col.len();
-    while 0 < i {
-        let next = i;
-        i -= 1;
-        let x = col[i];
-        let b = buckets::of_word(x);
-        if marks[b] {
-            if has(&col[next..], x) {
-                return false;
-            }
-        }
-        marks[b] = true;
-    }
-    true
-}
-
-// Each word of a stands in b; the row that its bucket hints at is tried first.
-pub fn all_in(a: &[u64], b: &[u64]) -> bool
-    ensures { λ r. ⌜ r ≡ every (among (now (b .entry))) (now (a .entry)) ⌝ }
-{
-    let mut hints = [0u16; buckets::BUCKETS];
-    buckets::set_hints(&mut hints, b);
-    let mut i = 0;
-    while i < a.len() {
-        let x = a[i];
-        let k = buckets::of_word(x);
-        if !has_hinted(b, hints[k], x) {
-            return false;
-        }
-        i += 1;
-    }
-    true
 }
 
 pub fn all_at_most(col: &[u64], limit: u64) -> bool
@@ -218,78 +151,6 @@ pub fn has_guid<'a>(lows: &'a [u64], highs: &'a [u64], g: Guid) -> bool
     ensures { λ r. ⌜ r ≡ some (sameGuid g) (guids (now (lows .entry)) (now (highs .entry))) ⌝ }
 {
     has_guid_from(lows, highs, 0, g)
-}
-
-pub fn guids_not_nil<'a>(lows: &'a [u64], highs: &'a [u64]) -> bool
-    ensures { λ r. ⌜ r ≡ every (λ g. not (sameGuid g nil)) (guids (now (lows .entry)) (now (highs .entry))) ⌝ }
-{
-    let mut i = 0;
-    while i < lows.len() {
-        if is_guid_at(lows, highs, i, Guid { low: 0, high: 0 }) {
-            return false;
-        }
-        i += 1;
-    }
-    true
-}
-
-// No GUID stands twice; by buckets, as for words.
-pub fn guids_distinct<'a>(lows: &'a [u64], highs: &'a [u64]) -> bool
-    ensures { λ r. ⌜ r ≡ distinct sameGuid (guids (now (lows .entry)) (now (highs .entry))) ⌝ }
-{
-    let mut marks = [false; buckets::BUCKETS];
-    let mut i = lows.len();
-    while 0 < i {
-        let next = i;
-        i -= 1;
-        let g = guid_at(lows, highs, i);
-        let b = buckets::of_guid(g);
-        if marks[b] {
-            if has_guid_from(lows, highs, next, g) {
-                return false;
-            }
-        }
-        marks[b] = true;
-    }
-    true
-}
-
-// Marks the buckets of the GUIDs as well.
-fn mark_guids<'a>(marks: &mut [bool; buckets::BUCKETS], lows: &'a [u64], highs: &'a [u64])
-    requires { ⌜ length (now marks) ≡ 4096 ⌝ }
-    ensures { λ r. ⌜ Marked guidBucket (now (marks .exit)) (guids (now (lows .entry)) (now (highs .entry))) ⌝ }
-{
-    let mut i = lows.len();
-    while 0 < i {
-        i -= 1;
-        let b = buckets::of_guid(guid_at(lows, highs, i));
-        marks[b] = true;
-    }
-}
-
-// No GUID of the first two columns stands in the second two.
-pub fn guids_apart<'a>(
-    lows: &'a [u64],
-    highs: &'a [u64],
-    lows2: &'a [u64],
-    highs2: &'a [u64],
-) -> bool
-    ensures { λ r. ⌜ r ≡ apart sameGuid (guids (now (lows .entry)) (now (highs .entry))) (guids (now (lows2 .entry)) (now (highs2 .entry))) ⌝ }
-{
-    let mut marks = [false; buckets::BUCKETS];
-    mark_guids(&mut marks, lows2, highs2);
-    let mut i = 0;
-    while i < lows.len() {
-        let g = guid_at(lows, highs, i);
-        let b = buckets::of_guid(g);
-        if marks[b] {
-            if has_guid(lows2, highs2, g) {
-                return false;
-            }
-        }
-        i += 1;
-    }
-    true
 }
 
 // Takes the word at k out: the words after it move down by one, and the last stays.

@@ -30,7 +30,16 @@ pub record RowOf (x : ℕ) (col : List ℕ) (r : ℕ) : Type 0 where
   pub here : r < length col → getD col r 0 ≡ x
   pub absent : length col ≤ r → among col x ≡ false
 
+-- a second bucket of a GUID
+abbrev pub lowBucket : Guid → ℕ
+lowBucket g = g .low % 4096
+
+-- both buckets of each GUID are marked
+pub record MarkedTwice (marks : List Bool) (xs : List Guid) : Type 0 where
+  pub first : Marked guidBucket marks xs
+  pub second : Marked lowBucket marks xs
+
 -- r: the GUIDs xs are proper before ys; then the buckets of all are marked
 pub record Entered (xs ys : List Guid) (marks : List Bool) (r : Bool) : Type 0 where
   pub judged : r ≡ (every (λ g. not (sameGuid g nil)) xs && distinct sameGuid (xs ++ ys))
-  pub marked : r ≡ true → Marked guidBucket marks (xs ++ ys)
+  pub marked : r ≡ true → MarkedTwice marks (xs ++ ys)

@@ -13,8 +13,8 @@ ghost use lib.Dec.{eqb};
 ghost use Rattle.lists.specs.Lists.{every, some, nonzero, distinct, among};
 ghost use Rattle.lists.specs.Guids.{sameGuid};
 ghost use Rattle.columns.specs.Guids.{guids};
-ghost use Rattle.columns.specs.Buckets.{guidBucket, wordBucket, Marked};
-ghost use Rattle.identifiers.specs.Index.{climbing, Indexed, Noted, RowOf, Entered};
+ghost use Rattle.columns.specs.Buckets.{wordBucket};
+ghost use Rattle.identifiers.specs.Index.{climbing, Indexed, Noted, RowOf, lowBucket, MarkedTwice, Entered};
 
 // The bucket of a word among m.
 fn bucket(x: u64, m: usize) -> usize
@@ -160,8 +160,15 @@ fn stands_later<'a>(
     columns::has_guid(lows2, highs2, g)
 }
 
+// A second bucket of a GUID, so that two in one bucket are rarely in one by both.
+fn low_bucket(g: Guid) -> usize
+    ensures { λ r. ⌜ (r ≡ lowBucket g) × (r < 4096) ⌝ }
+{
+    (g.low % 4096) as usize
+}
+
 // Whether the GUIDs of two columns are proper before those of two more, whose buckets are marked; marks theirs as well. From the
-// last GUID to the first: where its bucket is not yet marked, no later GUID is the same.
+// last GUID to the first: where one of its buckets is not yet marked, no later GUID is the same.
 pub fn enter_guids<'a>(
     marks: &'a mut [bool; buckets::BUCKETS],
     lows: &'a [u64],
@@ -170,7 +177,7 @@ pub fn enter_guids<'a>(
     highs2: &'a [u64],
 ) -> bool
     requires { ⌜
-        Marked guidBucket (now marks) (guids (now lows2) (now highs2))
+        MarkedTwice (now marks) (guids (now lows2) (now highs2))
         × (distinct sameGuid (guids (now lows2) (now highs2)) ≡ true) ⌝ }
     ensures { λ r. ⌜
         Entered (guids (now (lows .entry)) (now (highs .entry))) (guids (now (lows2 .entry)) (now (highs2 .entry)))
@@ -185,12 +192,16 @@ pub fn enter_guids<'a>(
             return false;
         }
         let b = buckets::of_guid(g);
+        let k = low_bucket(g);
         if marks[b] {
-            if stands_later(lows, highs, next, lows2, highs2, g) {
-                return false;
+            if marks[k] {
+                if stands_later(lows, highs, next, lows2, highs2, g) {
+                    return false;
+                }
             }
         }
         marks[b] = true;
+        marks[k] = true;
     }
     true
 }

@@ -10,7 +10,7 @@ use Rattle.lists.specs.Lists.{every, some, distinct}
 use Rattle.columns.specs.Buckets.{Marked}
 use Rattle.lists.proofs.Tests.{true-or-false, same-or-not, and-intro}
 use Rattle.lists.proofs.Lists.{every-mono, every-nil, none-some}
-use Rattle.lists.proofs.Distinct.{Decides, distinct-cons, distinct-head, distinct-tail, distinct-none}
+use Rattle.lists.proofs.Distinct.{Decides, distinct-head, distinct-tail}
 
 -- what stands under the bucket of each element is a mark
 module _ {A B : Type 0} (bucket : A → ℕ) (mark : B → Bool) (d : B) where
@@ -47,6 +47,15 @@ module _ {A : Type 0} (bucket : A → ℕ) where
   pub marked-none : {ys : List A} (marks : List Bool) → length marks ≡ 4096 → ys ≡ [] → Marked bucket marks ys
   marked-none marks l e = record { size = l; each = rw e (every-nil (λ x. getD marks (bucket x) false)) }
 
+  -- a bucket more is marked
+  pub marked-kept : {xs : List A} {marks : List Bool} (b : ℕ) → b < 4096 → Marked bucket marks xs → Marked bucket (set marks b true) xs
+  marked-kept {xs} {marks} b h m =
+      record {
+        size = length-set marks b true ∙ m .size;
+        each = every-mono (λ y. getD marks (bucket y) false) (λ y. getD (set marks b true) (bucket y) false)
+            (λ y. mark-kept bucket (λ (t : Bool). t) false marks b true y (rw (m .size) h) refl) xs (m .each);
+      }
+
   -- one more element, with its bucket marked
   pub marked-one : {x : A} {xs ys : List A} {marks : List Bool} {b : ℕ} → ys ≡ x ∷ xs → Marked bucket marks xs → (b ≡ bucket x) × (b < 4096) → Marked bucket (set marks b true) ys
   marked-one {x} {xs} {ys} {marks} {b} e m q =
@@ -75,18 +84,3 @@ module _ {A : Type 0} (same : A → A → Bool) where
       (λ h. absurd (true≢false (sym t ∙ distinct-head same x xs (rw e at (distinct-drop i ys h)))))
       (λ f. sym f)
       (true-or-false (distinct same ys))
-
--- the elements are distinct, and their buckets are marked
-pub record Passed {A : Type 0} (same : A → A → Bool) (bucket : A → ℕ) (marks : List Bool) (xs : List A) : Type 0 where
-  pub differ : distinct same xs ≡ true
-  pub marked : Marked bucket marks xs
-
-module _ {A : Type 0} (same : A → A → Bool) (bucket : A → ℕ) where
-  -- no element
-  pub passed-none : {ys : List A} (marks : List Bool) → length marks ≡ 4096 → ys ≡ [] → Passed same bucket marks ys
-  passed-none marks l e = record { differ = rw e (distinct-none same); marked = marked-none bucket marks l e }
-
-  -- one more, which is not among those after it
-  pub passed-one : {x : A} {xs ys : List A} {marks : List Bool} {b : ℕ} → ys ≡ x ∷ xs → Passed same bucket marks xs → (b ≡ bucket x) × (b < 4096) → some (same x) xs ≡ false → Passed same bucket (set marks b true) ys
-  passed-one {x} {xs} e p q n =
-      record { differ = rw e (distinct-cons same x xs n (p .differ)); marked = marked-one bucket e (p .marked) q }

@@ -1,14 +1,14 @@
 -- `identifiers::all_paired`: the rows of the words before i are met, and what is left from i on passes where the whole does.
-use Prim.Native.Nat.{_≤_, _-_}
+use Prim.Native.Nat.{_-_}
 use mathlib.Core.Path.{_≡_, refl, sym, _∙_}
-use mathlib.Core.Bool.{Bool, false}
+use mathlib.Core.Bool.{false}
 use native.Mathlib.Omega.{arith}
 use borrow.Author.Needs.{needs}
-use lib.ListN.{length, drop, getD, take, length-set, length-replicate, getD-replicate}
-use lib.Seq.{length-take-le, getD-take}
+use lib.ListN.{length, drop, length-set, length-replicate, getD-replicate}
+use lib.Seq.{length-take-le}
 use Rattle.lists.specs.Lists.{every, among}
 use Rattle.columns.proofs.Loops.{column-step, column-end, every-passes, every-fails, every-end}
-use Rattle.identifiers.proofs.Laws.{Met, met-one, met-all, row-here, every-agree}
+use Rattle.identifiers.proofs.Laws.{Met, met-one, met-all, row-here}
 use Rattle.identifiers.proofs.all_paired.Statement.{statement}
 use Rattle.identifiers.proofs.all_paired.Tie as tie
 

@@ -1,21 +1,13 @@
 -- `identifiers::enter_guids`: the GUIDs from i on are proper before the later ones, and all buckets are marked.
 use Prim.Native.Nat.{_≤_, _-_}
-use mathlib.Core.Path.{_≡_, sym, ap, _∙_}
-use mathlib.Core.Bool.{false, true, not, and-false, true≢false}
-use mathlib.Core.List.{List, _++_}
+use mathlib.Core.Path.{_≡_, sym, _∙_}
 use mathlib.Core.Logic.{⊎-elim}
 use native.Mathlib.Omega.{arith}
 use borrow.Author.Needs.{needs}
 use lib.ListN.{length, drop}
-use Rattle.kinds.specs.declared.Guid.{Guid}
-use Rattle.lists.specs.Lists.{every, distinct}
-use Rattle.lists.specs.Guids.{nil, sameGuid}
-use Rattle.lists.proofs.Guids.{guid-decides}
 use Rattle.columns.specs.Guids.{guids}
-use Rattle.columns.specs.Buckets.{guidBucket}
 use Rattle.columns.proofs.GuidColumns.{guids-last, guids-end}
-use Rattle.columns.proofs.buckets.Marks.{Passed, unmarked}
-use Rattle.identifiers.proofs.Guids.{Before, before-none, before-one, before-nil, before-repeated, before-all}
+use Rattle.identifiers.proofs.Guids.{Before, unmarked-first, unmarked-second, before-none, before-one, before-nil, before-repeated, before-all}
 use Rattle.identifiers.proofs.enter_guids.Statement.{statement}
 use Rattle.identifiers.proofs.enter_guids.Tie as tie
 
@@ -38,20 +30,25 @@ returns c =
 
 returns-2 : tie.Need-returns-2 Inv-loop μ-loop
 returns-2 c =
-    let l = c .before .before .before .before .before .before .before .before .before .loop in
-    let g = c .before .before .before .before .before .before .before .guid-at in
-    before-repeated (l .i - 1) _ _ _ (guids-last _ _ (l .i) (g .ensures) (search needs) (search needs)) (c .before .stands-later .ensures) (c .if3 .taken)
+    let l = c .before .before .before .before .before .before .before .before .before .before .before .before .loop in
+    let g = c .before .before .before .before .before .before .before .before .before .before .guid-at in
+    before-repeated (l .i - 1) _ _ _ (guids-last _ _ (l .i) (g .ensures) (search needs) (search needs)) (c .before .stands-later .ensures) (c .if4 .taken)
 
 loop-again : tie.Need-loop-again Inv-loop μ-loop
 loop-again c =
-    let l = c .before .before .before .before .before .before .before .loop in
-    let g = c .before .before .before .before .before .guid-at in
-    let b = c .before .before .of-guid in (
+    let l = c .before .before .before .before .before .before .before .before .loop in
+    let g = c .before .before .before .before .before .before .guid-at in
+    let b = c .before .before .before .of-guid in
+    let k = c .before .before .low-bucket in
+    let m = l .inv .1 .marked in
+    let n = sym (c .before .before .before .before .before .is-nil .ensures) ∙ c .before .before .before .before .if1 .left in (
       search needs,
-      before-one _ (guids-last _ _ (l .i) (g .ensures) (search needs) (search needs)) (l .inv .1) (b .ensures) (sym (c .before .before .before .before .is-nil .ensures) ∙ c .before .before .before .if1 .left)
+      before-one _ (guids-last _ _ (l .i) (g .ensures) (search needs) (search needs)) (l .inv .1) (b .ensures) (k .ensures) n
           (⊎-elim
-          (λ w. sym (w .1 .ensures) ∙ w .2 .left)
-          (λ w. unmarked guidBucket sameGuid guid-decides (g .result) (l .inv .1 .passed .marked) (b .ensures) (w .left))
+          (λ w. sym (w .3 .ensures) ∙ w .4 .left)
+          (⊎-elim
+          (λ w. unmarked-second (g .result) m (k .ensures) (w .2 .left))
+          (λ w. unmarked-first (g .result) m (b .ensures) (w .left)))
           (c .if2 .came)),
     )
 
@@ -73,9 +70,12 @@ enter-guids-spec =
     (λ c κs. search needs)
     returns
     (λ c κs. search needs)
+    (λ c κs. search needs)
+    (λ c. search needs)
     (λ c. search needs)
     (λ c κs. search needs)
     returns-2
+    (λ c. search needs)
     (λ c. search needs)
     (λ c. search needs)
     loop-again

@@ -1,7 +1,7 @@
 -- `identifiers::note`: the words from i on are proper, and their rows noted.
 use Prim.Native.Nat.{_≤_, _-_}
 use mathlib.Core.Path.{_≡_, refl, sym, ap, _∙_}
-use mathlib.Core.Bool.{Bool, false, not, _&&_, and-false}
+use mathlib.Core.Bool.{false, not, and-false}
 use mathlib.Core.Logic.{⊎-elim}
 use native.Mathlib.Omega.{arith}
 use borrow.Author.Needs.{needs}
@@ -37,7 +37,8 @@ returns-2 : tie.Need-returns-2 Inv-loop μ-loop
 returns-2 c =
     let l = c .before .before .before .before .before .before .before .before .before .loop in
     let v = c .before .before .before .before .before .before .before .before .before .before .before .before .args .col .now in
-    let f : false ≡ distinct eqb v = repeated eqb (l .i - 1) v (last-step v 0 (l .i) (search needs) (search needs)) (told (some (eqb (getD v (l .i - 1) 0))) (tail-part (l .i) v) (c .before .has .ensures) (c .if3 .taken)) in
+    let t = told (some (eqb (getD v (l .i - 1) 0))) (tail-part (l .i) v) (c .before .has .ensures) (c .if3 .taken) in
+    let f : false ≡ distinct eqb v = repeated eqb (l .i - 1) v (last-step v 0 (l .i) (search needs) (search needs)) t in
     noted-not v (l .rows) (rw (← f) (and-false (nonzero v)))
 
 loop-again : tie.Need-loop-again Inv-loop μ-loop

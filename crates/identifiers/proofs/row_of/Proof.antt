@@ -1,8 +1,7 @@
 -- `identifiers::row_of`: the bucket has no row, or x stands at the row, or x is searched for.
-use mathlib.Core.Path.{sym, ap, _∙_}
+use mathlib.Core.Path.{sym}
 use native.Mathlib.Omega.{arith}
 use borrow.Author.Needs.{needs}
-use lib.Dec.{eqb}
 use Rattle.identifiers.proofs.Laws.{unindexed, row-searched}
 use Rattle.identifiers.proofs.row_of.Statement.{statement}
 use Rattle.identifiers.proofs.row_of.Tie as tie

@@ -18,7 +18,10 @@ abbrev At : tie.After-column2 → List ℕ → Entries
 At c s = view (memory (c .before .before .before .before .before .args .words .now) s)
 
 oxids-read : (c : tie.After-column2) (s : List ℕ) → c .before .column .result .now ≡ oxids (At c s)
-oxids-read c s = let st = c .before .before .before .before .before in column-read (st .args .words .now) 16 (c .before .column .ensures) (c .before .before .before .exporter-count .ensures .0) (oxids-column (st .args .words .now) (st .pre) s)
+oxids-read c s =
+    let st = c .before .before .before .before .before in
+    let ws = st .args .words .now in
+    column-read ws 16 (c .before .column .ensures) (c .before .before .before .exporter-count .ensures .0) (oxids-column ws (st .pre) s)
 
 -- each outcome is a clause
 proper-judged : (c : tie.After-note) (s : List ℕ) → c .note .result ≡ proper (oxids (At (c .before .before) s))
@@ -34,7 +37,8 @@ live-judged c s =
 
 note-requires : tie.Need-note-requires
 note-requires c κs =
-    let e = column-short (c .before .before .before .before .before .before .args .words .now) 16 (c .before .before .column .ensures) (c .before .before .before .before .exporter-count .ensures .1) in (search needs, omega arith)
+    let ws = c .before .before .before .before .before .before .args .words .now in
+    let e = column-short ws 16 (c .before .before .column .ensures) (c .before .before .before .before .exporter-count .ensures .1) in (search needs, omega arith)
 
 all-found-requires : tie.Need-all-found-requires
 all-found-requires c κs = c .before .before .before .note .ensures .indexed (not-false _ (c .before .if1 .left))

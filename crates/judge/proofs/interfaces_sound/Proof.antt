@@ -1,5 +1,5 @@
 -- `judge::interfaces_sound`: the clauses of the interfaces in turn.
-use mathlib.Core.Path.{_≡_, refl}
+use mathlib.Core.Path.{refl}
 use Rattle.judge.proofs.Clauses.{judged-fails, judged-passes, judged-last}
 use borrow.Author.Needs.{needs}
 use Rattle.judge.proofs.interfaces_sound.Statement.{statement}

@@ -1,20 +1,19 @@
 -- `judge::ipids_proper`: the interfaces' identifiers are proper, and the remote unknowns' before them.
 use Prim.Native.Nat.{ℕ}
-use mathlib.Core.Path.{_≡_, refl, sym, ap, _∙_}
+use mathlib.Core.Path.{_≡_, sym, ap, _∙_}
 use mathlib.Core.Bool.{false}
-use mathlib.Core.List.{List, [], map}
+use mathlib.Core.List.{List, map}
 use borrow.Author.Tests.{not-true, not-false}
 use lib.ListN.{length-replicate}
 use Rattle.kinds.specs.declared.Guid.{Guid}
 use Rattle.lists.proofs.Distinct.{distinct-none}
 use Rattle.lists.specs.Guids.{nil, sameGuid}
 use Rattle.columns.specs.Guids.{guids}
-use Rattle.rules.specs.Entries.{Entries, Exporter, ipids, interfaceIpids}
+use Rattle.rules.specs.Entries.{Entries, Exporter, interfaceIpids}
 use Rattle.rules.specs.Sound.{properGuids}
 use Rattle.table.specs.View.{memory, view}
 use Rattle.table.proofs.Columns.{unknowns-columns, ipids-columns, guids-read}
-use Rattle.columns.proofs.buckets.Marks.{marked-none}
-use Rattle.identifiers.proofs.Guids.{entered-alone}
+use Rattle.identifiers.proofs.Guids.{twice-none, entered-alone}
 use Rattle.rules.proofs.Groups.{fine-distinct}
 use Rattle.judge.proofs.Clauses.{no-guids, second-not, both-proper}
 use borrow.Author.Needs.{needs}
@@ -44,7 +43,7 @@ ipids-judged : (c : tie.After-enter-guids) (s : List ℕ) → c .enter-guids .re
 ipids-judged c s = entered-alone no-guids (c .enter-guids .ensures) .0 ∙ ap properGuids (ipids-read (c .before .before .before .before) s)
 
 enter-guids-requires : tie.Need-enter-guids-requires
-enter-guids-requires c κs = (marked-none _ _ (length-replicate 4096 false) no-guids, rw no-guids (distinct-none sameGuid))
+enter-guids-requires c κs = (twice-none _ (length-replicate 4096 false) no-guids, rw no-guids (distinct-none sameGuid))
 
 enter-guids-requires-2 : tie.Need-enter-guids-requires-2
 enter-guids-requires-2 c κs =

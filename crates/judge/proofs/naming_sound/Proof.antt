@@ -1,5 +1,4 @@
 -- `judge::naming_sound`: two lists of clauses, one after the other.
-use mathlib.Core.Path.{_≡_, refl}
 use Rattle.judge.proofs.Clauses.{clauses-fail, clauses-pass}
 use borrow.Author.Needs.{needs}
 use Rattle.judge.proofs.naming_sound.Statement.{statement}

@@ -22,13 +22,17 @@ abbrev At : tie.After-column2 → List ℕ → Entries
 At c s = view (memory (c .before .before .before .before .before .args .words .now) s)
 
 oids-read : (c : tie.After-column2) (s : List ℕ) → c .before .column .result .now ≡ oids (At c s)
-oids-read c s = let st = c .before .before .before .before .before in column-read (st .args .words .now) 256 (c .before .column .ensures) (c .before .before .before .object-count .ensures .0) (oids-column (st .args .words .now) (st .pre))
+oids-read c s =
+    let st = c .before .before .before .before .before in
+    let ws = st .args .words .now in
+    column-read ws 256 (c .before .column .ensures) (c .before .before .before .object-count .ensures .0) (oids-column ws (st .pre))
 
 -- each outcome is a clause, or two
 proper-judged : (c : tie.After-note) (s : List ℕ) → c .note .result ≡ proper (oids (At (c .before .before) s))
 proper-judged c s = c .note .ensures .judged ∙ ap proper (oids-read (c .before .before) s)
 
-paired-judged : (c : tie.After-all-paired) (s : List ℕ) → c .all-paired .result ≡ (interfaceObjectsLive (At (c .before .before .before .before .before .before) s) && objectsHaveInterfaces (At (c .before .before .before .before .before .before) s))
+paired-judged : (c : tie.After-all-paired) (s : List ℕ)
+    → c .all-paired .result ≡ (interfaceObjectsLive (At (c .before .before .before .before .before .before) s) && objectsHaveInterfaces (At (c .before .before .before .before .before .before) s))
 paired-judged c s =
     let at = c .before .before .before .before .before .before in
     let st = at .before .before .before .before .before in
@@ -41,14 +45,16 @@ paired-judged c s =
 
 note-requires : tie.Need-note-requires
 note-requires c κs =
-    let e = column-short (c .before .before .before .before .before .before .args .words .now) 256 (c .before .before .column .ensures) (c .before .before .before .before .object-count .ensures .1) in (search needs, omega arith)
+    let ws = c .before .before .before .before .before .before .args .words .now in
+    let e = column-short ws 256 (c .before .before .column .ensures) (c .before .before .before .before .object-count .ensures .1) in (search needs, omega arith)
 
 all-paired-requires : tie.Need-all-paired-requires
 all-paired-requires c κs =
     let n = c .before .before .before .note .ensures in
     let t = not-false _ (c .before .if1 .left) in
     let at = c .before .before .before .before .before in
-    let e = column-short (at .before .before .before .before .before .args .words .now) 256 (at .before .column .ensures) (at .before .before .before .object-count .ensures .1) in
+    let ws = at .before .before .before .before .before .args .words .now in
+    let e = column-short ws 256 (at .before .column .ensures) (at .before .before .before .object-count .ensures .1) in
     (n .indexed t, fine-distinct eqb 0 _ (sym (n .judged) ∙ t), omega arith)
 
 returns : tie.Need-returns

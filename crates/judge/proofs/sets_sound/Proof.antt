@@ -80,7 +80,9 @@ returns-6 : tie.Need-returns-6
 returns-6 c = λ s. judged-last (left-5 (c .before) s) (c .members-live .ensures s)
 
 are-proper-requires : tie.Need-are-proper-requires
-are-proper-requires c κs = let e = column-short (c .before .before .before .before .before .before .args .words .now) 64 (c .before .column .ensures) (c .before .before .before .before .set-count .ensures .1) in omega arith
+are-proper-requires c κs =
+    let ws = c .before .before .before .before .before .before .args .words .now in
+    let e = column-short ws 64 (c .before .column .ensures) (c .before .before .before .before .set-count .ensures .1) in omega arith
 
 pub sets-sound-spec : {M : Type 1} → statement M
 sets-sound-spec =
