@@ -55,6 +55,12 @@ module _ (a b : List ℕ) (i : ℕ) (h : i < length a) (g : i < length b) where
   pub same-stops : (getD a i 0 ≡ getD b i 0 → ⊥) → sameWords (drop i a) (drop i b) ≡ false
   same-stops e = same-first ∙ rw (ne-eqb (getD a i 0) (getD b i 0) e)
 
+-- the same, where a block of both begins at `at`
+pub same-on : (a b : List ℕ) (at j : ℕ) → at + j < length a → at + j < length b → getD a (at + j) 0 ≡ getD b (at + j) 0 → sameWords (drop (at + j) a) (drop (at + j) b) ≡ sameWords (drop (at + (j + 1)) a) (drop (at + (j + 1)) b)
+same-on a b at j h g e =
+    let s : at + (j + 1) ≡ at + j + 1 = omega arith in
+    rw s (same-next a b (at + j) h g e)
+
 pub same-ended : (a b : List ℕ) (i : ℕ) → length a ≤ i → length b ≤ i → sameWords (drop i a) (drop i b) ≡ true
 unfolding sameWords
 same-ended a b i h g = rw (drop-of-length-le a {i = i} h, drop-of-length-le b {i = i} g)

@@ -3,13 +3,46 @@ use kinds::answer;
 use kinds::limits;
 use snapshot_reader::sections;
 ghost use mathlib.Core.Path.{_≡_};
-ghost use lib.ListN.{length};
+ghost use mathlib.Core.Bool.{true};
+ghost use Prim.Native.Nat.{_+_, _≤_};
+ghost use lib.ListN.{length, drop};
 ghost use Rattle.bindings.specs.Bindings.{sameWords};
 ghost use Rattle.rules.specs.Calls.{Call, Start, numbered};
 ghost use Rattle.rules.specs.Contract.{Whole};
 ghost use Rattle.rules.specs.Snapshot.{snapshotBytes};
 ghost use Rattle.table.specs.View.{memory, view, SoundTable, Performed};
 ghost use Rattle.loading.specs.Loading.{SnapshotRead};
+
+// Whether 32 bytes of two slices are the same; no byte ends the loop, so that they are compared at once.
+fn same_block<'a>(a: &'a [u8], b: &'a [u8], at: usize) -> bool
+    requires { ⌜ (at + 32 ≤ length (now a)) × (at + 32 ≤ length (now b)) ⌝ }
+    ensures { λ r. ⌜ (r ≡ true → sameWords (drop at (now (a .entry))) (drop at (now (b .entry))) ≡ sameWords (drop (at + 32) (now (a .entry))) (drop (at + 32) (now (b .entry)))) ⌝ }
+{
+    let mut same = true;
+    let mut j = 0;
+    while j < 32 {
+        if a[at + j] != b[at + j] {
+            same = false;
+        }
+        j += 1;
+    }
+    same
+}
+
+// How many bytes of two slices as long as each other are the same, in whole blocks from the start.
+fn same_blocks<'a>(a: &'a [u8], b: &'a [u8]) -> usize
+    requires { ⌜ length (now a) ≡ length (now b) ⌝ }
+    ensures { λ r. ⌜ (r ≤ length (now (a .entry))) × (sameWords (now (a .entry)) (now (b .entry)) ≡ sameWords (drop r (now (a .entry))) (drop r (now (b .entry)))) ⌝ }
+{
+    let mut i = 0;
+    while 32 <= a.len() - i {
+        if !same_block(a, b, i) {
+            return i;
+        }
+        i += 32;
+    }
+    i
+}
 
 // Whether two slices hold the same bytes.
 fn same_bytes<'a>(a: &'a [u8], b: &'a [u8]) -> bool
@@ -18,7 +51,7 @@ fn same_bytes<'a>(a: &'a [u8], b: &'a [u8]) -> bool
     if a.len() != b.len() {
         return false;
     }
-    let mut i = 0;
+    let mut i = same_blocks(a, b);
     while i < a.len() {
         if a[i] != b[i] {
             return false;
