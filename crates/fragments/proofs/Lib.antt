@@ -2,4 +2,5 @@ pub mod Walks
 pub mod Bytewise
 pub mod Following
 pub mod Rest
+pub mod TextBlocks
 pub mod Ending

@@ -1,9 +1,10 @@
 -- A walk over the words of a binding list, one word after the other, that says at the end whether they are two parts.
-use Prim.Native.Nat.{ℕ, suc}
+use Prim.Native.Nat.{ℕ, suc, _+_, _*_, _-_, _<_}
 use mathlib.Core.Path.{_≡_}
 use mathlib.Core.Bool.{Bool, cond, _&&_, _||_}
 use mathlib.Core.List.{List, [], _∷_}
 use lib.Dec.{eqb, ltb}
+use Rattle.fields.specs.Fields.{field}
 use Rattle.bindings.specs.Bindings.{words, count, split, twoParts}
 use Rattle.bindings.specs.declared.Part.{Part}
 use Rattle.bindings.specs.declared.Part.the-variants.{Strings, Security}
@@ -62,3 +63,17 @@ bothClosed n v m = (eqb n 0 && eqb v 0) || (ltb v n && eqb m closed)
 -- the walk over a list's words decides its parts as `twoParts` does
 abbrev pub PartsWalk : Type 0
 PartsWalk = (s : List ℕ) → twoParts s ≡ bothClosed (count s) (split s) (walkList (split s) 0 0 (words s 4 (count s)))
+
+-- ---- texts passed in blocks
+
+-- none of the c words from byte at is zero
+abbrev pub NoZero : List ℕ → ℕ → ℕ → Type 0
+NoZero s at c = (j : ℕ) → j < c → field s (at + 2 * j) 2 ≡ 0 → ⊥
+
+-- none of the eight words from word k, at byte at, is zero or begins the security part
+abbrev pub TextBlock : ℕ → ℕ → List ℕ → ℕ → Type 0
+TextBlock v k s at = (j : ℕ) → j < 8 → (field s (at + 2 * j) 2 ≡ 0 → ⊥) × (k + j ≡ v → ⊥)
+
+-- r of the w words from word k leave the walk where it stands, and there are more
+abbrev pub TextPassed : ℕ → ℕ → ℕ → List ℕ → ℕ → ℕ → ℕ → Type 0
+TextPassed v k m s at w r = (r < w) × (walkList v (k + r) m (words s (at + 2 * r) (w - r)) ≡ walkList v k m (words s at w))

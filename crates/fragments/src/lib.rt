@@ -3,13 +3,14 @@ use bindings::Part;
 use kinds::answer;
 use references::Reference;
 ghost use mathlib.Core.Path.{_≡_};
-ghost use mathlib.Core.Bool.{cond, not, _&&_, _||_};
-ghost use Prim.Native.Nat.{_+_, _-_, _≤_, min};
+ghost use mathlib.Core.Bool.{true, false, cond, not, _&&_, _||_};
+ghost use Prim.Native.Nat.{ℕ, _+_, _*_, _-_, _/_, _<_, _≤_, min};
 ghost use lib.Dec.{ltb, leb};
 ghost use lib.ListN.{length, set};
 ghost use Rattle.fields.specs.Fields.{field};
 ghost use Rattle.references.specs.References.{isCustom, fixedSize};
-ghost use Rattle.fragments.specs.Walk.{wordStep, listStep, bothClosed};
+ghost use Rattle.bindings.specs.Bindings.{words};
+ghost use Rattle.fragments.specs.Walk.{wordStep, listStep, walkList, NoZero, TextBlock, TextPassed, bothClosed};
 ghost use Rattle.fragments.specs.Rest.{seenAfter, lowAfter, modeAfter, keptAfter, overAfter, waitingAfter, walkAfter, restAfter};
 ghost use Rattle.fragments.specs.Fragments.{isPlain, isNilReference, none, formOf, inTail, nextMode, nextSeen, stepHead, step, pushed, listEnd, readEnd, endAnswer, finished, finalAfter};
 
@@ -325,8 +326,100 @@ fn keep_all(waiting: &mut [u8], inside: bool, kept: usize, bytes: &[u8])
     }
 }
 
-// The walk over the words of a list that begins at byte start.
-fn mode_after(n: u16, v: u16, start: u32, seen: u32, low: u8, mode: u8, bytes: &[u8]) -> u8
+// Whether none of the eight words from at is zero. All are looked at, so that they can be tested side by side.
+fn is_text_block(s: &[u8], at: usize) -> bool
+    requires { ⌜ at + 16 ≤ length (now s) ⌝ }
+    ensures { λ r. ⌜ (r ≡ true → NoZero (now (s .entry)) at 8) ⌝ }
+{
+    let mut all = true;
+    let mut j = 0;
+    while j < 8 {
+        if fields::word(s, at + 2 * j) == 0 {
+            all = false;
+        }
+        j += 1;
+    }
+    all
+}
+
+// Whether the security part, which begins at word v, begins at one of the eight words from word k.
+fn is_split(v: u16, k: usize) -> bool
+    ensures { λ r. ⌜ (r ≡ false → ((j : ℕ) → j < 8 → k + j ≡ v → ⊥)) ⌝ }
+{
+    if (v as usize) < k {
+        return false;
+    }
+    (v as usize) - k < 8
+}
+
+// Whether a walk that stands in a text before word k, at byte at, stands in it after eight words more.
+fn is_in_text(v: u16, k: usize, s: &[u8], at: usize) -> bool
+    requires { ⌜ at + 16 ≤ length (now s) ⌝ }
+    ensures { λ r. ⌜ (r ≡ true → TextBlock v k (now (s .entry)) at) ⌝ }
+{
+    if is_split(v, k) {
+        return false;
+    }
+    is_text_block(s, at)
+}
+
+// How many of the w words from word k, at byte at, are passed in blocks of a text; not all of them. Two words are tested by themselves
+// first, for which a short text is too short.
+fn text_run(v: u16, k: usize, mode: u8, s: &[u8], at: usize, w: usize) -> usize
+    requires { ⌜ (0 < w) × (at + 2 * w ≤ length (now s)) × (k + w ≤ 65535) ⌝ }
+    ensures { λ r. ⌜ TextPassed v k mode (now (s .entry)) at w r ⌝ }
+{
+    if mode != 2 {
+        return 0;
+    }
+    if w < 9 {
+        return 0;
+    }
+    if fields::word(s, at) == 0 {
+        return 0;
+    }
+    if fields::word(s, at + 2) == 0 {
+        return 0;
+    }
+    let mut i = 0;
+    while 8 < w - i {
+        if !is_in_text(v, k + i, s, at + 2 * i) {
+            return i;
+        }
+        i += 8;
+    }
+    i
+}
+
+// The walk over w words from word k, at byte at.
+fn walk_words(v: u16, k: usize, mode: u8, s: &[u8], at: usize, w: usize) -> u8
+    requires { ⌜ (at + 2 * w ≤ length (now s)) × (k + w ≤ 65535) ⌝ }
+    ensures { λ r. ⌜ r ≡ walkList v k mode (words (now (s .entry)) at w) ⌝ }
+{
+    let mut m = mode;
+    let mut i = 0;
+    while i < w {
+        let p = i + text_run(v, k + i, m, s, at + 2 * i, w - i);
+        m = list_step(v, (k + p) as u32, m, fields::word(s, at + 2 * p) as u32);
+        i = p + 1;
+    }
+    m
+}
+
+// The walk over the bytes from at, where word k of a list of n words begins.
+fn even_after(n: u16, v: u16, k: usize, mode: u8, s: &[u8], at: usize) -> u8
+    requires { ⌜ at ≤ length (now s) ⌝ }
+    ensures { λ r. ⌜ r ≡ walkList v k mode (words (now (s .entry)) at (min (n - k) ((length (now (s .entry)) - at) / 2))) ⌝ }
+{
+    if n as usize <= k {
+        return mode;
+    }
+    let w = least(n as usize - k, (s.len() - at) / 2);
+    walk_words(v, k, mode, s, at, w)
+}
+
+// The walk over the words of a list that begins at byte start, byte by byte.
+fn mode_each(n: u16, v: u16, start: u32, seen: u32, low: u8, mode: u8, bytes: &[u8]) -> u8
     requires { ⌜ start ≤ seen ⌝ }
     ensures { λ r. ⌜ r ≡ modeAfter n v start seen low mode (now (bytes .entry)) ⌝ }
 {
@@ -341,6 +434,39 @@ fn mode_after(n: u16, v: u16, start: u32, seen: u32, low: u8, mode: u8, bytes: &
         i += 1;
     }
     m
+}
+
+// Whether m bytes from byte number seen on are several, all counted, and behind N and S of a list that begins at byte start.
+fn is_counted(start: u32, seen: u32, m: usize) -> bool
+    requires { ⌜ start ≤ seen ⌝ }
+    ensures { λ r. ⌜ (r ≡ true → (2 ≤ m) × (start + 4 ≤ seen) × (seen + m ≤ 131155)) ⌝ }
+{
+    if m < 2 {
+        return false;
+    }
+    if seen - start < 4 {
+        return false;
+    }
+    if 131155 <= seen {
+        return false;
+    }
+    m <= (131155 - seen) as usize
+}
+
+// The walk over the words of a list that begins at byte start: by words, but for a first byte that ends one.
+fn mode_after(n: u16, v: u16, start: u32, seen: u32, low: u8, mode: u8, bytes: &[u8]) -> u8
+    requires { ⌜ start ≤ seen ⌝ }
+    ensures { λ r. ⌜ r ≡ modeAfter n v start seen low mode (now (bytes .entry)) ⌝ }
+{
+    if !is_counted(start, seen, bytes.len()) {
+        return mode_each(n, v, start, seen, low, mode, bytes);
+    }
+    let j = seen - start;
+    if j % 2 == 0 {
+        return even_after(n, v, ((j - 4) / 2) as usize, mode, bytes, 0);
+    }
+    let m = next_mode(n, v, j, low, mode, bytes[0]);
+    even_after(n, v, ((j - 3) / 2) as usize, m, bytes, 1)
 }
 
 // The walk of a form with a list.

@@ -1,65 +1,58 @@
--- `fragments::mode_after`: the bytes that are left, walked on, give what all of them give.
-use Prim.Native.Nat.{_+_, _-_, _≤_}
-use mathlib.Core.Path.{_≡_, refl, _∙_}
-use mathlib.Core.List.{_∷_}
+-- `fragments::mode_after`: byte by byte, or by words from one that begins or ends here.
+use Prim.Native.Nat.{_-_, _/_}
+use mathlib.Core.Path.{sym, _∙_}
 use native.Mathlib.Omega.{arith}
-use native.Mathlib.Numerals.{add-one}
-use lib.ListN.{length, drop, getD, drop-of-length-le}
-use lib.Seq.{drop-cons}
-use Rattle.fragments.specs.Rest.{modeAfter}
-use Rattle.fragments.proofs.Rest.{seen-grows, mode-again}
+use borrow.Author.Tests.{not-false}
+use Rattle.fragments.proofs.TextBlocks.{even-walk, odd-walk}
 use borrow.Author.Needs.{needs}
 use Rattle.fragments.proofs.mode_after.Statement.{statement}
 use Rattle.fragments.proofs.mode_after.Tie as tie
 
-abbrev Inv-loop : tie.InvT-loop
-Inv-loop n v start seen low mode bytes at₀ last₀ m₀ i₀ at last m i =
-    (i ≤ length bytes)
-    × (start ≤ at)
-    × (modeAfter n v start at last m (drop i bytes) ≡ modeAfter n v start seen low mode bytes)
+sub-even-after : tie.Need-sub-even-after
+sub-even-after c = let k = c .before .before .is-counted .ensures (not-false _ (c .before .if1 .left)) in omega arith
 
-abbrev μ-loop : tie.MeasureT-loop
-μ-loop n v start seen low mode bytes at₀ last₀ m₀ i₀ at last m i = length bytes - i
+returns-2 : tie.Need-returns-2
+returns-2 c =
+    let a = c .before .before .before .before .before .args in
+    let k = c .before .before .before .is-counted .ensures (not-false _ (c .before .before .if1 .left)) in
+    c .even-after .ensures
+    ∙ sym
+    (even-walk (a .n) (a .v) (a .start) (a .bytes .now) 0 (a .seen) (a .low) (a .mode) ((a .seen - a .start - 4) / 2) (omega arith) (omega arith) (omega arith))
 
-loop-holds : tie.Need-loop-holds Inv-loop μ-loop
-loop-holds c = (omega arith, omega arith, refl)
+shared-slice-read-next-mode : tie.Need-shared-slice-read-next-mode
+shared-slice-read-next-mode c = let k = c .before .before .before .is-counted .ensures (not-false _ (c .before .before .if1 .left)) in omega arith
 
-loop-again : tie.Need-loop-again Inv-loop μ-loop
-loop-again c =
+sub-even-after-2 : tie.Need-sub-even-after-2
+sub-even-after-2 c = let k = c .before .before .before .before .is-counted .ensures (not-false _ (c .before .before .before .if1 .left)) in omega arith
+
+even-after-requires-2 : tie.Need-even-after-requires-2
+even-after-requires-2 c κs = let k = c .before .before .before .before .is-counted .ensures (not-false _ (c .before .before .before .if1 .left)) in omega arith
+
+returns-3 : tie.Need-returns-3
+returns-3 c =
     let a = c .before .before .before .before .before .before .before .args in
-    let l = c .before .before .before .before .before .loop in
-    let s = a .bytes .now in
-    let i : l .i ≤ length s = l .inv .0 in
-    let e : drop (l .i) s ≡ getD s (l .i) 0 ∷ drop (l .i + 1) s = drop-cons s (l .i) 0 (omega arith) ∙ (rw (add-one (l .i))) in
-    let t = c .before .next-seen .ensures in
-    let g = seen-grows (l .at) in
-    let k = l .inv .1 in (
-      omega arith,
-      omega arith,
-      mode-again (a .n) (a .v) (a .start) (l .at) (l .last) (l .m) (getD s (l .i) 0) _ _ _ t (c .before .before .next-mode .ensures) ∙ (rw e at (l .inv .2)),
-    )
-
-returns : tie.Need-returns Inv-loop μ-loop
-unfolding modeAfter
-returns c =
-    let s = c .before .before .before .args .bytes .now in
-    let l = c .before .loop in
-    let h : length s ≤ l .i = omega arith in
-    rw (drop-of-length-le s h) at (l .inv .2)
+    let k = c .before .before .before .before .before .is-counted .ensures (not-false _ (c .before .before .before .before .if1 .left)) in
+    let m = c .before .next-mode in
+    c .even-after2 .ensures
+    ∙ sym
+    (odd-walk (a .n) (a .v) (a .start) (a .bytes .now) (a .seen) (a .low) (a .mode) ((a .seen - a .start - 3) / 2) (m .result)
+    (omega arith) (omega arith) (omega arith) (m .ensures))
 
 pub mode-after-spec : {M : Type 1} → statement M
 mode-after-spec =
     tie.close
     (tie.spec
-    Inv-loop
-    μ-loop
-    loop-holds
-    (λ c. omega arith)
-    (λ c. omega arith)
     (λ c κs. search needs)
     (λ c κs. search needs)
-    (λ c. omega arith)
-    (λ c. omega arith)
-    (λ c. omega arith)
-    loop-again
-    returns)
+    (λ c. search needs)
+    (λ c. search needs)
+    sub-even-after
+    (λ c. search needs)
+    (λ c κs. search needs)
+    returns-2
+    shared-slice-read-next-mode
+    (λ c κs. search needs)
+    sub-even-after-2
+    (λ c. search needs)
+    even-after-requires-2
+    returns-3)
