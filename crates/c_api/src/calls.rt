@@ -7,6 +7,7 @@ use kinds::SetId;
 use resolver::Expired;
 use resolver::LiveCounts;
 use resolver::MemberCount;
+use resolver::Outcome;
 use resolver::Pinged;
 use resolver::Released;
 use resolver::Resolved;
@@ -20,6 +21,7 @@ ghost use Rattle.listing.specs.Listing.{listReply};
 ghost use Rattle.pinging.specs.Replies.{pingReply};
 ghost use Rattle.reading.specs.NextStop.{StopFound};
 ghost use Rattle.saving.specs.Replies.{writtenReply};
+ghost use Rattle.replaying.specs.Replay.{Replayed};
 
 // Empties the table and sets its clock.
 #[no_mangle]
@@ -349,4 +351,17 @@ pub extern "C" fn rimonakh_load_snapshot<'a>(
         (memory (now (words .exit)) (now (store .exit))) ⌝ }
 {
     resolver::load_snapshot(words, store, snapshot)
+}
+
+// Replays a recorded shift from a reset at 0.
+#[no_mangle]
+pub extern "C" fn rimonakh_replay<'a>(
+    words: &'a mut [u64],
+    store: &'a mut [u8],
+    recording: &'a [u8],
+) -> Outcome
+    ensures { λ r. ⌜
+        Replayed (memory (now (words .entry)) (now (store .entry))) (now (recording .entry)) r (memory (now (words .exit)) (now (store .exit))) ⌝ }
+{
+    resolver::replay(words, store, recording)
 }

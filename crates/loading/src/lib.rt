@@ -45,7 +45,7 @@ fn same_blocks<'a>(a: &'a [u8], b: &'a [u8]) -> usize
 }
 
 // Whether two slices hold the same bytes.
-fn same_bytes<'a>(a: &'a [u8], b: &'a [u8]) -> bool
+pub fn same_bytes<'a>(a: &'a [u8], b: &'a [u8]) -> bool
     ensures { λ r. ⌜ r ≡ sameWords (now (a .entry)) (now (b .entry)) ⌝ }
 {
     if a.len() != b.len() {

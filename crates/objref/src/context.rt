@@ -1,5 +1,4 @@
 // The context in the object data of a custom reference.
-use crate::data;
 use contexts::Context;
 use contexts::Property;
 use kinds::answer;
@@ -31,7 +30,7 @@ fn properties(s: &[u8], n: usize) {
         fields(property, k, n);
         let from = r.from;
         let to = r.to;
-        data::content(&s[from..to], n);
+        print::dump::content(&s[from..to], n);
         at = to;
         left = r.left;
         k += 1;

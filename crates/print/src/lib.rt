@@ -2,6 +2,7 @@
 use kinds::Guid;
 use libc::STDOUT_FILENO;
 
+pub mod dump;
 pub mod line;
 pub mod list;
 pub mod pattern;

@@ -34,3 +34,47 @@ fn number(c: u8, numbers: &[u64], k: usize) {
         }
     }
 }
+
+// A text in which a mark stands for the next number of the bytes: # of 8 bytes in decimal, % of 8 in hex, $ of 4 and & of 2 in
+// decimal, ! of 1 as yes or no, @ a GUID.
+pub fn told(what: &[u8], s: &[u8]) {
+    let mut at = 0;
+    let mut from = 0;
+    let mut i = 0;
+    while i < what.len() {
+        let c = what[i];
+        let w = width(c);
+        i += 1;
+        if 0 < w {
+            crate::text(&what[from..i - 1]);
+            let rest = &s[at..];
+            marked(c, rest);
+            at += fields::within(rest, w);
+            from = i;
+        }
+    }
+    crate::text(&what[from..]);
+}
+
+// The bytes of the number that a mark stands for; 0 of any other character.
+fn width(c: u8) -> usize {
+    match c {
+        b'#' | b'%' => 8,
+        b'$' => 4,
+        b'&' => 2,
+        b'!' => 1,
+        b'@' => 16,
+        _ => 0,
+    }
+}
+
+fn marked(c: u8, s: &[u8]) {
+    match c {
+        b'#' => crate::decimal(fields::read_u64(s, 0)),
+        b'%' => crate::hex(fields::read_u64(s, 0), 16),
+        b'$' => crate::decimal(fields::read_u32(s, 0) as u64),
+        b'&' => crate::decimal(fields::read_u16(s, 0) as u64),
+        b'!' => crate::either(fields::is_zero(s, 0, 1), b"no", b"yes"),
+        _ => crate::guid(fields::read_guid(s, 0)),
+    }
+}

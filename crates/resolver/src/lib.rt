@@ -28,4 +28,6 @@ pub use reading::next_stop_answer;
 pub use reading::next_stop_place;
 pub use reading::resolve;
 pub use reading::resolve_filtered;
+pub use replaying::Outcome;
+pub use replaying::replay;
 pub use saving::write_snapshot;

@@ -6,6 +6,7 @@ ghost use Rattle.tally.specs.Tallies.{raised, wrapped};
 
 // What was granted, what releases took, and what was run down: what an exporter's removal, a clock or a client's drop took of the held
 // counts. Each modulo 2^64.
+#[repr(C)]
 pub struct Tally {
     pub granted: u64,
     pub taken: u64,

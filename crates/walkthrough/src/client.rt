@@ -1,4 +1,5 @@
 // A client, and the clock.
+use crate::recorder;
 use crate::say;
 use crate::server;
 use kinds::Oxid;
@@ -14,27 +15,28 @@ use resolver::Released;
 
 // Goes where the reference leads, takes references of its own, and puts the object into a set; the set.
 pub fn take_up<'a>(
+    log: &mut [u8; recorder::LOG],
     words: &mut [u64; limits::WORDS],
     store: &'a [u8; limits::BYTES],
     reference: &'a [u8; server::REFERENCE],
 ) -> SetId {
-    let block = look_up(words, store, reference);
+    let block = look_up(log, words, store, reference);
     let oid = block.oid;
     say::done(
-        resolver::add(words, store, 0, block.ipid, 2, 1),
+        recorder::add(log, words, store, 0, block.ipid, 2, 1),
         b"client: takes 2 public and 1 private references more",
     );
-    let r = resolver::complex_ping(words, store, SetId(0), 1, &[oid.0], &[]);
+    let r = recorder::make_set(log, words, store, oid);
     made(r);
     r.set
 }
 
 // Reads the reference and asks for addresses; its block.
-fn look_up<'a>(words: &'a [u64], store: &'a [u8], reference: &'a [u8]) -> Block {
+fn look_up<'a>(log: &'a mut [u8], words: &'a [u64], store: &'a [u8], reference: &'a [u8]) -> Block {
     let block = read(reference);
-    next_stop(words, store, reference);
-    resolve(words, store, block.oxid);
-    resolve_udp(words, store, block.oxid);
+    next_stop(log, words, store, reference);
+    resolve(log, words, store, block.oxid);
+    resolve_udp(log, words, store, block.oxid);
     block
 }
 
@@ -51,8 +53,8 @@ fn read(reference: &[u8]) -> Block {
     block
 }
 
-fn next_stop<'a>(words: &'a [u64], store: &'a [u8], reference: &'a [u8]) {
-    let place = resolver::next_stop_place(words, store, reference);
+fn next_stop<'a>(log: &'a mut [u8], words: &'a [u64], store: &'a [u8], reference: &'a [u8]) {
+    let place = recorder::next_stop_place(log, words, store, reference);
     say::answer(place.answer);
     print::either(
         place.in_store,
@@ -62,9 +64,9 @@ fn next_stop<'a>(words: &'a [u64], store: &'a [u8], reference: &'a [u8]) {
     say::address(resolver::next_stop(words, store, reference));
 }
 
-fn resolve<'a>(words: &'a [u64], store: &'a [u8], oxid: Oxid) {
+fn resolve<'a>(log: &'a mut [u8], words: &'a [u64], store: &'a [u8], oxid: Oxid) {
     let mut list = [0u8; limits::LONGEST_LIST];
-    let r = resolver::resolve(words, store, oxid, &mut list);
+    let r = recorder::resolve(log, words, store, oxid, &mut list);
     let n = fields::within(&list, r.length);
     resolved(r.answer, &list[0..n]);
 }
@@ -87,9 +89,9 @@ fn resolved(number: u32, list: &[u8]) {
 }
 
 // Asks for addresses of one protocol alone, UDP, which the server does not offer.
-fn resolve_udp<'a>(words: &'a [u64], store: &'a [u8], oxid: Oxid) {
+fn resolve_udp<'a>(log: &'a mut [u8], words: &'a [u64], store: &'a [u8], oxid: Oxid) {
     let mut list = [0u8; limits::LONGEST_LIST];
-    let r = resolver::resolve_filtered(words, store, oxid, &[8], &mut list);
+    let r = recorder::resolve_udp(log, words, store, oxid, &mut list);
     say::results(
         r.answer,
         b"client: resolves it for UDP alone, # bytes\n",
@@ -99,6 +101,7 @@ fn resolve_udp<'a>(words: &'a [u64], store: &'a [u8], oxid: Oxid) {
 
 // The clock runs from after one period of two minutes through another, and the client pings or not.
 pub fn wait(
+    log: &mut [u8; recorder::LOG],
     words: &mut [u64; limits::WORDS],
     store: &[u8; limits::BYTES],
     set: SetId,
@@ -109,55 +112,67 @@ pub fn wait(
     let mut k = from;
     while k < to {
         k += 1;
-        passed(resolver::clock(words, store, server::OPENED + 120 * k as u64));
+        passed(recorder::clock(log, words, store, server::OPENED + 120 * k as u64));
         if pinging {
-            pinged(resolver::simple_ping(words, store, set));
+            pinged(recorder::simple_ping(log, words, store, set));
         }
     }
 }
 
 // Pings once more, and gives the references back. Another client has taken a private reference.
-pub fn leave(words: &mut [u64; limits::WORDS], store: &[u8; limits::BYTES], set: SetId) {
-    pinged(resolver::simple_ping(words, store, set));
+pub fn leave(
+    log: &mut [u8; recorder::LOG],
+    words: &mut [u64; limits::WORDS],
+    store: &[u8; limits::BYTES],
+    set: SetId,
+) {
+    pinged(recorder::simple_ping(log, words, store, set));
     say::done(
-        resolver::add(words, store, 1, server::IPID, 0, 1),
+        recorder::add(log, words, store, 1, server::IPID, 0, 1),
         b"client 1: takes 1 private reference",
     );
-    released(resolver::release(words, store, 0, server::IPID, 7, 1));
-    counted(resolver::members(words, store, set));
+    released(recorder::release(log, words, store, 0, server::IPID, 7, 1));
+    counted(recorder::members(log, words, store, set));
 }
 
 // The object stays until the references of the other client, which is lost, are dropped.
-pub fn lose_other(words: &mut [u64; limits::WORDS], store: &[u8; limits::BYTES], set: SetId) {
+pub fn lose_other(
+    log: &mut [u8; recorder::LOG],
+    words: &mut [u64; limits::WORDS],
+    store: &[u8; limits::BYTES],
+    set: SetId,
+) {
     say::done(
-        resolver::drop_client(words, store, 1),
+        recorder::drop_client(log, words, store, 1),
         b"server: drops the private references of client 1",
     );
-    counted(resolver::members(words, store, set));
-    server::counted(resolver::census(words, store));
+    counted(recorder::members(log, words, store, set));
+    server::counted(recorder::census(log, words, store));
 }
 
 // Pings no more.
 pub fn fall_silent<'a>(
+    log: &mut [u8; recorder::LOG],
     words: &mut [u64; limits::WORDS],
     store: &'a [u8; limits::BYTES],
     reference: &'a [u8; server::REFERENCE],
 ) {
-    let set = take_up(words, store, reference);
-    wait(words, store, set, 4, 7, false);
-    released(resolver::release(words, store, 0, server::IPID, 7, 1));
-    pinged(resolver::simple_ping(words, store, set));
-    server::counted(resolver::census(words, store));
+    let set = take_up(log, words, store, reference);
+    wait(log, words, store, set, 4, 7, false);
+    released(recorder::release(log, words, store, 0, server::IPID, 7, 1));
+    pinged(recorder::simple_ping(log, words, store, set));
+    server::counted(recorder::census(log, words, store));
 }
 
 // A reference is read after its exporter left.
 pub fn come_late<'a>(
+    log: &mut [u8; recorder::LOG],
     words: &'a [u64; limits::WORDS],
     store: &'a [u8; limits::BYTES],
     reference: &'a [u8; server::REFERENCE],
 ) {
-    resolve(words, store, server::OXID);
-    next_stop(words, store, reference);
+    resolve(log, words, store, server::OXID);
+    next_stop(log, words, store, reference);
 }
 
 fn made(r: Pinged) {

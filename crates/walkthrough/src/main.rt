@@ -2,44 +2,67 @@
 // reads it, asks where to go next, resolves, takes more references and pings every two minutes from a set. At noon the gateway's
 // box is swapped: another one loads its snapshot, and serves on. The client gives the references back; the object ends once the
 // references of another client, which is lost, are dropped. Then the same with a client that falls silent. Each step is printed
-// with its answer number.
+// with its answer number. The day is recorded, and replayed at the end.
 use kinds::SetId;
 use kinds::limits;
 
 mod client;
+mod recorder;
 mod say;
 mod server;
 
 fn main() {
     let mut snapshot = [0u8; server::SNAPSHOT];
-    let set = until_noon(&mut snapshot);
-    after_noon(&snapshot, set);
+    let mut log = [0u8; recorder::LOG];
+    let set = until_noon(&mut log, &mut snapshot);
+    after_noon(&mut log, &snapshot, set);
+    replay(&log);
 }
 
 // The first box; the client's set.
-fn until_noon(snapshot: &mut [u8; server::SNAPSHOT]) -> SetId {
+fn until_noon(log: &mut [u8; recorder::LOG], snapshot: &mut [u8; server::SNAPSHOT]) -> SetId {
     let mut words = [0u64; limits::WORDS];
     let mut store = [0u8; limits::BYTES];
     let mut reference = [0u8; server::REFERENCE];
-    server::open(&mut words, &mut store);
-    server::offer(&mut words, &store, &mut reference);
-    let set = client::take_up(&mut words, &store, &reference);
-    client::wait(&mut words, &store, set, 0, 4, true);
-    server::save(&words, &store, snapshot);
+    server::open(log, &mut words, &mut store);
+    server::offer(log, &mut words, &store, &mut reference);
+    let set = client::take_up(log, &mut words, &store, &reference);
+    client::wait(log, &mut words, &store, set, 0, 4, true);
+    server::save(log, &words, &store, snapshot);
     set
 }
 
 // The box that takes over.
-fn after_noon(snapshot: &[u8; server::SNAPSHOT], set: SetId) {
+fn after_noon(log: &mut [u8; recorder::LOG], snapshot: &[u8; server::SNAPSHOT], set: SetId) {
     let mut words = [0u64; limits::WORDS];
     let mut store = [0u8; limits::BYTES];
     let mut reference = [0u8; server::REFERENCE];
-    server::take_over(&mut words, &mut store, snapshot);
-    client::leave(&mut words, &store, set);
-    client::lose_other(&mut words, &store, set);
+    server::take_over(log, &mut words, &mut store, snapshot);
+    client::leave(log, &mut words, &store, set);
+    client::lose_other(log, &mut words, &store, set);
     print::text(b"     the next client falls silent\n");
-    server::offer(&mut words, &store, &mut reference);
-    client::fall_silent(&mut words, &store, &reference);
-    server::close(&mut words, &mut store);
-    client::come_late(&words, &store, &reference);
+    server::offer(log, &mut words, &store, &mut reference);
+    client::fall_silent(log, &mut words, &store, &reference);
+    server::close(log, &mut words, &mut store);
+    client::come_late(log, &words, &store, &reference);
+}
+
+// Support replays the day in a table of its own.
+fn replay(log: &[u8]) {
+    let mut words = [0u64; limits::WORDS];
+    let mut store = [0u8; limits::BYTES];
+    let end = fields::within(log, recorder::end(log));
+    let r = resolver::replay(&mut words, &mut store, &log[0..end]);
+    say::answer(r.answer);
+    print::text(b"support: replays the day");
+    if r.differs == 0 {
+        print::text(b", agrees");
+    } else {
+        print::pattern::filled(b", record # differs", &[r.differs as u64]);
+    }
+    let t = r.tally;
+    print::pattern::filled(
+        b", granted #, taken #, run down #\n",
+        &[t.granted, t.taken, t.rundown],
+    );
 }

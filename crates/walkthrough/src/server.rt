@@ -1,4 +1,5 @@
 // The process-data server.
+use crate::recorder;
 use crate::say;
 use kinds::Guid;
 use kinds::Oid;
@@ -49,25 +50,30 @@ pub const SNAPSHOT: usize = 225;
 pub const OPENED: u64 = 42720;
 
 // Registers at eight minutes to noon.
-pub fn open(words: &mut [u64; limits::WORDS], store: &mut [u8; limits::BYTES]) {
+pub fn open(
+    log: &mut [u8; recorder::LOG],
+    words: &mut [u64; limits::WORDS],
+    store: &mut [u8; limits::BYTES],
+) {
     say::done(
-        resolver::reset(words, store, OPENED),
+        recorder::reset(log, words, store, OPENED),
         b"server: resets its table at eight minutes to noon",
     );
     say::done(
-        resolver::enter_exporter(words, store, OXID, UNKNOWN, &BINDINGS),
+        recorder::enter_exporter(log, words, store, OXID, UNKNOWN, &BINDINGS),
         b"server: registers as exporter",
     );
 }
 
 // Enters the group and writes its reference.
 pub fn offer(
+    log: &mut [u8; recorder::LOG],
     words: &mut [u64; limits::WORDS],
     store: &[u8; limits::BYTES],
     reference: &mut [u8; REFERENCE],
 ) {
     say::done(
-        resolver::enter_object(words, store, OID, OXID, IPID, IID, 5, false),
+        recorder::enter_object(log, words, store, OID, OXID, IPID, IID, 5),
         b"server: enters the tank level group with 5 public references",
     );
     write(reference);
@@ -84,11 +90,12 @@ fn write(reference: &mut [u8; REFERENCE]) {
 
 // The snapshot of the box that goes.
 pub fn save<'a>(
+    log: &mut [u8; recorder::LOG],
     words: &'a [u64; limits::WORDS],
     store: &'a [u8; limits::BYTES],
     snapshot: &mut [u8; SNAPSHOT],
 ) {
-    let r = resolver::write_snapshot(words, store, snapshot);
+    let r = recorder::write_snapshot(log, words, store, snapshot);
     say::results(
         r.answer,
         b"server: writes a snapshot of its table at noon, # bytes\n",
@@ -98,20 +105,25 @@ pub fn save<'a>(
 
 // The box that comes.
 pub fn take_over(
+    log: &mut [u8; recorder::LOG],
     words: &mut [u64; limits::WORDS],
     store: &mut [u8; limits::BYTES],
     snapshot: &[u8; SNAPSHOT],
 ) {
     say::done(
-        resolver::load_snapshot(words, store, snapshot),
+        recorder::load_snapshot(log, words, store, snapshot),
         b"server: loads it into another box, which takes over",
     );
 }
 
 // Leaves.
-pub fn close(words: &mut [u64; limits::WORDS], store: &mut [u8; limits::BYTES]) {
+pub fn close(
+    log: &mut [u8; recorder::LOG],
+    words: &mut [u64; limits::WORDS],
+    store: &mut [u8; limits::BYTES],
+) {
     say::done(
-        resolver::remove_exporter(words, store, OXID),
+        recorder::remove_exporter(log, words, store, OXID),
         b"server: leaves",
     );
 }

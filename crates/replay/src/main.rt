@@ -1,0 +1,74 @@
+// Reads a recording of at most 1 MiB from standard input, replays it, and prints whether it agrees, or the first record that differs:
+// its call, what was recorded and what we answer; then the tally.
+use kinds::answer;
+use kinds::limits;
+use tally::Tally;
+
+mod answers;
+mod ours;
+mod record;
+
+fn main() {
+    let mut input = [0u8; 1048577];
+    whole(&mut input);
+}
+
+// The buffer is one byte longer than a recording may be here.
+fn whole(input: &mut [u8; 1048577]) {
+    read(input);
+}
+
+fn read(input: &mut [u8]) {
+    let n = io::read_full(0, input);
+    if 1048576 < n {
+        print::text(b"too long: more than 1,048,576 bytes\n");
+        return;
+    }
+    report(&mut input[..n]);
+}
+
+fn report(s: &mut [u8]) {
+    let mut words = [0u64; limits::WORDS];
+    let mut store = [0u8; limits::BYTES];
+    let r = resolver::replay(&mut words, &mut store, s);
+    if r.answer != answer::DONE {
+        refused(r.answer);
+        return;
+    }
+    if r.differs == 0 {
+        print::text(b"agrees\n");
+        tallied(r.tally);
+        return;
+    }
+    record::differing(&mut words, &mut store, s, r.differs);
+    tallied(r.tally);
+}
+
+// What is held is the rest of what was granted.
+fn tallied(t: Tally) {
+    let gone = std::num::wrapping_add_u64(t.taken, t.rundown);
+    print::pattern::filled(
+        b"granted #, taken #, run down #, held #\n",
+        &[
+            t.granted,
+            t.taken,
+            t.rundown,
+            std::num::wrapping_sub_u64(t.granted, gone),
+        ],
+    );
+}
+
+fn refused(number: u32) {
+    print::text(b"refused ");
+    print::decimal(number as u64);
+    if number == answer::SHORT {
+        print::text(b": the bytes end before a number or a section does");
+    } else if number == answer::LAYOUT {
+        print::text(
+            b": a record is not in the form of its call, or bytes stand behind the last one",
+        );
+    } else if number == answer::TOO_MANY {
+        print::text(b": more than 16,384 records");
+    }
+    print::end_line();
+}

@@ -1,0 +1,108 @@
+// Lists of adds and releases.
+use kinds::answer;
+use replay_calls::Step;
+ghost use mathlib.Core.Path.{_≡_};
+ghost use mathlib.Core.Bool.{cond};
+ghost use lib.Dec.{eqb};
+ghost use lib.ListN.{length};
+ghost use Rattle.fields.specs.Fields.{field, zeros};
+ghost use Rattle.rules.specs.Calls.{countList, adding, releasing};
+ghost use Rattle.table.specs.View.{memory, SoundTable};
+ghost use Rattle.listing.specs.Listing.{wayOf};
+ghost use Rattle.replay_calls.specs.Steps.{CallDone};
+
+// Code 8: items is the first list.
+pub fn add_list<'a>(
+    words: &'a mut [u64],
+    store: &'a [u8],
+    call: &'a [u8],
+    items: &'a [u8],
+    answer: &'a [u8],
+    shown: &'a [u8],
+) -> Step
+    requires { ⌜ SoundTable (memory (now words) (now store)) × (length (now answer) ≡ 8) ⌝ }
+    ensures { λ r. ⌜
+        CallDone (countList adding (field (now (call .entry)) 1 4) (now (items .entry)) (zeros (field (now (call .entry)) 5 8)))
+        (now (answer .entry)) (now (shown .entry)) (memory (now (words .entry)) (now (store .entry)))
+        r (memory (now (words .exit)) (now (store .entry))) ⌝ }
+{
+    count_list(words, store, false, call, items, answer, shown)
+}
+
+// Code 9, likewise.
+pub fn release_list<'a>(
+    words: &'a mut [u64],
+    store: &'a [u8],
+    call: &'a [u8],
+    items: &'a [u8],
+    answer: &'a [u8],
+    shown: &'a [u8],
+) -> Step
+    requires { ⌜ SoundTable (memory (now words) (now store)) × (length (now answer) ≡ 8) ⌝ }
+    ensures { λ r. ⌜
+        CallDone (countList releasing (field (now (call .entry)) 1 4) (now (items .entry)) (zeros (field (now (call .entry)) 5 8)))
+        (now (answer .entry)) (now (shown .entry)) (memory (now (words .entry)) (now (store .entry)))
+        r (memory (now (words .exit)) (now (store .entry))) ⌝ }
+{
+    count_list(words, store, true, call, items, answer, shown)
+}
+
+// A list given back, or else added: no list has more than 65,535 items.
+fn count_list<'a>(
+    words: &'a mut [u64],
+    store: &'a [u8],
+    back: bool,
+    call: &'a [u8],
+    items: &'a [u8],
+    answer: &'a [u8],
+    shown: &'a [u8],
+) -> Step
+    requires { ⌜ SoundTable (memory (now words) (now store)) × (length (now answer) ≡ 8) ⌝ }
+    ensures { λ r. ⌜
+        CallDone (countList (wayOf back) (field (now (call .entry)) 1 4) (now (items .entry)) (zeros (field (now (call .entry)) 5 8)))
+        (now (answer .entry)) (now (shown .entry)) (memory (now (words .entry)) (now (store .entry)))
+        r (memory (now (words .exit)) (now (store .entry))) ⌝ }
+{
+    let client = fields::read_u32(call, 1);
+    let n = crate::shorter(fields::read_u64(call, 5), answer::MOST_LISTED);
+    let mut buffer = [0u8; answer::MOST_LISTED];
+    count_into(
+        words,
+        store,
+        back,
+        client,
+        items,
+        answer,
+        shown,
+        &mut buffer[..n],
+    )
+}
+
+// The same into a buffer of any length.
+fn count_into<'a>(
+    words: &'a mut [u64],
+    store: &'a [u8],
+    back: bool,
+    client: u32,
+    items: &'a [u8],
+    answer: &'a [u8],
+    shown: &'a [u8],
+    buffer: &'a mut [u8],
+) -> Step
+    requires { ⌜ SoundTable (memory (now words) (now store)) × (length (now answer) ≡ 8) ⌝ }
+    ensures { λ r. ⌜
+        CallDone (countList (wayOf back) client (now (items .entry)) (now (buffer .entry)))
+        (now (answer .entry)) (now (shown .entry)) (memory (now (words .entry)) (now (store .entry)))
+        r (memory (now (words .exit)) (now (store .entry))) ⌝ }
+{
+    let number = listing::list_step(words, store, back, client, items, buffer);
+    let n = written(number, items.len() / 24);
+    crate::shown_step(answer, shown, &buffer[..n], number, 0, 0, 0, 0)
+}
+
+// So many bytes where a call is accepted, else none.
+fn written(number: u32, n: usize) -> usize
+    ensures { λ r. ⌜ r ≡ cond (eqb number 0) n 0 ⌝ }
+{
+    if number == 0 { n } else { 0 }
+}

@@ -1,0 +1,46 @@
+-- A record replayed, by its sections.
+use Prim.Native.Nat.{ℕ, _+_, _-_, _≤_}
+use mathlib.Core.Path.{_≡_}
+use mathlib.Core.Bool.{cond, _||_}
+use mathlib.Core.List.{List}
+use lib.ListN.{take, drop}
+use lib.Dec.{eqb}
+use Rattle.rules.specs.Contract.{Memory, Whole}
+use Rattle.balance.specs.Sides.{Side, granting, taking, running, beginning, sideOf}
+use Rattle.recording.specs.Recording.{Sections, codeOf, callOf, recordedOf}
+use Rattle.recording.specs.declared.Ends.{Ends}
+use Rattle.replay_calls.specs.Steps.{StepDone}
+use Rattle.replay_calls.specs.declared.Step.{Step}
+
+abbrev pub sections : (call first second answer shown : List ℕ) → Sections
+sections call first second answer shown = record { call = call; first = first; second = second; answer = answer; shown = shown }
+
+-- the sections of the record from at that ends so, by their places
+abbrev pub placed : List ℕ → ℕ → Ends → Sections
+placed s at e =
+    sections
+    (take (e .call - (at + 8)) (drop (at + 8) s))
+    (take (e .first - (e .call + 8)) (drop (e .call + 8) s))
+    (take (e .second - (e .first + 8)) (drop (e .first + 8) s))
+    (take (e .answer - (e .second + 8)) (drop (e .second + 8) s))
+    (take (e .shown - (e .answer + 8)) (drop (e .answer + 8) s))
+
+-- one after the other within n bytes, each behind its count
+pub record InOrder (n at : ℕ) (e : Ends) : Type 0 where
+  pub call : at + 8 ≤ e .call
+  pub first : e .call + 8 ≤ e .first
+  pub second : e .first + 8 ≤ e .second
+  pub answer : e .second + 8 ≤ e .answer
+  pub shown : e .answer + 8 ≤ e .shown
+  pub inside : e .shown ≤ n
+
+-- the number that the call of a code moves
+unfoldable pub sideAs : ℕ → Side
+sideAs k = cond (eqb k 6 || eqb k 9) taking (cond (eqb k 2 || (eqb k 7 || eqb k 12)) running (cond (eqb k 0 || eqb k 19) beginning granting))
+
+-- One record replayed: its call is done, and the lengths stay; its code says which number of the tally it moves.
+pub record RecordDone (x : Sections) (m : Memory) (d : Step) (m′ : Memory) : Type 0 where
+  pub done : StepDone (recordedOf x) m d m′
+  pub words : Whole (m′ .words)
+  pub store : Whole (m′ .store)
+  pub side : sideOf (callOf x) ≡ sideAs (codeOf x)

@@ -1,0 +1,9 @@
+pub mod Agreeing
+pub mod Running
+pub mod Buffers
+pub mod Bounds
+pub mod Going
+pub mod Cases
+pub mod Wrapping
+pub mod Looping
+pub mod Lengths

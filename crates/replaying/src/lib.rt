@@ -1,0 +1,52 @@
+// The replay of a recorded shift from a reset at 0.
+mod shift;
+mod tallying;
+
+use kinds::answer;
+use kinds::limits;
+use tally::Tally;
+ghost use mathlib.Core.Path.{_≡_};
+ghost use Rattle.table.specs.View.{memory};
+ghost use Rattle.balance.specs.Balance.{noTally};
+ghost use Rattle.replaying.specs.Replay.{Replayed};
+
+// 0, or 1; 13; 14; 10. differs is 0 where every recorded answer equals ours, else the number of the first record that differs, from 1.
+#[repr(C)]
+pub struct Outcome {
+    pub answer: u32,
+    pub differs: u32,
+    pub tally: Tally,
+}
+
+// A replay that is refused: no record differs, and the tally is zero.
+fn refused(number: u32) -> Outcome
+    ensures { λ r. ⌜ r ≡ record { answer = number; differs = 0; tally = noTally } ⌝ }
+{
+    Outcome {
+        answer: number,
+        differs: 0,
+        tally: Tally {
+            granted: 0,
+            taken: 0,
+            rundown: 0,
+        },
+    }
+}
+
+// A recorded shift replayed from a reset at 0: whether its answers are ours, and the tally.
+pub fn replay<'a>(words: &'a mut [u64], store: &'a mut [u8], s: &'a [u8]) -> Outcome
+    ensures { λ r. ⌜
+        Replayed (memory (now (words .entry)) (now (store .entry))) (now (s .entry)) r (memory (now (words .exit)) (now (store .exit))) ⌝ }
+{
+    if words.len() != limits::WORDS {
+        return refused(answer::UNSOUND);
+    }
+    if store.len() != limits::BYTES {
+        return refused(answer::UNSOUND);
+    }
+    let number = recording::recording_number(s);
+    if number != 0 {
+        return refused(number);
+    }
+    shift::replay_records(words, store, s)
+}

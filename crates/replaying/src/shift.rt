@@ -1,0 +1,90 @@
+// The records of a recording, one after the other.
+use crate::Outcome;
+use crate::tallying;
+use tally::Tally;
+ghost use mathlib.Core.Path.{_≡_};
+ghost use mathlib.Core.Bool.{true};
+ghost use lib.ListN.{drop};
+ghost use Rattle.table.specs.View.{view, memory, SoundTable};
+ghost use Rattle.rules.specs.Contract.{Whole};
+ghost use Rattle.balance.specs.Balance.{heldIn};
+ghost use Rattle.recording.specs.Recording.{wellFormed, sectionsAt, recordingAnswer};
+ghost use Rattle.recording.specs.Places.{recordEnds, RecordAt};
+ghost use Rattle.replaying.specs.Replay.{Replayed};
+ghost use Rattle.replaying.specs.Turns.{TurnDone};
+
+// After a record: whether its answer is ours, where it ends, the table's sum and the tally.
+pub struct Turn {
+    pub agrees: bool,
+    pub end: usize,
+    pub held: u64,
+    pub tally: Tally,
+}
+
+// The record from at; held is the table's sum before it.
+fn take_turn<'a>(
+    words: &'a mut [u64],
+    store: &'a mut [u8],
+    s: &'a [u8],
+    at: usize,
+    held: u64,
+    tally: Tally,
+) -> Turn
+    requires { ⌜ SoundTable (memory (now words) (now store)) × RecordAt (now s) at (recordEnds (now s) at) × (wellFormed (sectionsAt (drop at (now s))) ≡ true)
+        × (held ≡ heldIn (view (memory (now words) (now store)))) ⌝ }
+    ensures { λ r. ⌜
+        TurnDone (now (s .entry)) at (memory (now (words .entry)) (now (store .entry))) tally
+        r (memory (now (words .exit)) (now (store .exit))) ⌝ }
+{
+    let e = recording::record_ends(s, at);
+    let d = replay_groups::perform(words, store, s, at, e);
+    let sum = balance::held(words);
+    let from = at + 8;
+    let to = e.call;
+    let code = recording::byte(&s[from..to], 0);
+    let next = tallying::tally_after(tally, code, d.accepted, held, sum);
+    Turn {
+        agrees: d.agrees,
+        end: e.shown,
+        held: sum,
+        tally: next,
+    }
+}
+
+// A recording that is not refused, from a reset at 0.
+pub fn replay_records<'a>(words: &'a mut [u64], store: &'a mut [u8], s: &'a [u8]) -> Outcome
+    requires { ⌜ Whole (now words) × Whole (now store) × (recordingAnswer (now s) ≡ 0) ⌝ }
+    ensures { λ r. ⌜
+        Replayed (memory (now (words .entry)) (now (store .entry))) (now (s .entry)) r (memory (now (words .exit)) (now (store .exit))) ⌝ }
+{
+    entering::reset(words, store, 0);
+    let mut left = fields::read_u64(s, 0);
+    let mut at = 8;
+    let mut number = 1;
+    let mut held = 0;
+    let mut tally = Tally {
+        granted: 0,
+        taken: 0,
+        rundown: 0,
+    };
+    while 0 < left {
+        let t = take_turn(words, store, s, at, held, tally);
+        tally = t.tally;
+        if !t.agrees {
+            return Outcome {
+                answer: 0,
+                differs: number,
+                tally: tally,
+            };
+        }
+        at = t.end;
+        held = t.held;
+        number += 1;
+        left -= 1;
+    }
+    Outcome {
+        answer: 0,
+        differs: 0,
+        tally: tally,
+    }
+}
