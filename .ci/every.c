@@ -104,6 +104,12 @@ SIZE(rimonakh_stop_place, 24);
 AT(rimonakh_stop_place, in_store, 4);
 AT(rimonakh_stop_place, from, 8);
 AT(rimonakh_stop_place, to, 16);
+SIZE(rimonakh_tally, 24);
+AT(rimonakh_tally, taken, 8);
+AT(rimonakh_tally, rundown, 16);
+SIZE(rimonakh_outcome, 32);
+AT(rimonakh_outcome, differs, 4);
+AT(rimonakh_outcome, tally, 8);
 SIZE(rimonakh_fragments, 104);
 AT(rimonakh_fragments, kept, 88);
 AT(rimonakh_fragments, seen, 96);
@@ -370,6 +376,54 @@ static void fragments(void) {
     IS(last[sizeof list], 0xEE);
 }
 
+/* a section of a record: its number of bytes, then these */
+static size_t put_section(uint8_t *to, const void *bytes, size_t n) {
+    memset(to, 0, 8);
+    to[0] = n & 0xFF;
+    to[1] = n >> 8 & 0xFF;
+    memcpy(to + 8, bytes, n);
+    return 8 + n;
+}
+
+/* a record of a call without a second list that shows nothing */
+static size_t put_record(uint8_t *to, const void *call, size_t call_len, const void *first, size_t first_len,
+                         const void *answer, size_t answer_len) {
+    size_t n = put_section(to, call, call_len);
+    n += put_section(to + n, first, first_len);
+    n += put_section(to + n, "", 0);
+    n += put_section(to + n, answer, answer_len);
+    return n + put_section(to + n, "", 0);
+}
+
+/* the load of a snapshot of the table in calls, a release, and a clock by which the last object goes */
+static void replay(const uint8_t *snapshot, size_t snapshot_len) {
+    static uint8_t recording[1024] = {3};
+    const uint8_t load = 19;
+    const uint8_t release[29] = {6, 3, 0, 0, 0, 0x71, 0, 0, 0, 0, 0, 0, 0, 0x72, 0, 0, 0, 0, 0, 0, 0, 9, 0, 0, 0, 2};
+    const uint8_t clock[9] = {12, 1360 & 0xFF, 1360 >> 8};
+    const uint8_t done[40] = {0};
+    const uint8_t released[40] = {0, 0, 0, 0, 0, 0, 0, 0, 6, 0, 0, 0, 0, 0, 0, 0, 2, 0, 0, 0, 0, 0, 0, 0, 1};
+    const uint8_t expired[40] = {0, 0, 0, 0, 0, 0, 0, 0, 0, 0, 0, 0, 0, 0, 0, 0, 1,
+                                 0, 0, 0, 0, 0, 0, 0, 1, 0, 0, 0, 0, 0, 0, 0, 1};
+    size_t n = 8 + put_record(recording + 8, &load, 1, snapshot, snapshot_len, done, 8);
+    n += put_record(recording + n, release, sizeof release, "", 0, released, sizeof released);
+    n += put_record(recording + n, clock, sizeof clock, "", 0, expired, sizeof expired);
+    rimonakh_outcome outcome = rimonakh_replay(TABLE, recording, n);
+    IS(outcome.answer, 0);
+    IS(outcome.differs, 0);
+    IS(outcome.tally.granted, 9);
+    IS(outcome.tally.taken, 8);
+    IS(outcome.tally.rundown, 1);
+    recording[n - 16] = 2; /* sets that went */
+    outcome = rimonakh_replay(TABLE, recording, n);
+    IS(outcome.answer, 0);
+    IS(outcome.differs, 3);
+    IS(outcome.tally.rundown, 1);
+    IS(rimonakh_replay(TABLE, recording, n - 1).answer, RIMONAKH_SHORT);
+    recording[0] = 2;
+    IS(rimonakh_replay(TABLE, recording, n).answer, RIMONAKH_LAYOUT);
+}
+
 static void calls(void) {
     uint8_t reference[128], buffer[64];
     const uint64_t oids[] = {0x41};
@@ -420,6 +474,7 @@ static void calls(void) {
     IS(rimonakh_write_snapshot(TABLE, snapshot, saved.length - 1).answer, RIMONAKH_NO_ROOM);
     IS(rimonakh_reset(TABLE, 7), 0);
     IS(rimonakh_load_snapshot(TABLE, snapshot, saved.length - 1), RIMONAKH_NO_SNAPSHOT);
+    replay(snapshot, saved.length);
     IS(rimonakh_load_snapshot(TABLE, snapshot, saved.length), 0);
     rimonakh_released gone = rimonakh_release(TABLE, 3, 0x71, 0x72, 9, 2);
     IS(gone.answer, 0);

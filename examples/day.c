@@ -2,7 +2,8 @@
  * One reference through a day. A server registers and enters a tank level group, the reference goes out in bytes, a client
  * reads it, asks where to go next, resolves, takes more references, pings every two minutes from a set, the clock runs. At noon
  * the gateway's box is swapped: another one loads its snapshot, and serves on. The references are given back and the object
- * ends. Then the same with a client that falls silent. Each step is printed with its answer number.
+ * ends. Then the same with a client that falls silent. Each step is printed with its answer number. The day is recorded, call by
+ * call with its answer, in the form of docs/RECORDING.md, and replayed at the end; with a file's name the recording is written there.
  *
  *     cc -Iinclude examples/day.c target/staticlib/libc_api.a -o day && ./day
  */
@@ -10,6 +11,7 @@
 
 #include <inttypes.h>
 #include <stdio.h>
+#include <string.h>
 
 /* The server's table: both buffers are ours, and are lent to every call. One in the box that goes, one in the box that comes. */
 struct box {
@@ -36,6 +38,63 @@ static void step(const char *what, uint32_t answer) {
 static void done(const char *what, uint32_t answer) {
     step(what, answer);
     printf("\n");
+}
+
+/* The recording of the day: the number of its records in eight bytes, then the records, each of five sections after their numbers
+ * of bytes: call, first list, second list, answer, shown. */
+static uint8_t recording[16384];
+static size_t recorded = 8;
+
+static void put(uint64_t n, int bytes) {
+    for (; bytes > 0; bytes--, n >>= 8)
+        recording[recorded++] = (uint8_t)(n & 0xFF);
+}
+
+static void put_guid(rimonakh_guid guid) {
+    put(guid.low, 8);
+    put(guid.high, 8);
+}
+
+static void put_section(const void *bytes, size_t n) {
+    put(n, 8);
+    memcpy(recording + recorded, bytes, n);
+    recorded += n;
+}
+
+/* A call by its code, before its numbers, which take so many bytes. */
+static void put_call(uint8_t code, size_t bytes) {
+    put(1 + bytes, 8);
+    put(code, 1);
+    for (size_t i = 0; i < 8 && ++recording[i] == 0; i++) /* one record more */
+        ;
+}
+
+/* The rest of a record: its list, and what was answered and shown. */
+static void put_rest(const void *list, size_t list_len, uint32_t answer, const uint64_t *results, size_t n,
+                     const void *shown, size_t shown_len) {
+    put_section(list, list_len);
+    put_section("", 0);
+    put(8 + 8 * n, 8);
+    put(answer, 8);
+    for (size_t i = 0; i < n; i++)
+        put(results[i], 8);
+    put_section(shown, shown_len);
+}
+
+/* Of a call without a list and results. */
+static uint32_t put_answer(uint32_t answer) {
+    put_rest("", 0, answer, NULL, 0, "", 0);
+    return answer;
+}
+
+static void put_counts(rimonakh_counts c) {
+    const uint64_t results[] = {c.exporters, c.objects, c.interfaces, c.sets};
+    put_rest("", 0, c.answer, results, 4, "", 0);
+}
+
+static void put_resolved(const void *protocols, size_t n, rimonakh_resolved r, const uint8_t *list) {
+    const uint64_t results[] = {r.length, r.unknown.low, r.unknown.high};
+    put_rest(protocols, n, r.answer, results, 3, list, r.length);
 }
 
 static void put_word(uint8_t *list, size_t *at, unsigned word) {
@@ -70,8 +129,15 @@ static void print_address(const uint8_t *list, size_t length) {
 /* The object is entered, and its reference is written. Answers the reference's length. */
 static size_t serve(const uint8_t *list, size_t list_len, uint8_t *reference, size_t room) {
     rimonakh_written written;
-    done("server: enters the tank level group with 5 public references",
-         rimonakh_enter_object(TABLE, OID, OXID, IPID.low, IPID.high, IID.low, IID.high, 5, false));
+    uint32_t entered = rimonakh_enter_object(TABLE, OID, OXID, IPID.low, IPID.high, IID.low, IID.high, 5, false);
+    put_call(3, 53);
+    put(OID, 8);
+    put(OXID, 8);
+    put_guid(IPID);
+    put_guid(IID);
+    put(5, 4);
+    put(false, 1);
+    done("server: enters the tank level group with 5 public references", put_answer(entered));
     written = rimonakh_reference_write(RIMONAKH_STANDARD, IID.low, IID.high, 0, 5, OXID, OID, IPID.low, IPID.high, 0, 0,
                                        0, 0, 0, 0, list, list_len, list, 0, reference, room);
     step("server: writes the reference", written.answer);
@@ -82,10 +148,71 @@ static size_t serve(const uint8_t *list, size_t list_len, uint8_t *reference, si
 /* Where a client goes with a reference: to the list of a live exporter in the store, or to the reference's own list. */
 static void next_stop(const uint8_t *reference, size_t length) {
     rimonakh_stop_place stop = rimonakh_next_stop(TABLE, reference, length);
+    const uint8_t *list = (stop.in_store ? box->store : reference) + stop.from;
+    put_call(17, 0);
+    put_rest(reference, length, stop.answer, NULL, 0, list, stop.to - stop.from);
     step("client: asks where to go next", stop.answer);
     printf(", %s, ", stop.in_store ? "the exporter's list" : "the reference's own list");
-    print_address((stop.in_store ? box->store : reference) + stop.from, stop.to - stop.from);
+    print_address(list, stop.to - stop.from);
     printf("\n");
+}
+
+/* An exporter's binding list, into a buffer of RIMONAKH_LONGEST_LIST bytes. */
+static rimonakh_resolved resolve(uint64_t oxid, uint8_t *list) {
+    rimonakh_resolved resolved = rimonakh_resolve(TABLE, oxid, list, RIMONAKH_LONGEST_LIST);
+    put_call(13, 16);
+    put(oxid, 8);
+    put(RIMONAKH_LONGEST_LIST, 8);
+    put_resolved("", 0, resolved, list);
+    step("client: resolves the exporter", resolved.answer);
+    return resolved;
+}
+
+/* The same with the addresses of one protocol alone, UDP. */
+static void resolve_udp(uint64_t oxid) {
+    uint8_t list[RIMONAKH_LONGEST_LIST];
+    const uint16_t udp = 8;
+    const uint8_t udp_bytes[] = {8, 0};
+    rimonakh_resolved resolved = rimonakh_resolve_filtered(TABLE, oxid, &udp, 1, list, sizeof list);
+    put_call(14, 16);
+    put(oxid, 8);
+    put(sizeof list, 8);
+    put_resolved(udp_bytes, sizeof udp_bytes, resolved, list);
+    step("client: resolves it for UDP alone", resolved.answer);
+    printf(", %zu bytes\n", resolved.length);
+}
+
+static void add(const char *what, uint32_t client, uint32_t public_refs, uint32_t private_refs) {
+    uint32_t answer = rimonakh_add(TABLE, client, IPID.low, IPID.high, public_refs, private_refs);
+    put_call(5, 28);
+    put(client, 4);
+    put_guid(IPID);
+    put(public_refs, 4);
+    put(private_refs, 4);
+    done(what, put_answer(answer));
+}
+
+/* Pings with an object in a new set; the set. */
+static uint64_t make_set(uint64_t oid) {
+    rimonakh_pinged pinged = rimonakh_complex_ping(TABLE, 0, 1, &oid, 1, &oid, 0); /* a list of one, and an empty one */
+    const uint64_t results[] = {pinged.set, pinged.backoff};
+    uint8_t adds[8];
+    for (int i = 0; i < 8; i++)
+        adds[i] = (uint8_t)(oid >> 8 * i & 0xFF);
+    put_call(11, 10);
+    put(0, 8);
+    put(1, 2);
+    put_rest(adds, sizeof adds, pinged.answer, results, 2, "", 0);
+    step("client: pings with the object in a new set", pinged.answer);
+    printf(", set %" PRIu64 ", backoff %u\n", pinged.set, (unsigned)pinged.backoff);
+    return pinged.set;
+}
+
+static void ping(uint64_t set) {
+    uint32_t answer = rimonakh_simple_ping(TABLE, set);
+    put_call(10, 8);
+    put(set, 8);
+    done("client: pings its set", put_answer(answer));
 }
 
 /* A client reads the reference, goes where it leads, takes references of its own and pings. Answers its ping set. */
@@ -94,48 +221,51 @@ static uint64_t take_up(const uint8_t *reference, size_t length) {
     rimonakh_read_reference read = rimonakh_reference_read(reference, length);
     rimonakh_block block = read.reference.block;
     rimonakh_resolved resolved;
-    rimonakh_pinged pinged;
-    const uint16_t udp = 8;
     step("client: reads the reference", read.answer);
     printf(", OXID %#" PRIx64 ", OID %#" PRIx64 ", %" PRIu32 " public references, %s\n", block.oxid, block.oid,
            block.public_refs, block.flags & RIMONAKH_NO_PING ? "not pinged" : "pinged");
     next_stop(reference, length);
-    resolved = rimonakh_resolve(TABLE, block.oxid, list, sizeof list);
-    step("client: resolves the exporter", resolved.answer);
+    resolved = resolve(block.oxid, list);
     printf(", %zu bytes, ", resolved.length);
     print_address(list, resolved.length);
     printf("\n");
-    resolved = rimonakh_resolve_filtered(TABLE, block.oxid, &udp, 1, list, sizeof list);
-    step("client: resolves it for UDP alone", resolved.answer);
-    printf(", %zu bytes\n", resolved.length);
-    done("client: takes 2 public and 1 private references more",
-         rimonakh_add(TABLE, 0, block.ipid.low, block.ipid.high, 2, 1));
-    pinged = rimonakh_complex_ping(TABLE, 0, 1, &block.oid, 1, &block.oid, 0); /* a list of one, and an empty one */
-    step("client: pings with the object in a new set", pinged.answer);
-    printf(", set %" PRIu64 ", backoff %u\n", pinged.set, (unsigned)pinged.backoff);
-    return pinged.set;
+    resolve_udp(block.oxid);
+    add("client: takes 2 public and 1 private references more", 0, 2, 1);
+    return make_set(block.oid);
 }
 
 /* The box is swapped: its snapshot is loaded into the other one, which then serves. */
 static void swap_box(void) {
     static uint8_t snapshot[RIMONAKH_LONGEST_SNAPSHOT];
     rimonakh_written written = rimonakh_write_snapshot(TABLE, snapshot, sizeof snapshot);
+    const uint64_t length = written.length;
+    uint32_t loaded;
+    put_call(18, 8);
+    put(sizeof snapshot, 8);
+    put_rest("", 0, written.answer, &length, 1, snapshot, written.length);
     step("server: writes a snapshot of its table at noon", written.answer);
     printf(", %zu bytes\n", written.length);
     box = &boxes[1];
-    done("server: loads it into another box, which takes over",
-         rimonakh_load_snapshot(TABLE, snapshot, written.length));
+    loaded = rimonakh_load_snapshot(TABLE, snapshot, written.length);
+    put_call(19, 0);
+    put_rest(snapshot, written.length, loaded, NULL, 0, "", 0);
+    done("server: loads it into another box, which takes over", loaded);
 }
 
 /* The clock runs for two minutes. */
 static void two_minutes(uint64_t *time) {
     rimonakh_counts went = rimonakh_clock(TABLE, *time += 120);
+    put_call(12, 8);
+    put(*time, 8);
+    put_counts(went);
     step("clock: two minutes later", went.answer);
     printf(", %zu objects, %zu interfaces and %zu sets went\n", went.objects, went.interfaces, went.sets);
 }
 
 static void census(void) {
     rimonakh_counts live = rimonakh_census(TABLE);
+    put_call(15, 0);
+    put_counts(live);
     step("server: census", live.answer);
     printf(", %zu exporters, %zu objects, %zu interfaces, %zu sets\n", live.exporters, live.objects, live.interfaces,
            live.sets);
@@ -143,6 +273,13 @@ static void census(void) {
 
 static void give_back(void) {
     rimonakh_released released = rimonakh_release(TABLE, 0, IPID.low, IPID.high, 7, 1);
+    const uint64_t results[] = {released.public_refs, released.private_refs, released.interfaces, released.objects};
+    put_call(6, 28);
+    put(0, 4);
+    put_guid(IPID);
+    put(7, 4);
+    put(1, 4);
+    put_rest("", 0, released.answer, results, 4, "", 0);
     step("client: gives 7 public and 1 private references back", released.answer);
     printf(", took %" PRIu32 " and %" PRIu32 ", %s, %s\n", released.public_refs, released.private_refs,
            released.interfaces ? "the interface went" : "no interface went",
@@ -151,11 +288,62 @@ static void give_back(void) {
 
 static void count_members(uint64_t set) {
     rimonakh_member_count members = rimonakh_members(TABLE, set);
+    const uint64_t count = members.count;
+    put_call(16, 8);
+    put(set, 8);
+    put_rest("", 0, members.answer, &count, 1, "", 0);
     step("client: counts the members of its set", members.answer);
     printf(", %zu\n", members.count);
 }
 
-int main(void) {
+static void drop_client(uint32_t client) {
+    uint32_t answer = rimonakh_drop_client(TABLE, client);
+    put_call(7, 4);
+    put(client, 4);
+    done("server: drops the private references of client 1", put_answer(answer));
+}
+
+static void open_table(uint64_t time, const uint8_t *list, size_t list_len) {
+    uint32_t answer = rimonakh_reset(TABLE, time);
+    put_call(0, 8);
+    put(time, 8);
+    done("server: resets its table at eight minutes to noon", put_answer(answer));
+    answer = rimonakh_enter_exporter(TABLE, OXID, UNKNOWN.low, UNKNOWN.high, list, list_len);
+    put_call(1, 24);
+    put(OXID, 8);
+    put_guid(UNKNOWN);
+    put_rest(list, list_len, answer, NULL, 0, "", 0);
+    done("server: registers as exporter", answer);
+}
+
+static void leave(void) {
+    uint32_t answer = rimonakh_remove_exporter(TABLE, OXID);
+    put_call(2, 8);
+    put(OXID, 8);
+    done("server: leaves", put_answer(answer));
+}
+
+/* Support replays the day in a table of its own. */
+static void replay(void) {
+    static struct box other;
+    rimonakh_outcome outcome =
+        rimonakh_replay(other.words, RIMONAKH_WORDS, other.store, RIMONAKH_BYTES, recording, recorded);
+    rimonakh_tally tally = outcome.tally;
+    step("support: replays the day", outcome.answer);
+    if (outcome.differs == 0)
+        printf(", agrees");
+    else
+        printf(", record %" PRIu32 " differs", outcome.differs);
+    printf(", granted %" PRIu64 ", taken %" PRIu64 ", run down %" PRIu64 "\n", tally.granted, tally.taken, tally.rundown);
+}
+
+static int save(const char *name) {
+    FILE *file = fopen(name, "wb");
+    size_t written = file == NULL ? 0 : fwrite(recording, 1, recorded, file);
+    return file == NULL || fclose(file) != 0 || written != recorded;
+}
+
+int main(int argc, char **argv) {
     uint8_t list[RIMONAKH_LONGEST_LIST];
     uint8_t reference[1024];
     uint64_t time = 12 * 3600 - 4 * 120;
@@ -164,22 +352,19 @@ int main(void) {
     rimonakh_resolved resolved;
     uint64_t set;
 
-    done("server: resets its table at eight minutes to noon", rimonakh_reset(TABLE, time));
-    done("server: registers as exporter",
-         rimonakh_enter_exporter(TABLE, OXID, UNKNOWN.low, UNKNOWN.high, list, list_len));
-
+    open_table(time, list, list_len);
     length = serve(list, list_len, reference, sizeof reference);
     set = take_up(reference, length);
     for (int i = 0; i < 4; i++) {
         two_minutes(&time);
-        done("client: pings its set", rimonakh_simple_ping(TABLE, set));
+        ping(set);
     }
     swap_box();
-    done("client: pings its set", rimonakh_simple_ping(TABLE, set));
-    done("client 1: takes 1 private reference", rimonakh_add(TABLE, 1, IPID.low, IPID.high, 0, 1));
+    ping(set);
+    add("client 1: takes 1 private reference", 1, 0, 1);
     give_back();
     count_members(set);
-    done("server: drops the private references of client 1", rimonakh_drop_client(TABLE, 1));
+    drop_client(1);
     count_members(set);
     census();
 
@@ -189,13 +374,13 @@ int main(void) {
     for (int i = 0; i < 3; i++)
         two_minutes(&time);
     give_back();
-    done("client: pings its set", rimonakh_simple_ping(TABLE, set));
+    ping(set);
     census();
 
-    done("server: leaves", rimonakh_remove_exporter(TABLE, OXID));
-    resolved = rimonakh_resolve(TABLE, OXID, list, sizeof list);
-    step("client: resolves the exporter", resolved.answer);
+    leave();
+    resolved = resolve(OXID, list);
     printf(", code %" PRIu32 " on the wire\n", rimonakh_wire_code(resolved.answer));
     next_stop(reference, length);
-    return 0;
+    replay();
+    return argc == 2 ? save(argv[1]) : 0;
 }

@@ -8,12 +8,14 @@
  * What the caller answers for, in the words of docs/PROOF.md. A pointer and a length given together are a buffer of that length;
  * the pointer is aligned for its type and not NULL, even where the length is 0. Two buffers of one call do not overlap where
  * one of them is written. While a call runs, no other thread, and no other process that shares the memory, changes a buffer that
- * is lent to it, or reads one that it writes. The stack suffices: a load takes the most, 147,024 bytes as measured.
+ * is lent to it, or reads one that it writes. The stack suffices: a replay takes the most, 214,287 bytes as measured, a load
+ * 147,024.
  *
  * Tables. A table is an array of 8,192 words and a store of 8,192 bytes. Both are lent to every call, and a call that is lent
- * words and a store that are no sound table answers 1, save a reset and a load of a snapshot. Between calls the caller may copy, save and restore them. Two calls on
- * one table do not run at the same time, unless both take it as const. Only a call that takes the store without const changes
- * it: binding lists stand end to end in it, and move when an exporter before them is removed.
+ * words and a store that are no sound table answers 1, save a reset, a load of a snapshot and a replay. Between calls the
+ * caller may copy, save and restore them. Two calls on one table do not run at the same time, unless both take it as const.
+ * Only a call that takes the store without const changes it: binding lists stand end to end in it, and move when an exporter
+ * before them is removed.
  *
  * GUIDs are two numbers: the little-endian numbers of the first and of the last eight of their sixteen bytes on the wire.
  *
@@ -36,6 +38,7 @@ enum {
     RIMONAKH_BYTES = 8192, /* the length of a table's store, in bytes */
     RIMONAKH_LONGEST_LIST = 2048, /* the longest binding list of an exporter, in bytes */
     RIMONAKH_LONGEST_SNAPSHOT = 64698, /* the longest snapshot of a table, in bytes */
+    RIMONAKH_MOST_RECORDS = 16384, /* the most records of a recording that is replayed */
     RIMONAKH_NO_PING = 0x1000 /* the bit of a block's flags that means no pinging */
 };
 
@@ -51,7 +54,7 @@ enum {
     RIMONAKH_NO_REFERENCES = 7, /* an entry with zero references */
     RIMONAKH_COUNT_OVERFLOW = 8, /* a count would pass 4,294,967,295 */
     RIMONAKH_NO_PLACE = 9, /* no free place of a kind that is needed, or no room in the store for a binding list */
-    RIMONAKH_TOO_MANY = 10, /* a list of more than 65,535 identifiers, items or protocols */
+    RIMONAKH_TOO_MANY = 10, /* a list of more than 65,535 identifiers, items or protocols, or more than RIMONAKH_MOST_RECORDS records */
     RIMONAKH_NO_SET = 11, /* no such live ping set */
     RIMONAKH_STALE = 12, /* a stale sequence number */
     RIMONAKH_SHORT = 13, /* the bytes end before a field does */
@@ -272,6 +275,22 @@ typedef struct {
     size_t from;
     size_t to;
 } rimonakh_stop_place;
+
+/* The tally of a replay: what accepted entries and adds granted, what releases took, and what the removal of an exporter, a clock
+ * or the drop of a client took. Granted less taken less rundown is held, the sum of all counts of the table. */
+typedef struct {
+    uint64_t granted;
+    uint64_t taken;
+    uint64_t rundown;
+} rimonakh_tally;
+
+/* What a replay found: differs is 0 where every recorded answer is ours, else the number of the first record whose answer is
+ * not, from 1. */
+typedef struct {
+    uint32_t answer;
+    uint32_t differs;
+    rimonakh_tally tally;
+} rimonakh_outcome;
 
 /* The state between two fragments of a reference: 104 bytes. The caller keeps it from call to call. */
 typedef struct {
@@ -570,6 +589,14 @@ rimonakh_written rimonakh_write_snapshot(const uint64_t *words, size_t words_len
  * the snapshot of any sound table. */
 uint32_t rimonakh_load_snapshot(uint64_t *words, size_t words_len, uint8_t *store, size_t store_len,
                                 const uint8_t *snapshot, size_t snapshot_len);
+
+/* Replays a recording, which is read: calls in order, each with its answer, in the form of docs/RECORDING.md. The table is reset
+ * at 0, whatever array and store held before; then each call is done, up to the first whose recorded answer is not ours, that
+ * call among them. A recorded reset starts the tally at zero, an accepted load at the snapshot's counts as granted. It takes less
+ * than 220 KiB of stack. 13 where the bytes end before a number or a section does; 14 for a broken form; 10 for more than
+ * RIMONAKH_MOST_RECORDS records. */
+rimonakh_outcome rimonakh_replay(uint64_t *words, size_t words_len, uint8_t *store, size_t store_len,
+                                 const uint8_t *recording, size_t recording_len);
 
 #ifdef __cplusplus
 }

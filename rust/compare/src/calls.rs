@@ -19,23 +19,34 @@ const LENGTH: usize = 8192;
 
 /// An array and a store, each with one place more than a table has, for lengths that are too large.
 #[derive(Clone, PartialEq)]
-struct Memory {
+pub struct Memory {
     words: Vec<u64>,
     store: Vec<u8>,
 }
 
 impl Memory {
     /// Memory that holds anything.
-    fn any(random: &mut Random) -> Memory {
+    pub fn any(random: &mut Random) -> Memory {
         Memory {
             words: (0..=LENGTH).map(|_| random.word()).collect(),
             store: random.bytes(LENGTH + 1),
         }
     }
 
+    /// All words and bytes, one more than a table has.
+    pub fn all(&mut self) -> (&mut [u64], &mut [u8]) {
+        (&mut self.words, &mut self.store)
+    }
+
+    /// A table's words and bytes.
+    pub fn lent(&mut self) -> (&mut [u64], &mut [u8]) {
+        (&mut self.words[..LENGTH], &mut self.store[..LENGTH])
+    }
+
     /// A call that is lent a table's words and bytes.
     fn perform<S: Subject>(&mut self, call: &Op) -> Reply {
-        S::perform(&mut self.words[..LENGTH], &mut self.store[..LENGTH], call)
+        let (words, store) = self.lent();
+        S::perform(words, store, call)
     }
 }
 

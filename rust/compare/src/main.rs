@@ -15,6 +15,7 @@ mod model_side;
 mod op;
 mod orders;
 mod random;
+mod recordings;
 mod shrink;
 mod subject;
 mod tally;
@@ -27,11 +28,12 @@ use tally::Tally;
 /// The sides differ, and where was printed.
 pub struct Differs;
 
-/// How much is compared: calls, calls on tables that are changed behind them, byte inputs.
+/// How much is compared: calls, calls on tables that are changed behind them, byte inputs, replays.
 struct Scale {
     calls: u64,
     pokes: u64,
     inputs: u64,
+    replays: u64,
 }
 
 fn compare(seed: u64, scale: &Scale) -> Result<(), Differs> {
@@ -59,6 +61,9 @@ fn compare(seed: u64, scale: &Scale) -> Result<(), Differs> {
     all.join(&part("calls on changed tables", &|| {
         calls::compare::<Library>(seed, pokes, true)
     })?);
+    all.join(&part("recordings", &|| {
+        recordings::compare(seed, scale.replays)
+    })?);
     part("plain Rust", &|| {
         calls::compare::<Plain>(seed, calls / 4, false)
     })?;
@@ -82,6 +87,7 @@ fn main() -> ExitCode {
                 calls: 300_000,
                 pokes: 100_000,
                 inputs: 400_000,
+                replays: 8_000,
             },
         ),
         ["full"] | ["full", _] => {
@@ -101,6 +107,7 @@ fn main() -> ExitCode {
                     calls: 1_200_000,
                     pokes: 400_000,
                     inputs: 1_200_000,
+                    replays: 100_000,
                 },
             )
         }

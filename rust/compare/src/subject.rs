@@ -4,7 +4,7 @@ use crate::op::{buffer, halves, resolved, Op, Reply, Results};
 use model::entries::Way;
 use model::Guid;
 use plain::table as p;
-use rimonakh::{ffi, Error, Oid, Oxid, SetId, Stop, Table};
+use rimonakh::{ffi, Error, Oid, Oxid, Recorder, SetId, Stop, Table};
 
 pub trait Subject {
     const NAME: &'static str;
@@ -16,28 +16,24 @@ fn none(_: ()) -> Results {
     (vec![], vec![])
 }
 
-pub struct Library;
-
-impl Subject for Library {
-    const NAME: &'static str = "library";
-
-    fn perform(words: &mut [u64], store: &mut [u8], op: &Op) -> Reply {
-        let mut table = Table::over(&mut *words, &mut *store);
+/// The results of a call by a table, or by a recorder, which has the same calls.
+macro_rules! performed {
+    ($table:expr, $op:expr) => {{
         let guid = rimonakh::Guid;
         let counts = |c: rimonakh::Counts| {
             let numbers = [c.exporters, c.objects, c.interfaces, c.sets];
             (numbers.map(|n| n as u64).to_vec(), vec![])
         };
-        let results = match *op {
-            Op::Reset(time) => table.reset(time).map(none),
+        match *$op {
+            Op::Reset(time) => $table.reset(time).map(none),
             Op::EnterExporter {
                 oxid,
                 unknown,
                 ref list,
-            } => table
+            } => $table
                 .enter_exporter(Oxid(oxid), guid(unknown), list)
                 .map(none),
-            Op::RemoveExporter(oxid) => table.remove_exporter(Oxid(oxid)).map(none),
+            Op::RemoveExporter(oxid) => $table.remove_exporter(Oxid(oxid)).map(none),
             Op::EnterObject {
                 oid,
                 oxid,
@@ -45,7 +41,7 @@ impl Subject for Library {
                 iid,
                 public,
                 no_ping,
-            } => table
+            } => $table
                 .enter_object(Oid(oid), Oxid(oxid), guid(ipid), guid(iid), public, no_ping)
                 .map(none),
             Op::EnterInterface {
@@ -53,7 +49,7 @@ impl Subject for Library {
                 ipid,
                 iid,
                 public,
-            } => table
+            } => $table
                 .enter_interface(Oid(oid), guid(ipid), guid(iid), public)
                 .map(none),
             Op::Add {
@@ -61,8 +57,8 @@ impl Subject for Library {
                 ipid,
                 public,
                 private,
-            } => table.add(client, guid(ipid), public, private).map(none),
-            Op::DropClient(client) => table.drop_client(client).map(none),
+            } => $table.add(client, guid(ipid), public, private).map(none),
+            Op::DropClient(client) => $table.drop_client(client).map(none),
             Op::CountList {
                 way,
                 client,
@@ -71,8 +67,8 @@ impl Subject for Library {
             } => {
                 let mut out = buffer(room);
                 let done = match way {
-                    Way::Add => table.add_list(client, items, &mut out),
-                    Way::Release => table.release_list(client, items, &mut out),
+                    Way::Add => $table.add_list(client, items, &mut out),
+                    Way::Release => $table.release_list(client, items, &mut out),
                 };
                 if done.is_err() {
                     assert_eq!(out, buffer(room), "a refused list leaves its results");
@@ -84,14 +80,16 @@ impl Subject for Library {
                 ipid,
                 public,
                 private,
-            } => table.release(client, guid(ipid), public, private).map(|r| {
-                let went = [r.interface_went, r.object_went].map(u64::from);
-                (
-                    vec![r.public.into(), r.private.into(), went[0], went[1]],
-                    vec![],
-                )
-            }),
-            Op::SimplePing(set) => table.simple_ping(SetId(set)).map(none),
+            } => $table
+                .release(client, guid(ipid), public, private)
+                .map(|r| {
+                    let went = [r.interface_went, r.object_went].map(u64::from);
+                    (
+                        vec![r.public.into(), r.private.into(), went[0], went[1]],
+                        vec![],
+                    )
+                }),
+            Op::SimplePing(set) => $table.simple_ping(SetId(set)).map(none),
             Op::ComplexPing {
                 set,
                 sequence,
@@ -99,14 +97,14 @@ impl Subject for Library {
                 ref deletes,
             } => {
                 let oids = |ids: &[u64]| ids.iter().copied().map(Oid).collect::<Vec<Oid>>();
-                table
+                $table
                     .complex_ping(SetId(set), sequence, &oids(adds), &oids(deletes))
                     .map(|p| (vec![p.set.0, p.backoff.into()], vec![]))
             }
-            Op::Clock(time) => table.clock(time).map(counts),
+            Op::Clock(time) => $table.clock(time).map(counts),
             Op::Resolve { oxid, room } => {
                 let mut out = buffer(room);
-                let answer = table.resolve(Oxid(oxid), &mut out);
+                let answer = $table.resolve(Oxid(oxid), &mut out);
                 answer.map(|r| resolved((r.length, r.unknown.0), out))
             }
             Op::ResolveFiltered {
@@ -115,25 +113,35 @@ impl Subject for Library {
                 room,
             } => {
                 let mut out = buffer(room);
-                let answer = table.resolve_filtered(Oxid(oxid), protocols, &mut out);
+                let answer = $table.resolve_filtered(Oxid(oxid), protocols, &mut out);
                 answer.map(|r| resolved((r.length, r.unknown.0), out))
             }
-            Op::Census => table.census().map(counts),
-            Op::Members(set) => table.members(SetId(set)).map(|n| (vec![n as u64], vec![])),
-            Op::NextStop(ref reference) => table.next_stop(reference).map(|stop| match stop {
+            Op::Census => $table.census().map(counts),
+            Op::Members(set) => $table.members(SetId(set)).map(|n| (vec![n as u64], vec![])),
+            Op::NextStop(ref reference) => $table.next_stop(reference).map(|stop| match stop {
                 Stop::Exporter(list) => (vec![1], list.to_vec()),
                 Stop::Own(list) => (vec![0], list.to_vec()),
             }),
             Op::WriteSnapshot { room } => {
                 let mut out = buffer(room);
-                let answer = table.write_snapshot(&mut out);
+                let answer = $table.write_snapshot(&mut out);
                 answer.map(|length| (vec![length as u64], out))
             }
-            Op::LoadSnapshot(ref bytes) => table.load_snapshot(bytes).map(none),
+            Op::LoadSnapshot(ref bytes) => $table.load_snapshot(bytes).map(none),
             Op::Lent { .. } | Op::PokeWord { .. } | Op::PokeByte { .. } => {
                 unreachable!("not a call")
             }
-        };
+        }
+    }};
+}
+
+pub struct Library;
+
+impl Subject for Library {
+    const NAME: &'static str = "library";
+
+    fn perform(words: &mut [u64], store: &mut [u8], op: &Op) -> Reply {
+        let results = performed!(Table::over(&mut *words, &mut *store), op);
         if results.is_err() {
             assert!(
                 zeros(words, store, op),
@@ -141,6 +149,25 @@ impl Subject for Library {
             );
         }
         op.reply(results.map_err(Error::number))
+    }
+}
+
+/// A table whose calls are recorded.
+pub struct Recorded(Recorder);
+
+impl Recorded {
+    /// An empty table, whose reset is recorded.
+    pub fn new(time: u64) -> Recorded {
+        Recorded(Recorder::new(time))
+    }
+
+    pub fn perform(&mut self, op: &Op) -> Reply {
+        let results: Result<Results, Error> = performed!(self.0, op);
+        op.reply(results.map_err(Error::number))
+    }
+
+    pub fn recording(&self) -> Vec<u8> {
+        self.0.recording().to_vec()
     }
 }
 

@@ -14,7 +14,7 @@ const NUMBERS: [u32; 24] = [
 ];
 
 /// What runs of calls have to reach.
-const EVENTS: [&str; 26] = [
+const EVENTS: [&str; 30] = [
     "exporters full",
     "store full",
     "store filled to the last byte",
@@ -41,6 +41,10 @@ const EVENTS: [&str; 26] = [
     "snapshots loaded over an unsound table",
     "snapshots refused",
     "boxes swapped",
+    "recordings agree",
+    "recordings that took and ran down",
+    "recordings differ where changed",
+    "recordings differ by a changed byte",
 ];
 
 impl Tally {

@@ -1,5 +1,5 @@
 //! Documents 01 and 02 on plain vectors, written from the documents alone: bytes (references, lists, headers), contexts, entries
-//! and calls, snapshots.
+//! and calls, snapshots, recordings.
 //! A refusal is `Err` with its answer number.
 
 pub mod bytes;
@@ -7,6 +7,7 @@ pub mod contexts;
 pub mod entries;
 pub mod extensions;
 pub mod fragments;
+pub mod recording;
 pub mod snapshot;
 
 /// A GUID as its sixteen bytes on the wire.

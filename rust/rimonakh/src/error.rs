@@ -82,7 +82,7 @@ impl Error {
             Error::NoPlace => {
                 "no free place of a kind that is needed, or no room for a binding list"
             }
-            Error::TooMany => "a list of more than 65,535 identifiers, items or protocols",
+            Error::TooMany => "a list of more than 65,535 identifiers, items or protocols, or more than 16,384 records",
             Error::NoSet => "no such live ping set",
             Error::Stale => "stale sequence number",
             Error::Short => "the bytes end before a field does",

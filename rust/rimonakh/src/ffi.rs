@@ -4,6 +4,7 @@
 
 use crate::{
     Context, Counts, Extensions, Guid, OrpcThat, OrpcThis, Pinged, Property, Reference, Resolved,
+    Tally,
 };
 
 #[repr(C)]
@@ -160,6 +161,14 @@ pub struct StopPlace {
     pub in_store: bool,
     pub from: usize,
     pub to: usize,
+}
+
+#[repr(C)]
+#[derive(Clone, Copy)]
+pub struct Outcome {
+    pub answer: u32,
+    pub differs: u32,
+    pub tally: Tally,
 }
 
 /// The state between two fragments of a reference.
@@ -477,6 +486,14 @@ extern "C" {
         snapshot: *const u8,
         snapshot_len: usize,
     ) -> u32;
+    pub fn rimonakh_replay(
+        words: *mut u64,
+        words_len: usize,
+        store: *mut u8,
+        store_len: usize,
+        recording: *const u8,
+        recording_len: usize,
+    ) -> Outcome;
 
     pub fn rimonakh_list_strings(bytes: *const u8, bytes_len: usize) -> Cursor;
     pub fn rimonakh_list_securities(bytes: *const u8, bytes_len: usize) -> Cursor;

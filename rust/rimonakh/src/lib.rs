@@ -44,6 +44,7 @@ pub mod ffi;
 mod fragments;
 mod headers;
 mod ids;
+mod recording;
 mod table;
 
 pub use bytes::{list, Block, Context, Part, Property, Reference};
@@ -51,6 +52,7 @@ pub use error::{wire_code, Error};
 pub use fragments::FragmentReader;
 pub use headers::{Extension, Extensions, OrpcThat, OrpcThis, Read};
 pub use ids::{Guid, Oid, Oxid, SetId};
+pub use recording::{Outcome, Recorder, Tally, MOST_RECORDS};
 pub use table::{
     Counts, Item, Pinged, Released, Resolved, Stop, Table, BYTES, LONGEST_SNAPSHOT, WORDS,
 };

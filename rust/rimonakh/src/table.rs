@@ -1,7 +1,7 @@
 //! The table of exporters, objects, interfaces and ping sets, and the calls on it.
 
 use crate::error::answered;
-use crate::{ffi, Guid, Oid, Oxid, Result, SetId};
+use crate::{ffi, Guid, Oid, Outcome, Oxid, Result, SetId};
 
 /// The length of a table's array, in words.
 pub const WORDS: usize = 8192;
@@ -483,6 +483,27 @@ where
             )
         };
         answered(number, ())
+    }
+
+    /// Replays a recording from a reset at 0, up to the first record whose answer is not ours, that call done. What the table held
+    /// before is gone, and need not have been sound.
+    pub fn replay(&mut self, recording: &[u8]) -> Result<Outcome> {
+        let (words, store) = (self.words.as_mut(), self.store.as_mut());
+        let r = unsafe {
+            ffi::rimonakh_replay(
+                words.as_mut_ptr(),
+                words.len(),
+                store.as_mut_ptr(),
+                store.len(),
+                recording.as_ptr(),
+                recording.len(),
+            )
+        };
+        let outcome = Outcome {
+            differs: (r.differs != 0).then_some(r.differs),
+            tally: r.tally,
+        };
+        answered(r.answer, outcome)
     }
 
     /// The live number of each kind.

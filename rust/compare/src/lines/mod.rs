@@ -6,6 +6,7 @@ mod bytes;
 mod extended;
 mod fragments;
 mod headers;
+mod recordings;
 mod table;
 
 use crate::decode::guid;
@@ -154,12 +155,21 @@ fn stored(name: &str) -> PathBuf {
         .join(name)
 }
 
-const INPUTS: [&str; 5] = ["headers", "bytes", "extended", "fragments", "table"];
+const INPUTS: [&str; 6] = [
+    "headers",
+    "bytes",
+    "extended",
+    "fragments",
+    "table",
+    "recordings",
+];
 
 fn printed(name: &str, input: &[u8], library: bool) -> String {
     match (name, library) {
         ("table", false) => table::run::<Model>(input),
         ("table", true) => table::run::<Library>(input),
+        ("recordings", false) => recordings::run::<Model>(input),
+        ("recordings", true) => recordings::run::<Library>(input),
         ("extended", false) => extended::run::<Model>(input),
         ("extended", true) => extended::run::<Library>(input),
         ("headers", false) => headers::run::<Model>(input),

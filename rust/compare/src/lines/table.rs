@@ -298,7 +298,7 @@ fn called<S: Stops>(
 }
 
 /// The call of a line.
-fn call(letter: u8, mut a: Arguments) -> Op {
+pub fn call(letter: u8, mut a: Arguments) -> Op {
     match letter {
         b'J' | b'C' => Op::Census,
         b'R' => Op::Reset(a.number()),
@@ -504,7 +504,7 @@ fn list_hex(list: &[u8]) -> String {
 }
 
 /// The live entries, one to a line: the words of each row in hex.
-fn print_entries(words: &[u64], store: &[u8], out: &mut String) {
+pub fn print_entries(words: &[u64], store: &[u8], out: &mut String) {
     writeln!(out, "clock {} next {}", words[0], words[1]).unwrap();
     for kind in [EXPORTERS, OBJECTS, INTERFACES, SETS] {
         for (i, row) in kind.rows(words).iter().enumerate() {

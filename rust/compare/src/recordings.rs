@@ -1,0 +1,359 @@
+//! Recorded runs and their replay (request 11): runs of the model, written down here in the form of docs/RECORDING.md, are replayed
+//! by the library and by the model's own reader, as they are and changed; and the recorder of the Rust crate writes the same bytes.
+
+use crate::calls::Memory;
+use crate::decode;
+use crate::generate::Pools;
+use crate::model_side::Model;
+use crate::op::{Op, Reply, Side};
+use crate::random::Random;
+use crate::subject::{Library, Recorded};
+use crate::tally::Tally;
+use crate::Differs;
+use model::entries::{Entries, Way};
+use model::recording::{self, Outcome};
+use rimonakh::{Error, Table};
+
+/// A record by its sections.
+#[derive(Clone)]
+pub struct Record {
+    pub call: Vec<u8>,
+    pub first: Vec<u8>,
+    pub second: Vec<u8>,
+    pub answer: Vec<u8>,
+    pub shown: Vec<u8>,
+}
+
+fn words(numbers: &[u64]) -> Vec<u8> {
+    numbers.iter().flat_map(|n| n.to_le_bytes()).collect()
+}
+
+impl Record {
+    /// The record of a call and what it answered.
+    pub fn of(op: &Op, reply: &Reply) -> Record {
+        let (call, first, second) = told(op);
+        let mut answer = vec![u64::from(reply.number)];
+        if !matches!(op, Op::NextStop(_)) {
+            answer.extend(&reply.values); // of a next stop they say which slice the part is of
+        }
+        let shown = match op {
+            _ if reply.number != 0 => 0,
+            Op::CountList { items, .. } => items.len() / 24,
+            Op::Resolve { .. } | Op::ResolveFiltered { .. } | Op::WriteSnapshot { .. } => {
+                reply.values[0] as usize
+            }
+            _ => reply.bytes.len(),
+        };
+        Record {
+            call,
+            first,
+            second,
+            answer: words(&answer),
+            shown: reply.bytes[..shown].to_vec(),
+        }
+    }
+
+    pub fn sections(&mut self) -> [&mut Vec<u8>; 5] {
+        [
+            &mut self.call,
+            &mut self.first,
+            &mut self.second,
+            &mut self.answer,
+            &mut self.shown,
+        ]
+    }
+}
+
+/// A call's code and numbers, and its lists.
+fn told(op: &Op) -> (Vec<u8>, Vec<u8>, Vec<u8>) {
+    let call = |code: u8, numbers: &[&[u8]]| [&[code], &numbers.concat()[..]].concat();
+    let plain = |code: u8, numbers: &[&[u8]]| (call(code, numbers), vec![], vec![]);
+    let listed = |code: u8, numbers: &[&[u8]], list: Vec<u8>| (call(code, numbers), list, vec![]);
+    let wide = |n: u64| n.to_le_bytes();
+    let half = |n: u32| n.to_le_bytes();
+    let room = |n: usize| (n as u64).to_le_bytes();
+    match *op {
+        Op::Reset(time) => plain(0, &[&wide(time)]),
+        Op::EnterExporter {
+            oxid,
+            unknown,
+            ref list,
+        } => listed(1, &[&wide(oxid), &unknown], list.clone()),
+        Op::RemoveExporter(oxid) => plain(2, &[&wide(oxid)]),
+        Op::EnterObject {
+            oid,
+            oxid,
+            ipid,
+            iid,
+            public,
+            no_ping,
+        } => {
+            let (oid, oxid, mark) = (wide(oid), wide(oxid), [no_ping as u8]);
+            plain(3, &[&oid, &oxid, &ipid, &iid, &half(public), &mark])
+        }
+        Op::EnterInterface {
+            oid,
+            ipid,
+            iid,
+            public,
+        } => plain(4, &[&wide(oid), &ipid, &iid, &half(public)]),
+        Op::Add {
+            client,
+            ipid,
+            public,
+            private,
+        } => plain(5, &[&half(client), &ipid, &half(public), &half(private)]),
+        Op::Release {
+            client,
+            ipid,
+            public,
+            private,
+        } => plain(6, &[&half(client), &ipid, &half(public), &half(private)]),
+        Op::DropClient(client) => plain(7, &[&half(client)]),
+        Op::CountList {
+            way,
+            client,
+            ref items,
+            room: n,
+        } => {
+            let code = if way == Way::Add { 8 } else { 9 };
+            listed(code, &[&half(client), &room(n)], items.clone())
+        }
+        Op::SimplePing(set) => plain(10, &[&wide(set)]),
+        Op::ComplexPing {
+            set,
+            sequence,
+            ref adds,
+            ref deletes,
+        } => {
+            let numbers: [&[u8]; 2] = [&wide(set), &sequence.to_le_bytes()];
+            (call(11, &numbers), words(adds), words(deletes))
+        }
+        Op::Clock(time) => plain(12, &[&wide(time)]),
+        Op::Resolve { oxid, room: n } => plain(13, &[&wide(oxid), &room(n)]),
+        Op::ResolveFiltered {
+            oxid,
+            ref protocols,
+            room: n,
+        } => {
+            let list = protocols.iter().flat_map(|p| p.to_le_bytes()).collect();
+            listed(14, &[&wide(oxid), &room(n)], list)
+        }
+        Op::Census => plain(15, &[]),
+        Op::Members(set) => plain(16, &[&wide(set)]),
+        Op::NextStop(ref reference) => listed(17, &[], reference.clone()),
+        Op::WriteSnapshot { room: n } => plain(18, &[&room(n)]),
+        Op::LoadSnapshot(ref bytes) => listed(19, &[], bytes.clone()),
+        Op::Lent { .. } | Op::PokeWord { .. } | Op::PokeByte { .. } => unreachable!("not a call"),
+    }
+}
+
+/// The bytes of records.
+pub fn bytes(records: &[Record]) -> Vec<u8> {
+    let mut bytes = words(&[records.len() as u64]);
+    for r in records {
+        for section in [&r.call, &r.first, &r.second, &r.answer, &r.shown] {
+            bytes.extend((section.len() as u64).to_le_bytes());
+            bytes.extend(section);
+        }
+    }
+    bytes
+}
+
+/// What replays a recording over an array and a store.
+pub trait Replays {
+    fn replay(words: &mut [u64], store: &mut [u8], recording: &[u8]) -> Result<Outcome, u32>;
+}
+
+impl Replays for Library {
+    fn replay(words: &mut [u64], store: &mut [u8], recording: &[u8]) -> Result<Outcome, u32> {
+        let r = Table::over(&mut *words, &mut *store).replay(recording);
+        r.map_err(Error::number).map(|r| Outcome {
+            differs: r.differs.unwrap_or(0),
+            tally: recording::Tally {
+                granted: r.tally.granted,
+                taken: r.tally.taken,
+                rundown: r.tally.rundown,
+            },
+        })
+    }
+}
+
+impl Replays for Model {
+    fn replay(words: &mut [u64], store: &mut [u8], recording: &[u8]) -> Result<Outcome, u32> {
+        if words.len() != 8192 || store.len() != 8192 {
+            return Err(1);
+        }
+        let mut entries = Entries::empty(0);
+        let outcome = recording::replay(&mut entries, recording)?;
+        decode::encode(&entries, words, store);
+        Ok(outcome)
+    }
+}
+
+/// Bytes that were replayed by both sides over memory that holds anything: outcome and entries, or the number and the memory kept.
+fn replayed(memory: &mut Memory, bytes: &[u8]) -> Result<Result<Outcome, u32>, String> {
+    let before = memory.clone();
+    let mut entries = Entries::empty(0);
+    let demanded = recording::replay(&mut entries, bytes);
+    let (words, store) = memory.lent();
+    let answered = Library::replay(words, store, bytes);
+    if answered != demanded {
+        return Err(format!("answered {answered:?}, demanded {demanded:?}"));
+    }
+    if answered.is_err() && *memory != before {
+        return Err(format!("refused by {answered:?} and changed the memory"));
+    }
+    let (words, store) = memory.lent();
+    if answered.is_ok() && !decode::same(&decode::entries(words, store), &entries) {
+        return Err(format!("left other entries than {entries:?}"));
+    }
+    Ok(answered)
+}
+
+/// A run of the model, recorded; and the recording that the recorder of the Rust crate makes of the same calls.
+fn recorded(random: &mut Random, length: usize) -> (Vec<Record>, Vec<u8>) {
+    let pools = Pools::new(random, false);
+    let mut side = Side {
+        entries: Entries::empty(0),
+        sound: true,
+    };
+    let mut recorder = Recorded::new(1000);
+    let mut records = Vec::new();
+    let mut op = Op::Reset(1000);
+    while records.len() < length {
+        records.push(Record::of(&op, &side.perform(&op)));
+        if records.len() > 1 {
+            recorder.perform(&op);
+        }
+        op = pools.plain_call(random, &side.entries);
+    }
+    (records, recorder.recording())
+}
+
+/// Another answer of a record: another number or result, or other shown bytes.
+fn change_answer(random: &mut Random, r: &mut Record) {
+    match random.below(4) {
+        0 if !r.shown.is_empty() => {
+            let at = random.below(r.shown.len());
+            r.shown[at] ^= 1 << random.below(8);
+        }
+        1 if !r.shown.is_empty() => r.shown.truncate(r.shown.len() - 1),
+        2 => r.shown.push(random.word() as u8),
+        _ => {
+            let at = random.below(r.answer.len());
+            r.answer[at] ^= 1 << random.below(8);
+        }
+    }
+}
+
+/// Bytes of a recording changed: a section longer or shorter, a byte, a number of bytes, a cut, bytes more.
+fn change_bytes(random: &mut Random, records: &mut [Record]) -> Vec<u8> {
+    let k = random.below(records.len());
+    if random.once_in(2) {
+        let section = &mut records[k].sections()[random.below(5)];
+        match random.below(4) {
+            0 => section.truncate(section.len().saturating_sub(1)),
+            1 => section.push(random.word() as u8),
+            2 => section.clear(),
+            _ if section.is_empty() => {}
+            _ => section[0] = random.below(24) as u8,
+        }
+        return bytes(records);
+    }
+    let mut made = bytes(records);
+    let at = match random.below(3) {
+        0 => random.below(made.len()),
+        1 => random.below(8),
+        _ => bytes(&records[..k]).len(), // the number of a section's bytes
+    };
+    match random.below(5) {
+        0 => made.truncate(at),
+        1 => made.extend(random.bytes(1 + at % 9)),
+        2 => drop(made.splice(at..at + 1, [])),
+        3 => made.insert(at, random.word() as u8),
+        _ => made[at] = random.pick(&[0, 1, 0xFF, made[at].wrapping_add(1), made[at] ^ 0x80]),
+    }
+    made
+}
+
+struct Runs {
+    memory: Memory,
+    tally: Tally,
+}
+
+impl Runs {
+    fn replay(&mut self, bytes: &[u8]) -> Result<Result<Outcome, u32>, String> {
+        let outcome = replayed(&mut self.memory, bytes)?;
+        self.tally.count(outcome.err().unwrap_or(0));
+        Ok(outcome)
+    }
+
+    fn run(&mut self, random: &mut Random) -> Result<(), String> {
+        let length = random.pick(&[1, 10, 100, 400]);
+        let (records, written) = recorded(random, length);
+        let whole = bytes(&records);
+        if written != whole {
+            return Err("the recorder writes another recording".to_string());
+        }
+        let Ok(outcome) = self.replay(&whole)? else {
+            return Err("a recorded run is refused".to_string());
+        };
+        if outcome.differs != 0 {
+            return Err(format!("a recorded run differs: {outcome:?}"));
+        }
+        self.tally.event("recordings agree");
+        if outcome.tally.taken != 0 && outcome.tally.rundown != 0 {
+            self.tally.event("recordings that took and ran down");
+        }
+        for _ in 0..4 {
+            let mut changed = records.clone();
+            let k = random.below(length);
+            change_answer(random, &mut changed[k]);
+            let outcome = self.replay(&bytes(&changed))?;
+            if outcome.map(|o| o.differs) != Ok(k as u32 + 1) {
+                return Err(format!("record {k} was changed, and {outcome:?}"));
+            }
+            self.tally.event("recordings differ where changed");
+        }
+        for _ in 0..12 {
+            let made = change_bytes(random, &mut records.clone());
+            let outcome = self.replay(&made)?;
+            if outcome.is_ok_and(|o| o.differs != 0) {
+                self.tally.event("recordings differ by a changed byte");
+            }
+        }
+        self.lengths(&whole)
+    }
+
+    /// A table of another length is refused by 1, whatever the recording is.
+    fn lengths(&mut self, recording: &[u8]) -> Result<(), String> {
+        let before = self.memory.clone();
+        for (n, m) in [(8191, 8192), (8193, 8192), (8192, 8191), (8192, 8193)] {
+            let (words, store) = self.memory.all();
+            let number = Library::replay(&mut words[..n], &mut store[..m], recording);
+            if number != Err(1) || self.memory != before {
+                return Err(format!("lent {n} words and {m} bytes: {number:?}"));
+            }
+        }
+        self.tally.count(1);
+        Ok(())
+    }
+}
+
+/// Random runs, recorded and replayed, until so many replays are compared.
+pub fn compare(seed: u64, replays: u64) -> Result<Tally, Differs> {
+    let mut random = Random::new(seed);
+    let mut runs = Runs {
+        memory: Memory::any(&mut random),
+        tally: Tally::default(),
+    };
+    while runs.tally.total() < replays {
+        let run = random.word();
+        runs.run(&mut Random::new(run)).map_err(|difference| {
+            println!("FAILED: replay, in the run of seed {run}: {difference}");
+            Differs
+        })?;
+    }
+    Ok(runs.tally)
+}
