@@ -1,13 +1,13 @@
-/* Calls every function of the header once, as C and as C++, and holds the structs to the layout that the archive has. With the
- * argument "handler", "custom", "extended" or "nested" it writes such a reference to standard output instead. */
+/* Calls every function of the header, as C and as C++, also with NULL for each buffer, and holds the structs to the layout that the
+ * archive has. With the argument "handler", "custom", "extended" or "nested" it writes such a reference to standard output instead. */
 #include "rimonakh.h"
 
-#include <assert.h>
 #include <stdio.h>
 #include <string.h>
 
-#define SIZE(type, size) static_assert(sizeof(type) == (size), #type " has another size")
-#define AT(type, field, place) static_assert(offsetof(type, field) == (place), #type "." #field " stands elsewhere")
+/* an array of a negative length where a struct has another size, or a field stands elsewhere */
+#define SIZE(type, size) typedef char type##_has_size[sizeof(type) == (size) ? 1 : -1]
+#define AT(type, field, place) typedef char type##_has_at_##field[offsetof(type, field) == (place) ? 1 : -1]
 
 SIZE(rimonakh_guid, 16);
 AT(rimonakh_guid, high, 8);
@@ -136,7 +136,7 @@ static void expect(int line, uint64_t got, uint64_t wanted) {
         failed = 1;
     }
 }
-#define IS(got, wanted) expect(__LINE__, got, wanted)
+#define IS(got, wanted) expect(__LINE__, (uint64_t)(got), (uint64_t)(wanted))
 
 static const uint8_t data[] = {1, 2, 3};
 
@@ -242,7 +242,9 @@ static void headers(void) {
 
 static void bytes(void) {
     uint8_t buffer[128];
+    IS(rimonakh_version(), RIMONAKH_VERSION);
     IS(rimonakh_wire_code(RIMONAKH_NO_SET), 1912);
+    IS(rimonakh_wire_code(RIMONAKH_BAD_VERSION), 0x80010110);
     IS(rimonakh_this_write(7, 1, 2, 3, buffer, sizeof buffer), 0);
     rimonakh_read_this call = rimonakh_this_read(buffer, sizeof buffer);
     IS(call.answer, 0);
@@ -265,6 +267,13 @@ static void bytes(void) {
     IS(p.from, 10);
     IS(p.to, 16);
     IS(rimonakh_list_security_binding(LIST, 1).answer, RIMONAKH_NO_BINDING);
+    static const uint16_t strings[] = {7, 0}, security[] = {10, 0xFFFF, 0};
+    rimonakh_written w = rimonakh_list_write(strings, 2, security, 3, buffer, sizeof buffer);
+    IS(w.answer, 0);
+    IS(w.length, sizeof list);
+    IS(memcmp(buffer, list, sizeof list), 0);
+    IS(rimonakh_list_write(security, 3, strings, 2, buffer, sizeof buffer).answer, RIMONAKH_LAYOUT);
+    IS(rimonakh_list_write(strings, 2, security, 3, buffer, sizeof list - 1).answer, RIMONAKH_NO_ROOM);
     size_t n = write_reference(RIMONAKH_HANDLER, buffer, sizeof buffer);
     IS(n, 98);
     IS(rimonakh_reference_answer(buffer, n), 0);
@@ -497,6 +506,147 @@ static void calls(void) {
     IS(rimonakh_remove_exporter(TABLE, 0x51), RIMONAKH_NO_EXPORTER);
 }
 
+/* A buffer may be NULL where its length is 0: each buffer of each function. */
+static void nulls_of_bytes(void) {
+    uint8_t buffer[128];
+    IS(rimonakh_this_read(NULL, 0).answer, RIMONAKH_SHORT);
+    IS(rimonakh_this_extension(NULL, 0, 0).answer, RIMONAKH_SHORT);
+    IS(rimonakh_this_write(7, 0, 0, 0, NULL, 0), RIMONAKH_NO_ROOM);
+    IS(rimonakh_this_write_extensions(7, 0, 0, 0, 0, 0, NULL, 0, NULL, 0, buffer, sizeof buffer).length, 32);
+    IS(rimonakh_this_write_extensions(7, 0, 0, 0, 0, 0, NULL, 0, NULL, 0, NULL, 0).answer, RIMONAKH_NO_ROOM);
+    IS(rimonakh_that_read(NULL, 0).answer, RIMONAKH_SHORT);
+    IS(rimonakh_that_extension(NULL, 0, 0).answer, RIMONAKH_SHORT);
+    IS(rimonakh_that_write(0, NULL, 0), RIMONAKH_NO_ROOM);
+    IS(rimonakh_that_write_extensions(0, 0, 0, NULL, 0, NULL, 0, buffer, sizeof buffer).length, 8);
+    IS(rimonakh_that_write_extensions(0, 0, 0, NULL, 0, NULL, 0, NULL, 0).answer, RIMONAKH_NO_ROOM);
+    IS(rimonakh_list_answer(NULL, 0), RIMONAKH_SHORT);
+    IS(rimonakh_list_front_answer(NULL, 0), RIMONAKH_SHORT);
+    IS(rimonakh_list_front_length(NULL, 0), 0);
+    IS(rimonakh_list_string_binding(NULL, 0, 0).answer, RIMONAKH_SHORT);
+    IS(rimonakh_list_security_binding(NULL, 0, 0).answer, RIMONAKH_SHORT);
+    IS(rimonakh_list_write(NULL, 0, NULL, 0, buffer, sizeof buffer).length, 8);
+    IS(rimonakh_list_write(NULL, 0, NULL, 0, NULL, 0).answer, RIMONAKH_NO_ROOM);
+    IS(rimonakh_reference_answer(NULL, 0), RIMONAKH_SHORT);
+    IS(rimonakh_reference_read(NULL, 0).answer, RIMONAKH_SHORT);
+    IS(rimonakh_reference_tail(NULL, 0).answer, RIMONAKH_SHORT);
+    IS(rimonakh_reference_string_binding(NULL, 0, 0).answer, RIMONAKH_SHORT);
+    IS(rimonakh_reference_security_binding(NULL, 0, 0).answer, RIMONAKH_SHORT);
+    IS(rimonakh_reference_element(NULL, 0, 0).answer, RIMONAKH_SHORT);
+    IS(rimonakh_reference_property(NULL, 0, 0).answer, RIMONAKH_SHORT);
+    IS(write_with(RIMONAKH_CUSTOM, 1, 1, NULL, 0, NULL, 0, buffer, sizeof buffer), 48);
+    IS(rimonakh_reference_write(RIMONAKH_CUSTOM, 1, 1, 0, 0, 0, 0, 0, 0, 1, 1, 0, 0, 0, 0, NULL, 0, NULL, 0, NULL, 0).answer,
+       RIMONAKH_NO_ROOM);
+    IS(rimonakh_context_read(NULL, 0).answer, RIMONAKH_SHORT);
+    IS(rimonakh_context_property(NULL, 0, 0).answer, RIMONAKH_SHORT);
+    IS(rimonakh_context_write(1, 1, 0, 0, 0, 0, NULL, 0, buffer, sizeof buffer).length, 48);
+    IS(rimonakh_context_write(1, 1, 0, 0, 0, 0, NULL, 0, NULL, 0).answer, RIMONAKH_NO_ROOM);
+    IS(rimonakh_property_write(1, 1, 1, 1, 1, NULL, 0, buffer, sizeof buffer).length, 40);
+    IS(rimonakh_property_write(1, 1, 1, 1, 1, NULL, 0, NULL, 0).answer, RIMONAKH_NO_ROOM);
+    IS(rimonakh_list_strings(NULL, 0).answer, RIMONAKH_SHORT);
+    IS(rimonakh_list_securities(NULL, 0).answer, RIMONAKH_SHORT);
+    IS(rimonakh_list_next_string(NULL, 0, 4, 1).answer, RIMONAKH_SHORT);
+    IS(rimonakh_list_next_security(NULL, 0, 0, 0).answer, RIMONAKH_NO_BINDING);
+    IS(rimonakh_context_properties(NULL, 0).answer, RIMONAKH_SHORT);
+    IS(rimonakh_context_next_property(NULL, 0, 0, 1).answer, RIMONAKH_SHORT);
+    IS(rimonakh_this_extensions(NULL, 0).answer, RIMONAKH_SHORT);
+    IS(rimonakh_that_extensions(NULL, 0).answer, RIMONAKH_SHORT);
+    IS(rimonakh_next_extension(NULL, 0, 0, 0, 1).extension.answer, RIMONAKH_SHORT);
+    rimonakh_fragments state = rimonakh_fragments_push(rimonakh_fragments_none(), NULL, 0, NULL, 0);
+    IS(rimonakh_fragments_finish(state, NULL, 0, NULL, 0).answer, RIMONAKH_SHORT);
+    size_t n = write_with(RIMONAKH_CUSTOM, 1, 1, NULL, 0, NULL, 0, buffer, sizeof buffer);
+    state = rimonakh_fragments_push(state, NULL, 0, buffer, n);
+    IS(rimonakh_fragments_finish(state, NULL, 0, NULL, 0).answer, RIMONAKH_DONE);
+}
+
+/* words or store of none: the table has the wrong length */
+static void nulls_of_tables(void) {
+    IS(rimonakh_reset(NULL, 0, store, RIMONAKH_BYTES, 1), RIMONAKH_UNSOUND);
+    IS(rimonakh_enter_exporter(NULL, 0, store, RIMONAKH_BYTES, 1, 1, 1, LIST), RIMONAKH_UNSOUND);
+    IS(rimonakh_remove_exporter(NULL, 0, store, RIMONAKH_BYTES, 1), RIMONAKH_UNSOUND);
+    IS(rimonakh_enter_object(NULL, 0, store, RIMONAKH_BYTES, 1, 1, 1, 1, 1, 1, 1, false), RIMONAKH_UNSOUND);
+    IS(rimonakh_enter_interface(NULL, 0, store, RIMONAKH_BYTES, 1, 1, 1, 1, 1, 1), RIMONAKH_UNSOUND);
+    IS(rimonakh_add(NULL, 0, store, RIMONAKH_BYTES, 0, 1, 1, 1, 1), RIMONAKH_UNSOUND);
+    IS(rimonakh_release(NULL, 0, store, RIMONAKH_BYTES, 0, 1, 1, 1, 1).answer, RIMONAKH_UNSOUND);
+    IS(rimonakh_add_list(NULL, 0, store, RIMONAKH_BYTES, 0, NULL, 0, NULL, 0), RIMONAKH_UNSOUND);
+    IS(rimonakh_release_list(NULL, 0, store, RIMONAKH_BYTES, 0, NULL, 0, NULL, 0), RIMONAKH_UNSOUND);
+    IS(rimonakh_drop_client(NULL, 0, store, RIMONAKH_BYTES, 0), RIMONAKH_UNSOUND);
+    IS(rimonakh_simple_ping(NULL, 0, store, RIMONAKH_BYTES, 1), RIMONAKH_UNSOUND);
+    IS(rimonakh_complex_ping(NULL, 0, store, RIMONAKH_BYTES, 0, 1, NULL, 0, NULL, 0).answer, RIMONAKH_UNSOUND);
+    IS(rimonakh_clock(NULL, 0, store, RIMONAKH_BYTES, 1).answer, RIMONAKH_UNSOUND);
+    IS(rimonakh_resolve(NULL, 0, store, RIMONAKH_BYTES, 1, NULL, 0).answer, RIMONAKH_UNSOUND);
+    IS(rimonakh_resolve_filtered(NULL, 0, store, RIMONAKH_BYTES, 1, NULL, 0, NULL, 0).answer, RIMONAKH_UNSOUND);
+    IS(rimonakh_next_stop(NULL, 0, store, RIMONAKH_BYTES, LIST).answer, RIMONAKH_UNSOUND);
+    IS(rimonakh_census(NULL, 0, store, RIMONAKH_BYTES).answer, RIMONAKH_UNSOUND);
+    IS(rimonakh_members(NULL, 0, store, RIMONAKH_BYTES, 1).answer, RIMONAKH_UNSOUND);
+    IS(rimonakh_write_snapshot(NULL, 0, store, RIMONAKH_BYTES, NULL, 0).answer, RIMONAKH_UNSOUND);
+    IS(rimonakh_load_snapshot(NULL, 0, store, RIMONAKH_BYTES, LIST), RIMONAKH_UNSOUND);
+    IS(rimonakh_replay(NULL, 0, store, RIMONAKH_BYTES, LIST).answer, RIMONAKH_UNSOUND);
+    IS(rimonakh_reset(words, RIMONAKH_WORDS, NULL, 0, 1), RIMONAKH_UNSOUND);
+    IS(rimonakh_enter_exporter(words, RIMONAKH_WORDS, NULL, 0, 1, 1, 1, LIST), RIMONAKH_UNSOUND);
+    IS(rimonakh_remove_exporter(words, RIMONAKH_WORDS, NULL, 0, 1), RIMONAKH_UNSOUND);
+    IS(rimonakh_enter_object(words, RIMONAKH_WORDS, NULL, 0, 1, 1, 1, 1, 1, 1, 1, false), RIMONAKH_UNSOUND);
+    IS(rimonakh_enter_interface(words, RIMONAKH_WORDS, NULL, 0, 1, 1, 1, 1, 1, 1), RIMONAKH_UNSOUND);
+    IS(rimonakh_add(words, RIMONAKH_WORDS, NULL, 0, 0, 1, 1, 1, 1), RIMONAKH_UNSOUND);
+    IS(rimonakh_release(words, RIMONAKH_WORDS, NULL, 0, 0, 1, 1, 1, 1).answer, RIMONAKH_UNSOUND);
+    IS(rimonakh_add_list(words, RIMONAKH_WORDS, NULL, 0, 0, NULL, 0, NULL, 0), RIMONAKH_UNSOUND);
+    IS(rimonakh_release_list(words, RIMONAKH_WORDS, NULL, 0, 0, NULL, 0, NULL, 0), RIMONAKH_UNSOUND);
+    IS(rimonakh_drop_client(words, RIMONAKH_WORDS, NULL, 0, 0), RIMONAKH_UNSOUND);
+    IS(rimonakh_simple_ping(words, RIMONAKH_WORDS, NULL, 0, 1), RIMONAKH_UNSOUND);
+    IS(rimonakh_complex_ping(words, RIMONAKH_WORDS, NULL, 0, 0, 1, NULL, 0, NULL, 0).answer, RIMONAKH_UNSOUND);
+    IS(rimonakh_clock(words, RIMONAKH_WORDS, NULL, 0, 1).answer, RIMONAKH_UNSOUND);
+    IS(rimonakh_resolve(words, RIMONAKH_WORDS, NULL, 0, 1, NULL, 0).answer, RIMONAKH_UNSOUND);
+    IS(rimonakh_resolve_filtered(words, RIMONAKH_WORDS, NULL, 0, 1, NULL, 0, NULL, 0).answer, RIMONAKH_UNSOUND);
+    IS(rimonakh_next_stop(words, RIMONAKH_WORDS, NULL, 0, LIST).answer, RIMONAKH_UNSOUND);
+    IS(rimonakh_census(words, RIMONAKH_WORDS, NULL, 0).answer, RIMONAKH_UNSOUND);
+    IS(rimonakh_members(words, RIMONAKH_WORDS, NULL, 0, 1).answer, RIMONAKH_UNSOUND);
+    IS(rimonakh_write_snapshot(words, RIMONAKH_WORDS, NULL, 0, NULL, 0).answer, RIMONAKH_UNSOUND);
+    IS(rimonakh_load_snapshot(words, RIMONAKH_WORDS, NULL, 0, LIST), RIMONAKH_UNSOUND);
+    IS(rimonakh_replay(words, RIMONAKH_WORDS, NULL, 0, LIST).answer, RIMONAKH_UNSOUND);
+    IS(rimonakh_reset(TABLE, 1000), 0);
+    IS(rimonakh_enter_exporter(TABLE, 0x51, 0x61, 0x62, NULL, 0), RIMONAKH_SHORT);
+    IS(rimonakh_enter_exporter(TABLE, 0x51, 0x61, 0x62, LIST), 0);
+    IS(rimonakh_add_list(TABLE, 0, NULL, 0, NULL, 0), 0);
+    IS(rimonakh_release_list(TABLE, 0, NULL, 0, NULL, 0), 0);
+    IS(rimonakh_complex_ping(TABLE, 0, 1, NULL, 0, NULL, 0).set, 1);
+    IS(rimonakh_resolve(TABLE, 0x51, NULL, 0).answer, RIMONAKH_NO_ROOM);
+    IS(rimonakh_resolve_filtered(TABLE, 0x51, NULL, 0, NULL, 0).answer, RIMONAKH_NO_ROOM);
+    IS(rimonakh_next_stop(TABLE, NULL, 0).answer, RIMONAKH_SHORT);
+    IS(rimonakh_write_snapshot(TABLE, NULL, 0).answer, RIMONAKH_NO_ROOM);
+    IS(rimonakh_load_snapshot(TABLE, NULL, 0), RIMONAKH_NO_SNAPSHOT);
+    IS(rimonakh_replay(TABLE, NULL, 0).answer, RIMONAKH_SHORT);
+}
+
+/* Time, as the header says: a client that pings, a jump, and a box that takes over. */
+static void times(void) {
+    static uint8_t snapshot[RIMONAKH_LONGEST_SNAPSHOT];
+    const uint64_t oids[] = {0x41};
+    IS(rimonakh_reset(TABLE, 1000), 0);
+    IS(rimonakh_enter_exporter(TABLE, 0x51, 0x61, 0x62, LIST), 0);
+    IS(rimonakh_enter_object(TABLE, 0x41, 0x51, 0x71, 0x72, 0x11, 0x12, 5, false), 0);
+    IS(rimonakh_complex_ping(TABLE, 0, 1, oids, 1, oids, 0).answer, 0); /* one list read twice */
+    IS(rimonakh_clock(TABLE, 1000 + RIMONAKH_SILENCE - 1).objects, 0);
+    size_t n = rimonakh_write_snapshot(TABLE, snapshot, sizeof snapshot).length;
+    /* with a call every five seconds it ends up to five seconds late */
+    rimonakh_counts went = rimonakh_clock(TABLE, 1000 + RIMONAKH_SILENCE + 4);
+    IS(went.objects, 1);
+    IS(went.sets, 1);
+    /* another box loads the snapshot: its own clock is of no use */
+    IS(rimonakh_load_snapshot(TABLE, snapshot, n), 0);
+    IS(rimonakh_clock(TABLE, 120).answer, RIMONAKH_CLOCK_BACK);
+    IS(rimonakh_simple_ping(TABLE, 1), 0);
+    IS(rimonakh_clock(TABLE, 1000 + RIMONAKH_SILENCE - 1 + 5).objects, 0);
+    /* a jump ends everything, and can't be taken back, but by a snapshot from before it */
+    IS(rimonakh_clock(TABLE, UINT64_MAX).objects, 1);
+    IS(rimonakh_clock(TABLE, 2000).answer, RIMONAKH_CLOCK_BACK);
+    IS(rimonakh_load_snapshot(TABLE, snapshot, n), 0);
+    IS(rimonakh_census(TABLE).objects, 1);
+    /* zeros are no table; a changed clock is no refusal of a snapshot */
+    memset(words, 0, sizeof words);
+    IS(rimonakh_census(TABLE).answer, RIMONAKH_UNSOUND);
+    snapshot[2] ^= 1;
+    IS(rimonakh_load_snapshot(TABLE, snapshot, n), 0);
+}
+
 static size_t write_named(const char *name, uint8_t *buffer, size_t room) {
     if (strcmp(name, "nested") == 0) {
         return write_nested(buffer, room);
@@ -517,6 +667,9 @@ int main(int argc, char **argv) {
         contexts();
         passes();
         fragments();
+        nulls_of_bytes();
+        nulls_of_tables();
+        times();
         calls();
     }
     return failed;

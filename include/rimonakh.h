@@ -2,25 +2,38 @@
  * Rimonakh: a proved DCOM object resolver. Object references (OBJREF), binding lists (DUALSTRINGARRAY), call headers
  * (ORPCTHIS, ORPCTHAT), and a table of exporters, objects, interfaces and ping sets.
  *
- * Buffers. Every buffer is the caller's: the library allocates nothing and keeps no pointer when a call returns. A buffer is
- * a pointer and its length, in this order. A pointer to const is only read.
+ * For x86-64 Linux, little-endian; C99 and C++11 or later. include/rimonakh_more.h has conveniences, docs/USING.md the longer text.
+ *
+ * Buffers. Every buffer is the caller's: the library allocates nothing, has no globals and keeps no pointer when a call returns. A
+ * buffer is a pointer and its length, in this order. A pointer to const is only read.
  *
  * What the caller answers for, in the words of docs/PROOF.md. A pointer and a length given together are a buffer of that length;
- * the pointer is aligned for its type and not NULL, even where the length is 0. Two buffers of one call do not overlap where
- * one of them is written. While a call runs, no other thread, and no other process that shares the memory, changes a buffer that
- * is lent to it, or reads one that it writes. The stack suffices: a replay takes the most, 214,287 bytes as measured, a load
- * 147,024.
+ * the pointer is aligned for its type (8 bytes for the words of a table), and may be NULL where the length is 0. Two buffers of one
+ * call do not overlap where one of them is written; they may be the same where both are only read. While a call runs, no other
+ * thread, and no other process that shares the memory or the file that is mapped, changes a buffer that is lent to it, or reads one
+ * that it writes. The stack suffices (see Stack).
  *
  * Tables. A table is an array of 8,192 words and a store of 8,192 bytes. Both are lent to every call, and a call that is lent
- * words and a store that are no sound table answers 1, save a reset, a load of a snapshot and a replay. Between calls the
- * caller may copy, save and restore them. Two calls on one table do not run at the same time, unless both take it as const.
- * Only a call that takes the store without const changes it: binding lists stand end to end in it, and move when an exporter
- * before them is removed.
+ * words and a store that are no sound table answers 1, save a reset, a load of a snapshot and a replay. Between calls the caller
+ * may copy, save and restore them; what was saved is good for the same layout of the table only (RIMONAKH_TABLE_LAYOUT), and
+ * between versions a box is swapped by a snapshot, which has one form. Calls on different tables need no lock. Two calls on one
+ * table do not run at the same time, unless both take it as const. Only a call that takes the store without const changes it:
+ * binding lists stand end to end in it, and move when an exporter before them is removed.
+ *
+ * Time. A table's clock is seconds that only rise: those of a monotonic clock, never the wall's, which is set. A reset and a load
+ * set it, a replay as its records do; only rimonakh_clock moves it on, so the program calls it by itself, every few seconds:
+ * without clock calls nothing ends. A pinged object, and a set, ends at the first clock call that is 360 seconds or more past the
+ * last time it was heard: between 360 seconds and 360 plus the period of these calls. A time far ahead ends every pinged object and
+ * every set and can't be taken back: any smaller time is answered 2 from then on. So bound a jump before you hand it in. After a
+ * load the clock is the snapshot's: go on from it by the seconds that pass here, whatever this box's own clock says.
  *
  * GUIDs are two numbers: the little-endian numbers of the first and of the last eight of their sixteen bytes on the wire.
  *
  * Answers. Every call ends with an answer number: 0, or one of the refusals below. A refused call answers zero in every other
  * field and changes no word or byte of what it was lent. No number or byte that is handed in is wrong to hand in.
+ *
+ * Stack, at most, for any input: a replay 220 KiB, a load of a snapshot 150 KiB, a resolve by protocols 16 KiB, every other call on a
+ * table 12 KiB, every other function 4 KiB.
  */
 #ifndef RIMONAKH_H
 #define RIMONAKH_H
@@ -33,50 +46,72 @@
 extern "C" {
 #endif
 
+/* The version of this header; rimonakh_version() answers that of the archive, as the same number. */
+#define RIMONAKH_VERSION_MAJOR 0
+#define RIMONAKH_VERSION_MINOR 2
+#define RIMONAKH_VERSION_PATCH 0
+#define RIMONAKH_VERSION (RIMONAKH_VERSION_MAJOR * 65536 + RIMONAKH_VERSION_MINOR * 256 + RIMONAKH_VERSION_PATCH)
+
+/* Which word of a table's array and which byte of its store holds what: a table that was saved by a version with another number is
+ * answered 1, or is another table. It is swapped by its snapshot. */
+#define RIMONAKH_TABLE_LAYOUT 3
+
 enum {
     RIMONAKH_WORDS = 8192, /* the length of a table's array, in words */
-    RIMONAKH_BYTES = 8192, /* the length of a table's store, in bytes */
+    RIMONAKH_BYTES = 8192, /* the length of a table's store, in bytes: all binding lists together */
+    RIMONAKH_EXPORTERS = 16, /* how much a table holds of each kind */
+    RIMONAKH_OBJECTS = 128,
+    RIMONAKH_INTERFACES = 256,
+    RIMONAKH_SETS = 32,
+    RIMONAKH_CLIENTS = 8, /* clients with private references: 0 to 7 */
+    RIMONAKH_SILENCE = 360, /* seconds after which an unheard set or pinged object ends; a client pings every 120 */
     RIMONAKH_LONGEST_LIST = 2048, /* the longest binding list of an exporter, in bytes */
     RIMONAKH_LONGEST_SNAPSHOT = 64698, /* the longest snapshot of a table, in bytes */
     RIMONAKH_MOST_RECORDS = 16384, /* the most records of a recording that is replayed */
-    RIMONAKH_NO_PING = 0x1000 /* the bit of a block's flags that means no pinging */
+    RIMONAKH_MOST_LISTED = 65535, /* the most OIDs, items or protocols in one list */
+    RIMONAKH_ITEM_SIZE = 24, /* the bytes of an item in a list of adds or releases */
+    RIMONAKH_MOST_LEVELS = 8, /* references nested in references, the outermost among them */
+    RIMONAKH_MOST_EXTENSIONS = 32, /* the most extensions of a call header */
+    RIMONAKH_MOST_MINOR = 7 /* the highest minor version of a call header */
 };
 
-/* Answer numbers. 17 is no longer given: extensions are read. */
-enum {
-    RIMONAKH_DONE = 0,
-    RIMONAKH_UNSOUND = 1, /* a lent table has the wrong length or is not sound */
-    RIMONAKH_CLOCK_BACK = 2, /* the new clock is below the table's clock */
-    RIMONAKH_BAD_IDENTIFIER = 3, /* an OXID, OID or IPID to be entered is zero or already live */
-    RIMONAKH_NO_EXPORTER = 4, /* no such live exporter */
-    RIMONAKH_NO_OBJECT = 5, /* no such live object */
-    RIMONAKH_NO_INTERFACE = 6, /* no such live interface */
-    RIMONAKH_NO_REFERENCES = 7, /* an entry with zero references */
-    RIMONAKH_COUNT_OVERFLOW = 8, /* a count would pass 4,294,967,295 */
-    RIMONAKH_NO_PLACE = 9, /* no free place of a kind that is needed, or no room in the store for a binding list */
-    RIMONAKH_TOO_MANY = 10, /* a list of more than 65,535 identifiers, items or protocols, or more than RIMONAKH_MOST_RECORDS records */
-    RIMONAKH_NO_SET = 11, /* no such live ping set */
-    RIMONAKH_STALE = 12, /* a stale sequence number */
-    RIMONAKH_SHORT = 13, /* the bytes end before a field does */
-    RIMONAKH_LAYOUT = 14, /* a layout rule is broken */
-    RIMONAKH_NO_ROOM = 15, /* the output buffer is too short */
-    RIMONAKH_VERSION = 16, /* version not understood */
-    RIMONAKH_SETS_USED_UP = 18, /* the set numbers are used up */
-    RIMONAKH_LONG_LIST = 19, /* a binding list of more than 2,048 bytes */
-    RIMONAKH_NO_CLIENT = 20, /* the client is none of 0 to 7 */
-    RIMONAKH_TOO_DEEP = 21, /* references nested deeper than 8 */
-    RIMONAKH_NIL_IDENTIFIER = 22, /* the OXID, OID or IPID of a reference is zero */
-    RIMONAKH_NO_SNAPSHOT = 23, /* the bytes are not the snapshot of any sound table */
-    RIMONAKH_NO_BINDING = 24 /* no binding, extension, element or property of this number */
-};
+/* The bit of a block's flags that means no pinging. */
+#define RIMONAKH_NO_PING UINT32_C(0x1000)
+
+/* Answer numbers. 17 is no longer given: extensions are read.
+ *
+ * 1 comes of a table that was never reset, was saved with another layout, or is damaged. Load the last snapshot, else reset.
+ * 23 is no checksum: bytes that were changed into the snapshot of another sound table are loaded. */
+#define RIMONAKH_DONE UINT32_C(0)
+#define RIMONAKH_UNSOUND UINT32_C(1) /* a lent table has the wrong length or is not sound */
+#define RIMONAKH_CLOCK_BACK UINT32_C(2) /* the new clock is below the table's clock */
+#define RIMONAKH_BAD_IDENTIFIER UINT32_C(3) /* an OXID, OID or IPID to be entered is zero or already live */
+#define RIMONAKH_NO_EXPORTER UINT32_C(4) /* no such live exporter */
+#define RIMONAKH_NO_OBJECT UINT32_C(5) /* no such live object */
+#define RIMONAKH_NO_INTERFACE UINT32_C(6) /* no such live interface */
+#define RIMONAKH_NO_REFERENCES UINT32_C(7) /* an entry with zero references */
+#define RIMONAKH_COUNT_OVERFLOW UINT32_C(8) /* a count would pass 4,294,967,295 */
+#define RIMONAKH_NO_PLACE UINT32_C(9) /* no free place of a kind that is needed, or no room in the store for a binding list */
+#define RIMONAKH_TOO_MANY UINT32_C(10) /* a list of more than 65,535 identifiers, items or protocols, or more than 16,384 records */
+#define RIMONAKH_NO_SET UINT32_C(11) /* no such live ping set, or set 0 in a simple ping */
+#define RIMONAKH_STALE UINT32_C(12) /* a stale sequence number: (new - last) modulo 65,536 is 0 or above 32,767 */
+#define RIMONAKH_SHORT UINT32_C(13) /* the bytes end before a field does */
+#define RIMONAKH_LAYOUT UINT32_C(14) /* a layout rule is broken, or a next stop is asked of a custom reference */
+#define RIMONAKH_NO_ROOM UINT32_C(15) /* the output buffer is too short */
+#define RIMONAKH_BAD_VERSION UINT32_C(16) /* a call's header has a version that is not understood */
+#define RIMONAKH_SETS_USED_UP UINT32_C(18) /* the set numbers are used up */
+#define RIMONAKH_LONG_LIST UINT32_C(19) /* a binding list of more than 2,048 bytes */
+#define RIMONAKH_NO_CLIENT UINT32_C(20) /* the client is none of 0 to 7 */
+#define RIMONAKH_TOO_DEEP UINT32_C(21) /* references nested deeper than 8 */
+#define RIMONAKH_NIL_IDENTIFIER UINT32_C(22) /* the OXID, OID or IPID of a reference is zero */
+#define RIMONAKH_NO_SNAPSHOT UINT32_C(23) /* the bytes are not the snapshot of any sound table */
+#define RIMONAKH_NO_BINDING UINT32_C(24) /* no binding, extension, element or property of this number */
 
 /* The flags of a reference, which name its form. */
-enum {
-    RIMONAKH_STANDARD = 1,
-    RIMONAKH_HANDLER = 2,
-    RIMONAKH_CUSTOM = 4,
-    RIMONAKH_EXTENDED = 8
-};
+#define RIMONAKH_STANDARD UINT32_C(1)
+#define RIMONAKH_HANDLER UINT32_C(2)
+#define RIMONAKH_CUSTOM UINT32_C(4)
+#define RIMONAKH_EXTENDED UINT32_C(8)
 
 typedef struct {
     uint64_t low;
@@ -309,6 +344,9 @@ typedef struct {
     size_t length;
 } rimonakh_finished;
 
+/* The version of the archive: major * 65536 + minor * 256 + patch. */
+uint32_t rimonakh_version(void);
+
 /* The code that goes out on the wire for an answer number: an HRESULT or an error code. */
 uint32_t rimonakh_wire_code(uint32_t number);
 
@@ -368,6 +406,14 @@ rimonakh_place rimonakh_list_string_binding(const uint8_t *bytes, size_t bytes_l
 
 /* The same of security binding k. */
 rimonakh_place rimonakh_list_security_binding(const uint8_t *bytes, size_t bytes_len, size_t k);
+
+/* Writes the list of string and security bindings at the front of buffer, keeps the rest, and answers its length. strings and
+ * security, which are read, are the words of bindings in a row: a string binding is a tower, which is not 0, the words of an address
+ * (UTF-16) and a zero word; a security binding a service, which is not 0, a word of any content, the words of a name and a zero word.
+ * The words that end the parts are not given: N, S and these are written too. 14 where a part is no bindings in a row, or N would pass
+ * 65,535; 15. */
+rimonakh_written rimonakh_list_write(const uint16_t *strings, size_t strings_len, const uint16_t *security,
+                                     size_t security_len, uint8_t *buffer, size_t buffer_len);
 
 /* ---- references */
 
@@ -540,7 +586,7 @@ uint32_t rimonakh_release_list(uint64_t *words, size_t words_len, const uint8_t 
 uint32_t rimonakh_drop_client(uint64_t *words, size_t words_len, const uint8_t *store, size_t store_len,
                               uint32_t client);
 
-/* Pings a set, by its number: the set and its members are heard. 11. */
+/* Pings a set, by its number: the set and its members are heard. 11, also for set 0. */
 uint32_t rimonakh_simple_ping(uint64_t *words, size_t words_len, const uint8_t *store, size_t store_len, uint64_t set);
 
 /* Adds objects to a set, then takes objects out of it, and pings it: the set's number, or 0 for a new set; a sequence number;
@@ -550,7 +596,8 @@ rimonakh_pinged rimonakh_complex_ping(uint64_t *words, size_t words_len, const u
                                       uint64_t set, uint16_t sequence, const uint64_t *adds, size_t adds_len,
                                       const uint64_t *deletes, size_t deletes_len);
 
-/* Sets the clock, in seconds. Sets and pinged objects that were not heard for 360 seconds or more go; answers how many. 2. */
+/* Sets the clock, in seconds that only rise (see Time). Sets and pinged objects that were not heard for 360 seconds or more go;
+ * answers how many. 2. */
 rimonakh_counts rimonakh_clock(uint64_t *words, size_t words_len, const uint8_t *store, size_t store_len,
                                uint64_t time);
 
@@ -585,15 +632,15 @@ rimonakh_written rimonakh_write_snapshot(const uint64_t *words, size_t words_len
                                          size_t store_len, uint8_t *buffer, size_t buffer_len);
 
 /* Loads a snapshot, which is read: the table then has its live entries, clock and next set number, whatever array and store held
- * before; as a reset it looks at nothing of them but the lengths. It takes less than 150 KiB of stack. 23 where the bytes are not
+ * before; as a reset it looks at nothing of them but the lengths. Its stack is 150 KiB at most. 23 where the bytes are not
  * the snapshot of any sound table. */
 uint32_t rimonakh_load_snapshot(uint64_t *words, size_t words_len, uint8_t *store, size_t store_len,
                                 const uint8_t *snapshot, size_t snapshot_len);
 
 /* Replays a recording, which is read: calls in order, each with its answer, in the form of docs/RECORDING.md. The table is reset
  * at 0, whatever array and store held before; then each call is done, up to the first whose recorded answer is not ours, that
- * call among them. A recorded reset starts the tally at zero, an accepted load at the snapshot's counts as granted. It takes less
- * than 220 KiB of stack. 13 where the bytes end before a number or a section does; 14 for a broken form; 10 for more than
+ * call among them. A recorded reset starts the tally at zero, an accepted load at the snapshot's counts as granted. Its stack is
+ * 220 KiB at most. 13 where the bytes end before a number or a section does; 14 for a broken form; 10 for more than
  * RIMONAKH_MOST_RECORDS records. */
 rimonakh_outcome rimonakh_replay(uint64_t *words, size_t words_len, uint8_t *store, size_t store_len,
                                  const uint8_t *recording, size_t recording_len);

@@ -38,6 +38,7 @@ ghost use Rattle.headers.specs.Headers.{readThis, thisExtension, thisBytes, thi
 ghost use Rattle.bindings.specs.Bindings.{frontAnswer, listAnswer, listLength, bindingAt};
 ghost use Rattle.contexts.specs.Contexts.{readContext, readProperty, propertyBytes, writeProperty, contextBytes, writeContext};
 ghost use Rattle.cursors.specs.Cursors.{partCursor, bindingStep, contextCursor, propertyStep, thisCursor, extensionsCursor, extensionStep};
+ghost use Rattle.list_writer.specs.Writing.{madeList, writeList};
 ghost use Rattle.references.specs.Parts.{ElementFound};
 ghost use Rattle.references.specs.References.{referenceAnswer, readReference, tailPlace, referenceBinding, contextPlace};
 ghost use Rattle.reference_writer.specs.Writing.{referenceBytes, writeReference};
@@ -189,6 +190,20 @@ pub extern "C" fn rimonakh_list_security_binding(bytes: &[u8], k: usize) -> Plac
     ensures { λ r. ⌜ r ≡ bindingAt (now (bytes .entry)) Part.Security k ⌝ }
 {
     bindings::locate(bytes, Part::Security, k)
+}
+
+// Writes the list of these string and security bindings at the front of buffer.
+#[no_mangle]
+pub extern "C" fn rimonakh_list_write(
+    strings: &[u16],
+    security: &[u16],
+    buffer: &mut [u8],
+) -> Written
+    ensures { λ r. ⌜
+        (r ≡ writeList (now (strings .entry)) (now (security .entry)) (length (now (buffer .entry))))
+        × (now (buffer .exit) ≡ stored (r .answer) (madeList (now (strings .entry)) (now (security .entry))) (now (buffer .entry))) ⌝ }
+{
+    list_writer::write(strings, security, buffer)
 }
 
 // Whether the bytes are a reference.

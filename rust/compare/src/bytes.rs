@@ -20,6 +20,8 @@ enum Kind {
     /// A call header with its extensions.
     Header(headers::Kind),
     Context,
+    /// A list to be written, with the words of the bytes.
+    WrittenList,
     /// A reference to be written, with the bytes as its list or object data.
     Written,
     /// A context and a property to be written, with the bytes as the context's properties.
@@ -44,6 +46,7 @@ impl Case {
             Kind::Header(headers::Kind::This),
             Kind::Header(headers::Kind::That),
             Kind::Context,
+            Kind::WrittenList,
             Kind::Written,
             Kind::Written,
             Kind::WrittenContext,
@@ -54,7 +57,7 @@ impl Case {
                 reference(random, oxid)
             }
             Kind::Written if random.once_in(3) => context(random),
-            Kind::List | Kind::Written => list(random),
+            Kind::List | Kind::WrittenList | Kind::Written => list(random),
             Kind::Context => context(random),
             Kind::WrittenContext => {
                 let mut properties = Vec::new();
@@ -96,6 +99,7 @@ fn check(kind: Kind, s: &[u8], seed: u64, tally: &mut Tally) -> Result<(), Strin
         Kind::List => check_list(s, tally),
         Kind::Header(kind) => headers::check(kind, s, &mut random, tally),
         Kind::Context => check_context(s, &mut random, tally),
+        Kind::WrittenList => check_list_written(s, &mut random, tally),
         Kind::Written => {
             let fields = written_fields(&mut random);
             let content = written_content(&mut random);
@@ -278,6 +282,22 @@ fn check_list(s: &[u8], tally: &mut Tally) -> Result<(), String> {
     let bytes = |of: &[Range<usize>]| of.iter().map(|r| &s[r.clone()]).collect::<Vec<_>>();
     let demanded = m::list(s).map(|l| (bytes(&l.strings), bytes(&l.security)));
     plain_same(plain, demanded)
+}
+
+/// The words of a list's bytes, cut into two parts at its S, each without its last word, are written again.
+fn check_list_written(s: &[u8], random: &mut Random, tally: &mut Tally) -> Result<(), String> {
+    let word = |w: &[u8]| u16::from_le_bytes([w[0], w[1]]);
+    let words: Vec<u16> = s.chunks_exact(2).map(word).collect();
+    let (head, words) = words.split_at(words.len().min(2));
+    let cut = head
+        .get(1)
+        .map_or(0, |split| words.len().min((*split).into()));
+    let row = |words: &[u16]| words.split_last().map_or(vec![], |(_, row)| row.to_vec());
+    let (strings, security) = (row(&words[..cut]), row(&words[cut..]));
+    let n = 8 + 2 * (strings.len() + security.len());
+    let write = |buffer: &mut [u8]| rimonakh::list::write(&strings, &security, buffer);
+    let demand = |buffer: &mut [u8]| m::write_list(&strings, &security, buffer);
+    same_written("list written", n, random, tally, write, demand)
 }
 
 fn check_reference(s: &[u8], random: &mut Random, tally: &mut Tally) -> Result<(), String> {

@@ -111,6 +111,20 @@ fn part(words: &[u16], head: usize) -> Option<Vec<Range<usize>>> {
     (at + 1 == words.len()).then_some(found)
 }
 
+/// Writes the list of string and security bindings in a row, each with its zero word; the parts' last words are not given.
+pub fn write_list(strings: &[u16], security: &[u16], buffer: &mut [u8]) -> Result<usize, u32> {
+    let ended = |words: &[u16]| [words, &[0]].concat();
+    let (strings, security) = (ended(strings), ended(security));
+    let both = part(&strings, 1).zip(part(&security, 2));
+    let count = u16::try_from(strings.len() + security.len());
+    let (Some(_), Ok(n)) = (both, count) else {
+        return Err(14);
+    };
+    let words = [&[n, strings.len() as u16], &strings[..], &security[..]].concat();
+    let made: Vec<u8> = words.iter().flat_map(|w| w.to_le_bytes()).collect();
+    put(&made, buffer)
+}
+
 /// The list at the front of the bytes.
 pub fn front_list(s: &[u8]) -> Result<List, u32> {
     if s.len() < 4 {

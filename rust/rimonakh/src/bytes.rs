@@ -19,6 +19,15 @@ pub enum Part {
 }
 
 /// Binding lists (DUALSTRINGARRAY).
+///
+/// ```
+/// use rimonakh::{list, Error, Part};
+///
+/// let bytes = list::of(&[(7, "10.1.4.20[49500]")], &[(10, 0xFFFF, "RPCSS/plant-gw01")])?;
+/// assert_eq!(list::binding(&bytes, Part::Strings, 0)?[..4], [7, 0, b'1', 0]);
+/// assert_eq!(list::of(&[(0, "a tower of 0 begins no binding")], &[]), Err(Error::Layout));
+/// # Ok::<(), Error>(())
+/// ```
 pub mod list {
     use super::{ffi, from_fn, Part, Range};
     use crate::error::answered;
@@ -55,6 +64,37 @@ pub mod list {
             }
         };
         place.range()
+    }
+
+    /// Writes the list of string and security bindings at the front of `buffer` and keeps the rest. Answers the length. Each binding is
+    /// its words with its zero word; the words that end the parts are not given.
+    pub fn write(strings: &[u16], security: &[u16], buffer: &mut [u8]) -> Result<usize> {
+        // SAFETY: each pointer and length are of one slice, and the slices do not overlap.
+        let r = unsafe {
+            ffi::rimonakh_list_write(
+                strings.as_ptr(),
+                strings.len(),
+                security.as_ptr(),
+                security.len(),
+                buffer.as_mut_ptr(),
+                buffer.len(),
+            )
+        };
+        answered(r.answer, r.length)
+    }
+
+    /// The list of string bindings (tower, address) and security bindings (service, the word after it, name).
+    pub fn of(strings: &[(u16, &str)], security: &[(u16, u16, &str)]) -> Result<Vec<u8>> {
+        let text = |head: &[u16], text: &str| -> Vec<u16> {
+            let units = text.encode_utf16();
+            head.iter().copied().chain(units).chain([0]).collect()
+        };
+        let strings = strings.iter().flat_map(|(tower, a)| text(&[*tower], a));
+        let security = security.iter().flat_map(|(s, w, n)| text(&[*s, *w], n));
+        let (strings, security): (Vec<u16>, Vec<u16>) = (strings.collect(), security.collect());
+        let mut bytes = vec![0; 8 + 2 * (strings.len() + security.len())];
+        write(&strings, &security, &mut bytes)?;
+        Ok(bytes)
     }
 
     /// Binding `k` of a part of a whole list.

@@ -3,9 +3,10 @@
 use crate::ffi;
 use std::fmt;
 
-/// A refusal; its value is the answer number.
+/// A refusal; its value is the answer number. More may come with later versions.
 #[repr(u32)]
 #[derive(Clone, Copy, Debug, PartialEq, Eq, PartialOrd, Ord, Hash)]
+#[non_exhaustive]
 pub enum Error {
     Unsound = 1,
     ClockBack = 2,
@@ -22,7 +23,7 @@ pub enum Error {
     Short = 13,
     Layout = 14,
     NoRoom = 15,
-    Version = 16,
+    BadVersion = 16,
     SetsUsedUp = 18,
     LongList = 19,
     NoClient = 20,
@@ -49,7 +50,7 @@ impl Error {
         Error::Short,
         Error::Layout,
         Error::NoRoom,
-        Error::Version,
+        Error::BadVersion,
         Error::SetsUsedUp,
         Error::LongList,
         Error::NoClient,
@@ -73,23 +74,25 @@ impl Error {
         match self {
             Error::Unsound => "a lent table has the wrong length or is not sound",
             Error::ClockBack => "the new clock is below the table's clock",
-            Error::BadIdentifier => "an identifier to be entered is zero or already live",
+            Error::BadIdentifier => "an OXID, OID or IPID to be entered is zero or already live",
             Error::NoExporter => "no such live exporter",
             Error::NoObject => "no such live object",
             Error::NoInterface => "no such live interface",
             Error::NoReferences => "an entry with zero references",
             Error::CountOverflow => "a count would pass 4,294,967,295",
             Error::NoPlace => {
-                "no free place of a kind that is needed, or no room for a binding list"
+                "no free place of a kind that is needed, or no room in the store for a binding list"
             }
             Error::TooMany => "a list of more than 65,535 identifiers, items or protocols, or more than 16,384 records",
-            Error::NoSet => "no such live ping set",
-            Error::Stale => "stale sequence number",
+            Error::NoSet => "no such live ping set, or set 0 in a simple ping",
+            Error::Stale => "a stale sequence number",
             Error::Short => "the bytes end before a field does",
-            Error::Layout => "a layout rule is broken",
+            Error::Layout => {
+                "a layout rule is broken, or a next stop is asked of a custom reference"
+            }
             Error::NoRoom => "the output buffer is too short",
-            Error::Version => "version not understood",
-            Error::SetsUsedUp => "set numbers used up",
+            Error::BadVersion => "a call's header has a version that is not understood",
+            Error::SetsUsedUp => "the set numbers are used up",
             Error::LongList => "a binding list of more than 2,048 bytes",
             Error::NoClient => "the client is none of 0 to 7",
             Error::TooDeep => "references nested deeper than 8",

@@ -192,6 +192,7 @@ pub struct Finished {
 }
 
 extern "C" {
+    pub fn rimonakh_version() -> u32;
     pub fn rimonakh_wire_code(number: u32) -> u32;
 
     pub fn rimonakh_this_read(bytes: *const u8, bytes_len: usize) -> ReadThis;
@@ -238,6 +239,15 @@ extern "C" {
     pub fn rimonakh_list_front_length(bytes: *const u8, bytes_len: usize) -> usize;
     pub fn rimonakh_list_string_binding(bytes: *const u8, bytes_len: usize, k: usize) -> Place;
     pub fn rimonakh_list_security_binding(bytes: *const u8, bytes_len: usize, k: usize) -> Place;
+
+    pub fn rimonakh_list_write(
+        strings: *const u16,
+        strings_len: usize,
+        security: *const u16,
+        security_len: usize,
+        buffer: *mut u8,
+        buffer_len: usize,
+    ) -> Written;
 
     pub fn rimonakh_reference_answer(bytes: *const u8, bytes_len: usize) -> u32;
     pub fn rimonakh_reference_read(bytes: *const u8, bytes_len: usize) -> ReadReference;

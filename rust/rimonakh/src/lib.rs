@@ -2,9 +2,9 @@
 //! interfaces and ping sets. Every call ends with an answer number; a refusal is an [`Error`] and changes nothing.
 //!
 //! ```
-//! use rimonakh::{wire_code, Block, Error, Guid, Oid, Oxid, Part, Reference, SetId, Stop, Table};
+//! use rimonakh::{list, snapshot_clock, wire_code, Block, Error, Guid, Oid, Oxid, Part, Reference, SetId, Stop, Table};
 //!
-//! let list = [4, 0, 3, 0, 7, 0, 0, 0, 0, 0, 0, 0]; // one string binding: TCP, with an empty address
+//! let list = list::of(&[(7, "10.1.4.20[49500]")], &[])?; // one string binding: TCP
 //! let iid = Guid::new(0x39c13a54, 0x011e, 0x11d0, [0x96, 0x75, 0x00, 0x20, 0xaf, 0xd8, 0xad, 0xb3]);
 //! let (oxid, oid) = (Oxid(0x1101), Oid(0x7e0a));
 //! let (unknown, ipid) = (Guid([1; 16]), Guid([2; 16]));
@@ -19,7 +19,7 @@
 //!
 //! // a client reads it, resolves the exporter, pings, and gives its references back
 //! let reference = Reference::read(&bytes[..length])?;
-//! assert_eq!(Reference::binding(&bytes[..length], Part::Strings, 0)?, [7, 0, 0, 0]);
+//! assert_eq!(Reference::binding(&bytes[..length], Part::Strings, 0)?[..2], [7, 0]);
 //! assert_eq!(table.next_stop(&bytes[..length])?, Stop::Exporter(&list));
 //! let mut buffer = [0; 2048];
 //! assert_eq!(table.resolve(reference.block.oxid, &mut buffer)?.unknown, unknown);
@@ -27,11 +27,11 @@
 //! table.clock(1120)?;
 //! table.simple_ping(set)?;
 //!
-//! // another box takes over
-//! let mut other = Table::new(0);
-//! other.load_snapshot(&table.snapshot()?)?;
-//! assert_eq!(other.snapshot()?, table.snapshot()?);
-//! let mut table = other;
+//! // another box takes over, and goes on from the snapshot's clock by the seconds that pass there
+//! let snapshot = table.snapshot()?;
+//! let mut table = Table::new(0);
+//! table.load_snapshot(&snapshot)?;
+//! table.clock(snapshot_clock(&snapshot) + 5)?;
 //! assert!(table.release(0, reference.block.ipid, 5, 0)?.object_went);
 //! assert_eq!(table.add(0, ipid, 1, 0), Err(Error::NoInterface));
 //! assert_eq!(wire_code(&table.add(0, ipid, 1, 0)), 0x800401FB);
@@ -44,6 +44,7 @@ pub mod ffi;
 mod fragments;
 mod headers;
 mod ids;
+pub mod limits;
 mod recording;
 mod table;
 
@@ -52,10 +53,16 @@ pub use error::{wire_code, Error};
 pub use fragments::FragmentReader;
 pub use headers::{Extension, Extensions, OrpcThat, OrpcThis, Read};
 pub use ids::{Guid, Oid, Oxid, SetId};
-pub use recording::{Outcome, Recorder, Tally, MOST_RECORDS};
-pub use table::{
-    Counts, Item, Pinged, Released, Resolved, Stop, Table, BYTES, LONGEST_SNAPSHOT, WORDS,
-};
+pub use limits::{BYTES, LONGEST_SNAPSHOT, WORDS};
+pub use recording::{Outcome, Recorder, Tally};
+pub use table::{snapshot_clock, Counts, Item, Pinged, Released, Resolved, Stop, Table};
+
+/// The version of the archive: major, minor and patch.
+pub fn version() -> (u32, u32, u32) {
+    // SAFETY: it has no arguments.
+    let number = unsafe { ffi::rimonakh_version() };
+    (number >> 16, number >> 8 & 0xFF, number & 0xFF)
+}
 
 /// `Ok` is answer 0.
 pub type Result<T> = std::result::Result<T, Error>;

@@ -3,9 +3,6 @@
 use crate::{Counts, Guid, Oid, Oxid, Pinged, Released, Resolved, Result, SetId, Stop};
 use crate::{Table, BYTES, WORDS};
 
-/// The most records that are replayed; a recording of more is [`Error::TooMany`](crate::Error::TooMany).
-pub const MOST_RECORDS: u64 = 16_384;
-
 /// What was granted, what releases took, and what the removal of an exporter, a clock or the drop of a client took.
 #[repr(C)]
 #[derive(Clone, Copy, Debug, Default, PartialEq, Eq)]
@@ -180,7 +177,7 @@ where
         &self.recording.0
     }
 
-    /// The number of records. A recording of more than [`MOST_RECORDS`] is not replayed.
+    /// The number of records. A recording of more than [`MOST_RECORDS`](crate::limits::MOST_RECORDS) is not replayed.
     pub fn records(&self) -> u64 {
         let (n, _) = self.recording.0.split_first_chunk().expect("the number");
         u64::from_le_bytes(*n)

@@ -1,16 +1,8 @@
 //! The table of exporters, objects, interfaces and ping sets, and the calls on it.
 
 use crate::error::answered;
+use crate::limits::{BYTES, LONGEST_SNAPSHOT, WORDS};
 use crate::{ffi, Guid, Oid, Outcome, Oxid, Result, SetId};
-
-/// The length of a table's array, in words.
-pub const WORDS: usize = 8192;
-
-/// The length of a table's store of binding lists, in bytes.
-pub const BYTES: usize = 8192;
-
-/// The length of the longest snapshot, in bytes.
-pub const LONGEST_SNAPSHOT: usize = 64_698;
 
 /// Numbers of each kind: of live entries, or of those that went.
 #[repr(C)]
@@ -75,6 +67,11 @@ pub enum Stop<'a> {
     Exporter(&'a [u8]),
     /// The reference's own list.
     Own(&'a [u8]),
+}
+
+/// The clock of a snapshot that a table has loaded or written: its bytes 2 to 9.
+pub fn snapshot_clock(snapshot: &[u8]) -> u64 {
+    u64::from_le_bytes(snapshot[2..10].try_into().expect("eight bytes"))
 }
 
 /// An array of words and a store of bytes. It owns both, unless made by [`Table::over`] memory that is lent. Every call judges
@@ -366,7 +363,10 @@ where
         answered(r.answer, r.pinged)
     }
 
-    /// Sets the clock. Sets and pinged objects that were not heard for 360 seconds or more go; answers how many.
+    /// Sets the clock, in seconds that only rise: those of a monotonic clock, never the wall's. Only this call moves time, so the
+    /// program makes it by itself, every few seconds. Sets and pinged objects that were not heard for 360 seconds or more go; answers
+    /// how many. A time far ahead ends all of them and can't be taken back, so bound a jump before. After a load go on from
+    /// [`snapshot_clock`] by the seconds that pass here.
     pub fn clock(&mut self, time: u64) -> Result<Counts> {
         let (words, store) = (self.words.as_mut(), self.store.as_ref());
         let r = unsafe {

@@ -1,6 +1,7 @@
 //! A day that is recorded by the recorder is replayed; with another answer in it, it differs there.
 
-use rimonakh::{Error, Guid, Oid, Outcome, Oxid, Recorder, SetId, Table, Tally, MOST_RECORDS};
+use rimonakh::limits::MOST_RECORDS;
+use rimonakh::{Error, Guid, Oid, Outcome, Oxid, Recorder, SetId, Table, Tally};
 
 const LIST: [u8; 12] = [4, 0, 3, 0, 7, 0, 0, 0, 0, 0, 0, 0];
 

@@ -1,16 +1,12 @@
 //! The header and the declarations in Rust have the arguments of the proved functions, by name, order and type.
 
+mod repository;
+
+use repository::file;
 use std::collections::BTreeMap;
-use std::fs;
-use std::path::PathBuf;
 
 /// Of each function its arguments, `name: type` in Rust's words, and the number that it returns, if it is no struct.
 type Signatures = BTreeMap<String, (Vec<String>, Option<String>)>;
-
-fn file(path: &str) -> String {
-    let root = PathBuf::from(env!("CARGO_MANIFEST_DIR")).join("../..");
-    fs::read_to_string(root.join(path)).expect(path)
-}
 
 /// A type in Rust's words: that of a number, or of a struct that is handed in by value; nothing for another struct.
 fn number(of: &str) -> Option<String> {

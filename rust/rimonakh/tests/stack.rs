@@ -1,16 +1,18 @@
-//! A load and a replay take less stack than the header says: a load is done by threads that have 256 and 192 KiB in all, a replay by
-//! threads that have 320 and 256.
+//! Each function takes less stack than the header says: it is done by a thread that has so much, and a margin for what a thread of
+//! Rust takes for itself.
 
-use rimonakh::{Guid, Item, Oid, Outcome, Oxid, Recorder, SetId, Table, LONGEST_SNAPSHOT};
+mod making;
+
+use making::{guid, nest};
+use rimonakh::limits::{LONGEST_SNAPSHOT, MOST_EXTENSIONS, MOST_LEVELS, MOST_LISTED};
+use rimonakh::{list, Error, Extension, FragmentReader, Item, Oid, OrpcThis, Outcome, Oxid, Part};
+use rimonakh::{Recorder, Reference, Result, SetId, Table};
 use std::thread;
 
 /// A table whose snapshot is the longest.
 fn full() -> Table {
     let mut table = Table::new(1000);
-    let mut list = vec![0; 512];
-    list[..8].copy_from_slice(&[0xFE, 0, 0xFD, 0, 7, 0, b'a', 0]);
-    list[8..506].iter_mut().step_by(2).for_each(|b| *b = b'a');
-    let guid = |n: u64| Guid((n as u128).to_le_bytes());
+    let list = list::of(&[(7, &"a".repeat(250))], &[]).unwrap();
     for x in 1..=16 {
         table.enter_exporter(Oxid(x), guid(x), &list).unwrap();
     }
@@ -30,25 +32,121 @@ fn full() -> Table {
     table
 }
 
-/// What a thread with so much stack answers.
-fn in_thread<T: Send + 'static>(kib: usize, work: impl FnOnce() -> T + Send + 'static) -> T {
-    let thread = thread::Builder::new().stack_size(kib * 1024);
-    thread.spawn(work).unwrap().join().unwrap()
+/// The bytes of stack that a thread of Rust takes for itself, at most.
+const MARGIN: usize = 16 * 1024;
+
+/// Runs it in a thread that has so many KiB of stack, and the margin.
+fn within<T: Send + 'static>(kib: usize, call: impl FnOnce() -> T + Send + 'static) -> T {
+    let thread = thread::Builder::new().stack_size(kib * 1024 + MARGIN);
+    thread.spawn(call).unwrap().join().unwrap()
 }
 
 #[test]
-fn a_load_in_a_small_thread() {
+fn a_load() {
     let snapshot = full().snapshot().unwrap();
     assert_eq!(snapshot.len(), LONGEST_SNAPSHOT);
-    for kib in [256, 192] {
-        let bytes = snapshot.clone();
-        let loaded = in_thread(kib, move || {
-            let mut table = Table::new(0);
-            table.load_snapshot(&bytes).unwrap();
-            table.snapshot().unwrap()
+    let bytes = snapshot.clone();
+    let loads = move || {
+        let mut table = Table::new(0);
+        table.load_snapshot(&bytes).unwrap();
+        table.snapshot().unwrap()
+    };
+    assert_eq!(within(150, loads), snapshot);
+}
+
+#[test]
+fn every_other_call_on_a_table() {
+    let calls: [fn(&mut Table) -> Result<()>; 13] = [
+        |t| t.remove_exporter(Oxid(16)),
+        |t| t.enter_exporter(Oxid(99), guid(99), &[0; 4]),
+        |t| t.release(0, guid(1126), 1, 0).map(|_| ()),
+        |t| t.release(0, guid(226), 1, 0).map(|_| ()),
+        |t| t.enter_interface(Oid(1), guid(99_999), guid(1), 1),
+        |t| t.enter_object(Oid(999), Oxid(1), guid(98), guid(1), 1, true),
+        |t| t.add(7, guid(101), 1, 1).and(t.drop_client(7)),
+        |t| t.add_list(0, &[1; 240], &mut [0; 10]),
+        |t| t.release_list(0, &[1; 240], &mut [0; 10]),
+        |t| {
+            let items = vec![1; MOST_LISTED * Item::SIZE];
+            t.release_list(0, &items, &mut vec![0; MOST_LISTED])
+        },
+        |t| {
+            let oids = vec![Oid(3); MOST_LISTED];
+            t.complex_ping(SetId(1), 2, &oids, &oids).map(|_| ())
+        },
+        |t| t.simple_ping(SetId(1)).and(t.members(SetId(1))).map(|_| ()),
+        |t| {
+            t.resolve(Oxid(1), &mut [0; 512])
+                .and(t.census())
+                .map(|_| ())
+        },
+    ];
+    let mut table = full();
+    for call in calls {
+        table = within(12, move || {
+            call(&mut table).unwrap();
+            table
         });
-        assert_eq!(loaded, snapshot);
     }
+    let snapshot = within(12, move || {
+        assert!(table.snapshot().unwrap().len() > 60_000);
+        assert_eq!(table.clock(100_000).unwrap().sets, 32);
+        table.reset(7).unwrap();
+        table.snapshot().unwrap()
+    });
+    assert_eq!(snapshot.len(), 26);
+}
+
+#[test]
+fn a_resolve_by_protocols() {
+    let table = full();
+    for protocols in [vec![7], (0..=u16::MAX).skip(1).collect()] {
+        let table = table.clone();
+        let length = within(16, move || {
+            let resolved = table.resolve_filtered(Oxid(1), &protocols, &mut [0; 512]);
+            resolved.unwrap().length
+        });
+        assert_eq!(length, 512);
+    }
+}
+
+#[test]
+fn every_other_function() {
+    let nest = nest(MOST_LEVELS).unwrap();
+    let length = nest.len();
+    let read = within(4, move || {
+        let read = Reference::read(&nest).unwrap();
+        let element = Reference::locate_element(&nest, 0).unwrap();
+        let mut bytes = vec![0; nest.len()];
+        let length = read.write(&[0; 4], &nest[element], &mut bytes).unwrap();
+        assert_eq!(bytes, nest);
+        let mut reader = FragmentReader::new(64);
+        reader.push(&bytes);
+        assert_eq!(reader.finish(&mut []), Err(Error::Layout)); // an extended one is not read in fragments
+        length
+    });
+    assert_eq!(read, length);
+    let extensions = [Extension {
+        id: guid(1),
+        pointer: 1,
+        data: &[1, 2, 3],
+    }; MOST_EXTENSIONS];
+    within(4, move || {
+        let mut bytes = vec![0; 2048];
+        let this = OrpcThis {
+            minor: 7,
+            flags: 0,
+            causality: guid(1),
+        };
+        this.write_with(1, 1, &extensions, &mut bytes).unwrap();
+        assert_eq!(OrpcThis::extension(&bytes, 31).unwrap(), extensions[31]);
+        assert_eq!(
+            OrpcThis::extensions(&bytes).unwrap().count(),
+            MOST_EXTENSIONS
+        );
+        let list = list::of(&[(7, "a"), (8, "b")], &[(10, 0, "c")]).unwrap();
+        assert_eq!(list::locate(&list, Part::Security, 0), Ok(18..26));
+    });
 }
 
 /// Every call on a full table, with the longest lists and buffers.
@@ -56,50 +154,46 @@ fn recorded() -> Vec<u8> {
     let full = full();
     let snapshot = full.snapshot().unwrap();
     let mut day = Recorder::over(full).unwrap();
-    let (guid, oids) = (Guid(101u128.to_le_bytes()), vec![Oid(1); 65_535]);
+    let (ipid, oids) = (guid(101), vec![Oid(1); MOST_LISTED]);
     let item = Item {
-        ipid: guid,
+        ipid,
         public: 1,
         private: 1,
     };
-    let (items, mut buffer) = (item.to_bytes().repeat(65_535), vec![0; 65_535]);
+    let (items, mut buffer) = (item.to_bytes().repeat(MOST_LISTED), vec![0; MOST_LISTED]);
+    let list = list::of(&[], &[]).unwrap();
     let mut reference = b"MEOW\x01\0\0\0".to_vec();
     reference.extend([1; 56]);
-    reference.extend([2, 0, 1, 0, 0, 0, 0, 0]);
+    reference.extend(&list);
     day.census().unwrap();
     day.members(SetId(1)).unwrap();
-    day.add(0, guid, 1, 1).unwrap();
+    day.add(0, ipid, 1, 1).unwrap();
     day.add_list(1, &items, &mut buffer).unwrap();
     day.release_list(1, &items, &mut buffer).unwrap();
     day.complex_ping(SetId(1), 2, &oids, &oids).unwrap();
     day.simple_ping(SetId(1)).unwrap();
     day.resolve(Oxid(1), &mut buffer).unwrap();
-    day.resolve_filtered(Oxid(1), &[7; 65_535], &mut buffer)
+    day.resolve_filtered(Oxid(1), &[7; MOST_LISTED], &mut buffer)
         .unwrap();
     day.next_stop(&reference).unwrap();
     day.write_snapshot(&mut buffer).unwrap();
     day.load_snapshot(&snapshot).unwrap();
-    day.release(0, guid, 1, 1).unwrap();
+    day.release(0, ipid, 1, 1).unwrap();
     day.drop_client(1).unwrap();
     day.clock(1359).unwrap();
     day.remove_exporter(Oxid(16)).unwrap();
-    day.enter_exporter(Oxid(17), Guid([9; 16]), &[2, 0, 1, 0, 0, 0, 0, 0])
+    day.enter_exporter(Oxid(17), guid(9_001), &list).unwrap();
+    day.enter_object(Oid(200), Oxid(17), guid(9_002), ipid, 1, false)
         .unwrap();
-    day.enter_object(Oid(200), Oxid(17), Guid([8; 16]), guid, 1, false)
-        .unwrap();
-    day.enter_interface(Oid(200), Guid([7; 16]), guid, 1)
-        .unwrap();
+    day.enter_interface(Oid(200), guid(9_003), ipid, 1).unwrap();
     day.clock(2000).unwrap();
     day.reset(0).unwrap();
     day.finish().1
 }
 
 #[test]
-fn a_replay_in_a_small_thread() {
+fn a_replay() {
     let recording = recorded();
-    for kib in [320, 256] {
-        let bytes = recording.clone();
-        let outcome = in_thread(kib, move || Table::new(0).replay(&bytes));
-        assert_eq!(outcome, Ok(Outcome::default()));
-    }
+    let outcome = within(220, move || Table::new(0).replay(&recording));
+    assert_eq!(outcome, Ok(Outcome::default()));
 }

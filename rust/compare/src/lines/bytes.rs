@@ -6,6 +6,8 @@
 //!     W bytes     a reference to be written: flags, the size of the buffer, then the list or the object data
 //!     I bytes     the same, before it which identifiers are zero: OXID 1, OID 2, the halves of the IPID 4 and 8, added
 //!     B           a list of N = 65,535 words, and the same one word short
+//!     M bytes     a list to be written: the size of the buffer, how many words the string bindings have, then the words of all bindings
+//!     N           a list of N = 65,535 words to be written, and the same with one word more
 
 use super::{all_seen, hex, text, Answers, Arguments, Seen};
 use crate::bytes::{
@@ -27,6 +29,7 @@ pub trait Codec {
     fn list(s: &[u8]) -> Answer<()>;
     fn front_length(s: &[u8]) -> usize;
     fn list_binding(s: &[u8], part: Part, k: usize) -> Answer<Range<usize>>;
+    fn write_list(strings: &[u16], security: &[u16], buffer: &mut [u8]) -> Answer<usize>;
     fn read_reference(s: &[u8]) -> Answer<(Reference, Range<usize>)>;
     fn reference_binding(s: &[u8], part: Part, k: usize) -> Answer<Range<usize>>;
     fn reference_element(s: &[u8], k: usize) -> Answer<Range<usize>>;
@@ -52,6 +55,9 @@ impl Codec for Model {
     }
     fn list_binding(s: &[u8], part: Part, k: usize) -> Answer<Range<usize>> {
         m::list_binding(s, part, k)
+    }
+    fn write_list(strings: &[u16], security: &[u16], buffer: &mut [u8]) -> Answer<usize> {
+        m::write_list(strings, security, buffer)
     }
     fn read_reference(s: &[u8]) -> Answer<(Reference, Range<usize>)> {
         m::read_reference(s)
@@ -114,6 +120,9 @@ impl Codec for Library {
         assert_eq!(walked, numbered, "in one pass");
         numbered.map_err(r::Error::number)
     }
+    fn write_list(strings: &[u16], security: &[u16], buffer: &mut [u8]) -> Answer<usize> {
+        r::list::write(strings, security, buffer).map_err(r::Error::number)
+    }
     fn read_reference(s: &[u8]) -> Answer<(Reference, Range<usize>)> {
         let x = r::Reference::read(s).map_err(r::Error::number)?;
         let tail = r::Reference::tail(s).map_err(r::Error::number)?;
@@ -163,6 +172,7 @@ const ANSWERS: Answers = &[
     (b'O', &[0, 13, 14, 22]),
     (b'K', &[0, 13, 14, 22, 24]),
     (b'W', &[0, 14, 13, 22, 15]),
+    (b'M', &[0, 14, 15]),
 ];
 
 /// The answer number, and the results: zeros where it is refused.
@@ -193,6 +203,23 @@ pub fn run<C: Codec>(input: &[u8]) -> String {
                 let short = &largest[..largest.len() - 2];
                 out += &list::<C>(short, [0, 32764, 32765], &[0, 1], &mut seen);
             }
+            b'M' => {
+                let bytes = a.bytes();
+                let words = words(&bytes[2..]);
+                let (strings, security) = words.split_at(bytes[1].into());
+                let (answer, buffer) = list_written::<C>(strings, security, bytes[0].into());
+                seen.insert((b'M', answer.0));
+                out += &format!("{} length {} {}", answer.0, answer.1, hex(&buffer));
+            }
+            b'N' => {
+                let largest = words(&largest()[4..]);
+                let (strings, security) = (&largest[..65530], &largest[65531..65534]);
+                let ((number, length), made) = list_written::<C>(strings, security, 131_074);
+                let (judged, ()) = zeroed(C::list(&made));
+                let one_more = [&strings[..65529], &[1, 0]].concat();
+                let ((refused, _), _) = list_written::<C>(&one_more, security, 131_076);
+                out += &format!("{number} length {length} judged {judged}, one more {refused}");
+            }
             _ => out += &String::from_utf8_lossy(line),
         }
         out.push('\n');
@@ -217,6 +244,23 @@ fn list<C: Codec>(s: &[u8], strings: [usize; 3], security: &[usize], seen: &mut 
         }
     }
     out
+}
+
+/// Little-endian words.
+fn words(s: &[u8]) -> Vec<u16> {
+    let word = |w: &[u8]| u16::from_le_bytes([w[0], w[1]]);
+    s.chunks_exact(2).map(word).collect()
+}
+
+/// Number and length of a list that is written into `room` bytes, and these bytes.
+fn list_written<C: Codec>(
+    strings: &[u16],
+    security: &[u16],
+    room: usize,
+) -> ((u32, usize), Vec<u8>) {
+    let mut buffer = vec![0xee; room];
+    let answer = zeroed(C::write_list(strings, security, &mut buffer));
+    (answer, buffer)
 }
 
 /// A list of N = 65,535 words: 32,765 string bindings with empty addresses and one security binding.
