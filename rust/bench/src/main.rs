@@ -1,7 +1,7 @@
 //! The library against careful plain Rust that keeps the same tables and judges as often: same machine, same input, in turns.
 //!
 //!     bench [times]      nanoseconds of each side, medians of the turns; library / careful Rust, median and quartiles of the turns
-//!     bench markdown     the same as the tables of README.md
+//!     bench markdown     the same as the tables of docs/SPEED.md
 //!     bench count        instructions of each side, by valgrind's callgrind
 //!     bench names        the rows
 //!
