@@ -1,29 +1,66 @@
 # Builds and installs what C and Rust programs link.
 #
 #   make                        the archive, proved
-#   make install PREFIX=...     header, archive and a pkg-config file
-#   make day, make fault        the examples in C
+#   make install PREFIX=...     headers, archive, pkg-config file, CMake package, the programs and their man pages
+#   make uninstall PREFIX=...   takes them away again
+#   make shared                 target/librimonakh.so, for those who load it (install lays it down where it was made)
+#   make day, fault, status     the examples in C
+#   make check                  what .ci/link tries of the archive: C, C++, installing, Rust
 
 PREFIX ?= /usr/local
-VERSION = 0.1.0
+VERSION := $(shell sed -n 's/^\#define RIMONAKH_VERSION_[A-Z]* //p' include/rimonakh.h | paste -sd.)
+MAJOR := $(firstword $(subst ., ,$(VERSION)))
 ARCHIVE = target/staticlib/libc_api.a
+SHARED = target/librimonakh.so
+PROGRAMS = objref snapshot replay
+BINARIES = $(PROGRAMS:%=target/bin/%)
 SOURCES = crates.txt $(shell find crates -path '*/src/*.rt' -o -path '*/specs/*.antt' -o -path '*/proofs/*.antt')
+STRICT = -std=c11 -Wall -Wextra -Wpedantic -Wconversion -Werror -Iinclude
+TO = $(DESTDIR)$(PREFIX)
+KIT = @command -v rt >/dev/null || { echo 'make: the Rattle kit is not on the PATH (rt): it proves and builds the library'; exit 1; }
 
-.PHONY: all install day fault
+.PHONY: all install uninstall shared check day fault status
 
 all: $(ARCHIVE)
 
 $(ARCHIVE): $(SOURCES)
+	$(KIT)
 	rt staticlib c_api
 
-install: $(ARCHIVE)
-	install -d $(DESTDIR)$(PREFIX)/include $(DESTDIR)$(PREFIX)/lib/pkgconfig
-	install -m 644 include/rimonakh.h $(DESTDIR)$(PREFIX)/include/rimonakh.h
-	install -m 644 $(ARCHIVE) $(DESTDIR)$(PREFIX)/lib/librimonakh.a
-	printf '%s\n' 'prefix=$(PREFIX)' 'libdir=$${prefix}/lib' 'includedir=$${prefix}/include' '' \
-	    'Name: rimonakh' 'Description: A proved DCOM object resolver' 'Version: $(VERSION)' \
-	    'Libs: -L$${libdir} -lrimonakh' 'Cflags: -I$${includedir}' >$(DESTDIR)$(PREFIX)/lib/pkgconfig/rimonakh.pc
+$(BINARIES): target/bin/%: $(SOURCES)
+	$(KIT)
+	rt check $*
 
-day fault: $(ARCHIVE)
-	$(CC) -std=c11 -Wall -Wextra -Wpedantic -Werror -Iinclude examples/$@.c $(ARCHIVE) -o target/$@
+shared: $(SHARED)
+
+$(SHARED): $(ARCHIVE)
+	$(CC) -shared -Wl,-soname,librimonakh.so.$(MAJOR) -Wl,--whole-archive $(ARCHIVE) -Wl,--no-whole-archive -o $@
+
+install: $(ARCHIVE) $(BINARIES)
+	install -d $(TO)/include $(TO)/lib/pkgconfig $(TO)/lib/cmake/rimonakh $(TO)/bin $(TO)/share/man/man1 $(TO)/share/man/man3
+	install -m 644 include/rimonakh.h include/rimonakh_more.h $(TO)/include
+	install -m 644 $(ARCHIVE) $(TO)/lib/librimonakh.a
+	sed -e 's|@PREFIX@|$(PREFIX)|' -e 's|@VERSION@|$(VERSION)|' packaging/rimonakh.pc >$(TO)/lib/pkgconfig/rimonakh.pc
+	install -m 644 packaging/rimonakh-config.cmake $(TO)/lib/cmake/rimonakh
+	sed 's|@VERSION@|$(VERSION)|' packaging/rimonakh-config-version.cmake >$(TO)/lib/cmake/rimonakh/rimonakh-config-version.cmake
+	for program in $(PROGRAMS); do \
+	    install -m 755 target/bin/$$program $(TO)/bin/rimonakh-$$program && \
+	    sed 's|@VERSION@|$(VERSION)|' packaging/rimonakh-$$program.1 >$(TO)/share/man/man1/rimonakh-$$program.1 || exit 1; done
+	sed 's|@VERSION@|$(VERSION)|' packaging/rimonakh.3 >$(TO)/share/man/man3/rimonakh.3
+	if [ -e $(SHARED) ]; then \
+	    install -m 755 $(SHARED) $(TO)/lib/librimonakh.so.$(VERSION) && \
+	    ln -sf librimonakh.so.$(VERSION) $(TO)/lib/librimonakh.so.$(MAJOR) && \
+	    ln -sf librimonakh.so.$(MAJOR) $(TO)/lib/librimonakh.so; fi
+
+uninstall:
+	rm -f $(TO)/include/rimonakh.h $(TO)/include/rimonakh_more.h $(TO)/lib/librimonakh.a $(TO)/lib/librimonakh.so* \
+	    $(TO)/lib/pkgconfig/rimonakh.pc $(TO)/share/man/man3/rimonakh.3 \
+	    $(PROGRAMS:%=$(TO)/bin/rimonakh-%) $(PROGRAMS:%=$(TO)/share/man/man1/rimonakh-%.1)
+	rm -rf $(TO)/lib/cmake/rimonakh
+
+check: $(BINARIES)
+	sh .ci/link
+
+day fault status: $(ARCHIVE)
+	$(CC) $(STRICT) examples/$@.c $(ARCHIVE) -o target/$@
 	target/$@

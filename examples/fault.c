@@ -5,7 +5,7 @@
  *
  *     cc -Iinclude examples/fault.c target/staticlib/libc_api.a -o fault && ./fault
  */
-#include "rimonakh.h"
+#include "rimonakh_more.h"
 
 #include <inttypes.h>
 #include <stdio.h>
@@ -19,60 +19,49 @@ static const rimonakh_guid ERROR_INFO = {0x101B547D1CF2B120, 0x19D12B2B0008658E}
 /* {39c13a54-011e-11d0-9675-0020afd8adb3}, the interface that failed: a group of items */
 static const rimonakh_guid GROUP = {0x11D0011E39C13A54, 0xB3ADD8AF20007596};
 
-static int same(rimonakh_guid a, rimonakh_guid b) {
-    return a.low == b.low && a.high == b.high;
-}
-
 /* ---- the server's side */
 
-static void put(uint8_t *bytes, size_t *at, uint64_t number, int width) {
-    for (; width > 0; width--, number >>= 8)
-        bytes[(*at)++] = (uint8_t)(number & 0xFF);
-}
-
 /* A string of an error: a mark that it is there, its length twice with a zero between, UTF-16 with a zero at its end. */
-static void put_text(uint8_t *bytes, size_t *at, const char *text) {
+static uint8_t *put_text(uint8_t *bytes, const char *text) {
     size_t length = strlen(text) + 1;
-    put(bytes, at, 0xFFFFFFFF, 4);
-    put(bytes, at, length, 4);
-    put(bytes, at, 0, 4);
-    put(bytes, at, length, 4);
+    bytes = rimonakh_put(bytes, 0xFFFFFFFF, 4);
+    bytes = rimonakh_put(bytes, length, 4);
+    bytes = rimonakh_put(bytes, 0, 4);
+    bytes = rimonakh_put(bytes, length, 4);
     for (size_t i = 0; i < length; i++)
-        put(bytes, at, (unsigned char)text[i], 2);
+        bytes = rimonakh_put(bytes, (unsigned char)text[i], 2);
+    return bytes;
 }
 
 /* The error's fields: version, help context, IID, source, description, no help file. Answers their length. */
 static size_t error_fields(uint8_t *fields) {
-    size_t at = 0;
-    put(fields, &at, 0, 8);
-    put(fields, &at, GROUP.low, 8);
-    put(fields, &at, GROUP.high, 8);
-    put_text(fields, &at, "tank gauge 3");
-    put_text(fields, &at, "the sensor does not answer");
-    put(fields, &at, 0, 4);
-    return at;
+    uint8_t *at = rimonakh_put(fields, 0, 8);
+    rimonakh_guid_to_bytes(GROUP, at);
+    at = put_text(at + 16, "tank gauge 3");
+    at = put_text(at, "the sensor does not answer");
+    return (size_t)(rimonakh_put(at, 0, 4) - fields);
 }
 
 /* A reply that failed: a header with the error, then the reply's own bytes, a result code. Answers its length. */
 static size_t fail(uint8_t *reply, size_t room) {
     uint8_t fields[256], error[512];
-    size_t at = error_fields(fields);
-    rimonakh_written written =
-        rimonakh_reference_write(RIMONAKH_CUSTOM, ERROR_INFO.low, ERROR_INFO.high, 0, 0, 0, 0, 0, 0, ERROR_OBJECT.low,
-                                 ERROR_OBJECT.high, 0, (uint32_t)at, 0, 0, fields, at, fields, 0, error, sizeof error);
+    const size_t length = error_fields(fields);
+    const rimonakh_guid none = {0, 0};
+    const rimonakh_reference made = {
+        RIMONAKH_CUSTOM, ERROR_INFO, {0, 0, 0, 0, none}, ERROR_OBJECT, 0, (uint32_t)length, none};
+    rimonakh_written written = rimonakh_write_reference(&made, fields, length, NULL, 0, error, sizeof error);
     printf("server: writes the error as a custom reference: %" PRIu32 ", %zu bytes\n", written.answer, written.length);
-    uint64_t entry[] = {ERROR_EXTENSION.low, ERROR_EXTENSION.high, 0x20008, written.length};
+    uint64_t entry[] = {RIMONAKH_GUID(ERROR_EXTENSION), 0x20008, written.length};
     written = rimonakh_that_write_extensions(0, 0x20000, 0x20004, entry, 4, error, written.length, reply, room);
     printf("server: writes the reply's header with one extension: %" PRIu32 ", %zu bytes\n", written.answer, written.length);
-    at = written.length;
-    put(reply, &at, 0x80004005, 4);
-    return at;
+    rimonakh_put(reply + written.length, 0x80004005, 4);
+    return written.length + 4;
 }
 
 /* ---- the client's side */
 
 static uint32_t number_at(const uint8_t *bytes, size_t at) {
-    return bytes[at] | (uint32_t)bytes[at + 1] << 8 | (uint32_t)bytes[at + 2] << 16 | (uint32_t)bytes[at + 3] << 24;
+    return (uint32_t)rimonakh_get(bytes + at, 4);
 }
 
 /* Prints a string of an error if it is there, and answers where it ends; 0 where it is cut short. */
@@ -97,7 +86,7 @@ static size_t print_text(const char *name, const uint8_t *fields, size_t length,
 /* Prints the error in the data of an extension. */
 static void print_error(const uint8_t *error, size_t length) {
     rimonakh_read_reference read = rimonakh_reference_read(error, length);
-    if (read.answer != 0 || read.reference.flags != RIMONAKH_CUSTOM || !same(read.reference.clsid, ERROR_OBJECT)) {
+    if (read.answer != 0 || read.reference.flags != RIMONAKH_CUSTOM || !rimonakh_guid_equal(read.reference.clsid, ERROR_OBJECT)) {
         printf("    no error that is known here\n");
         return;
     }
@@ -116,15 +105,15 @@ static void print_error(const uint8_t *error, size_t length) {
 static void receive(const uint8_t *reply, size_t length) {
     rimonakh_read_that read = rimonakh_that_read(reply, length);
     if (read.answer != 0) {
-        printf("client: refused by %" PRIu32 "\n", read.answer);
+        printf("client: refused by %" PRIu32 ", %s\n", read.answer, rimonakh_answer_text(read.answer));
         return;
     }
     printf("client: a header of %zu bytes, extensions: %" PRIu32 "\n", read.length, read.extensions.count);
     for (uint32_t k = 0; k < read.extensions.count; k++) {
         rimonakh_extension x = rimonakh_that_extension(reply, length, k);
         printf("  extension %" PRIu32 ", %zu bytes%s\n", k, x.to - x.from,
-               same(x.id, ERROR_EXTENSION) ? ", error information" : "");
-        if (same(x.id, ERROR_EXTENSION))
+               rimonakh_guid_equal(x.id, ERROR_EXTENSION) ? ", error information" : "");
+        if (rimonakh_guid_equal(x.id, ERROR_EXTENSION))
             print_error(reply + x.from, x.to - x.from);
     }
     if (length - read.length >= 4)
@@ -142,8 +131,7 @@ int main(void) {
     receive(reply, length);
     printf("no extensions\n");
     printf("server: writes the reply's header: %" PRIu32 "\n", rimonakh_that_write(0, reply, sizeof reply));
-    length = 8;
-    put(reply, &length, 0, 4);
-    receive(reply, length);
+    rimonakh_put(reply + 8, 0, 4);
+    receive(reply, 12);
     return 0;
 }
