@@ -5,23 +5,22 @@
  * ends. Then the same with a client that falls silent. Each step is printed with its answer number. The day is recorded, call by
  * call with its answer, in the form of docs/RECORDING.md, and replayed at the end; with a file's name the recording is written there.
  *
+ * The reference carries the addresses of the resolver, without an endpoint, as MS-DCOM wants it (sections 2.2.18.4 and 2.2.19.3); those of
+ * the exporter, with one, stand in the table. So the next stop is seen to choose.
+ *
  *     cc -Iinclude examples/day.c target/staticlib/libc_api.a -o day && ./day
  */
-#include "rimonakh.h"
+#include "rimonakh_more.h"
 
 #include <inttypes.h>
 #include <stdio.h>
 #include <string.h>
 
 /* The server's table: both buffers are ours, and are lent to every call. One in the box that goes, one in the box that comes. */
-struct box {
-    uint64_t words[RIMONAKH_WORDS];
-    uint8_t store[RIMONAKH_BYTES];
-};
-static struct box boxes[2];
-static struct box *box = &boxes[0];
+static rimonakh_table boxes[2];
+static rimonakh_table *box = &boxes[0];
 
-#define TABLE box->words, RIMONAKH_WORDS, box->store, RIMONAKH_BYTES
+#define TABLE RIMONAKH_TABLE(box)
 
 /* Identifiers that the server chose. */
 static const uint64_t OXID = 0x1101;
@@ -46,8 +45,8 @@ static uint8_t recording[16384];
 static size_t recorded = 8;
 
 static void put(uint64_t n, int bytes) {
-    for (; bytes > 0; bytes--, n >>= 8)
-        recording[recorded++] = (uint8_t)(n & 0xFF);
+    rimonakh_put(recording + recorded, n, bytes);
+    recorded += (size_t)bytes;
 }
 
 static void put_guid(rimonakh_guid guid) {
@@ -97,39 +96,29 @@ static void put_resolved(const void *protocols, size_t n, rimonakh_resolved r, c
     put_rest(protocols, n, r.answer, results, 3, list, r.length);
 }
 
-static void put_word(uint8_t *list, size_t *at, unsigned word) {
-    list[(*at)++] = (uint8_t)(word & 0xFF);
-    list[(*at)++] = (uint8_t)(word >> 8);
-}
-
-/* The binding list of a server at one TCP address, without security bindings. Answers its length. */
+/* The binding list of one TCP address, without security bindings. Answers its length. */
 static size_t tcp_list(const char *address, uint8_t *list) {
-    size_t at = 4;
-    size_t head = 0;
-    unsigned strings;
-    put_word(list, &at, 7); /* the tower of TCP */
-    for (; *address != '\0'; address++)
-        put_word(list, &at, (unsigned char)*address);
-    put_word(list, &at, 0);
-    put_word(list, &at, 0); /* the end of the string part */
-    strings = (unsigned)(at - 4) / 2;
-    put_word(list, &at, 0); /* the end of the security part */
-    put_word(list, &head, (unsigned)(at - 4) / 2);
-    put_word(list, &head, strings);
-    return at;
+    uint16_t words[32];
+    rimonakh_words strings = {words, 32, 0, false};
+    rimonakh_put_string_binding(&strings, 7, address); /* the tower of TCP */
+    return rimonakh_write_list(&strings, NULL, list, RIMONAKH_LONGEST_LIST).length;
 }
 
 /* Prints the address of the first string binding of a list. */
 static void print_address(const uint8_t *list, size_t length) {
-    rimonakh_place binding = rimonakh_list_string_binding(list, length, 0);
-    for (size_t i = binding.from + 2; i + 2 < binding.to; i += 2)
-        putchar(list[i]);
+    char address[64];
+    rimonakh_binding_text(list, rimonakh_list_string_binding(list, length, 0), 1, address, sizeof address);
+    printf("%s", address);
 }
 
-/* The object is entered, and its reference is written. Answers the reference's length. */
-static size_t serve(const uint8_t *list, size_t list_len, uint8_t *reference, size_t room) {
+/* The object is entered, and its reference is written, with the resolver's address. Answers the reference's length. */
+static size_t serve(uint8_t *reference, size_t room) {
+    const rimonakh_guid none = {0, 0};
+    const rimonakh_reference made = {RIMONAKH_STANDARD, IID, {0, 5, OXID, OID, IPID}, none, 0, 0, none};
+    uint8_t list[RIMONAKH_LONGEST_LIST];
+    const size_t list_len = tcp_list("10.1.4.20", list);
     rimonakh_written written;
-    uint32_t entered = rimonakh_enter_object(TABLE, OID, OXID, IPID.low, IPID.high, IID.low, IID.high, 5, false);
+    uint32_t entered = rimonakh_enter_object(TABLE, OID, OXID, RIMONAKH_GUID(IPID), RIMONAKH_GUID(IID), 5, false);
     put_call(3, 53);
     put(OID, 8);
     put(OXID, 8);
@@ -138,8 +127,7 @@ static size_t serve(const uint8_t *list, size_t list_len, uint8_t *reference, si
     put(5, 4);
     put(false, 1);
     done("server: enters the tank level group with 5 public references", put_answer(entered));
-    written = rimonakh_reference_write(RIMONAKH_STANDARD, IID.low, IID.high, 0, 5, OXID, OID, IPID.low, IPID.high, 0, 0,
-                                       0, 0, 0, 0, list, list_len, list, 0, reference, room);
+    written = rimonakh_write_reference(&made, list, list_len, NULL, 0, reference, room);
     step("server: writes the reference", written.answer);
     printf(", %zu bytes\n", written.length);
     return written.length;
@@ -183,7 +171,7 @@ static void resolve_udp(uint64_t oxid) {
 }
 
 static void add(const char *what, uint32_t client, uint32_t public_refs, uint32_t private_refs) {
-    uint32_t answer = rimonakh_add(TABLE, client, IPID.low, IPID.high, public_refs, private_refs);
+    uint32_t answer = rimonakh_add(TABLE, client, RIMONAKH_GUID(IPID), public_refs, private_refs);
     put_call(5, 28);
     put(client, 4);
     put_guid(IPID);
@@ -194,11 +182,10 @@ static void add(const char *what, uint32_t client, uint32_t public_refs, uint32_
 
 /* Pings with an object in a new set; the set. */
 static uint64_t make_set(uint64_t oid) {
-    rimonakh_pinged pinged = rimonakh_complex_ping(TABLE, 0, 1, &oid, 1, &oid, 0); /* a list of one, and an empty one */
+    rimonakh_pinged pinged = rimonakh_complex_ping(TABLE, 0, 1, &oid, 1, NULL, 0);
     const uint64_t results[] = {pinged.set, pinged.backoff};
     uint8_t adds[8];
-    for (int i = 0; i < 8; i++)
-        adds[i] = (uint8_t)(oid >> 8 * i & 0xFF);
+    rimonakh_put(adds, oid, 8);
     put_call(11, 10);
     put(0, 8);
     put(1, 2);
@@ -234,8 +221,9 @@ static uint64_t take_up(const uint8_t *reference, size_t length) {
     return make_set(block.oid);
 }
 
-/* The box is swapped: its snapshot is loaded into the other one, which then serves. */
-static void swap_box(void) {
+/* The box is swapped: its snapshot is loaded into the other one, which then serves. Answers the clock from which that one goes on by the
+ * seconds that pass there: the snapshot's, not its own. */
+static uint64_t swap_box(void) {
     static uint8_t snapshot[RIMONAKH_LONGEST_SNAPSHOT];
     rimonakh_written written = rimonakh_write_snapshot(TABLE, snapshot, sizeof snapshot);
     const uint64_t length = written.length;
@@ -250,6 +238,7 @@ static void swap_box(void) {
     put_call(19, 0);
     put_rest(snapshot, written.length, loaded, NULL, 0, "", 0);
     done("server: loads it into another box, which takes over", loaded);
+    return rimonakh_snapshot_clock(snapshot);
 }
 
 /* The clock runs for two minutes. */
@@ -272,7 +261,7 @@ static void census(void) {
 }
 
 static void give_back(void) {
-    rimonakh_released released = rimonakh_release(TABLE, 0, IPID.low, IPID.high, 7, 1);
+    rimonakh_released released = rimonakh_release(TABLE, 0, RIMONAKH_GUID(IPID), 7, 1);
     const uint64_t results[] = {released.public_refs, released.private_refs, released.interfaces, released.objects};
     put_call(6, 28);
     put(0, 4);
@@ -308,7 +297,7 @@ static void open_table(uint64_t time, const uint8_t *list, size_t list_len) {
     put_call(0, 8);
     put(time, 8);
     done("server: resets its table at eight minutes to noon", put_answer(answer));
-    answer = rimonakh_enter_exporter(TABLE, OXID, UNKNOWN.low, UNKNOWN.high, list, list_len);
+    answer = rimonakh_enter_exporter(TABLE, OXID, RIMONAKH_GUID(UNKNOWN), list, list_len);
     put_call(1, 24);
     put(OXID, 8);
     put_guid(UNKNOWN);
@@ -325,9 +314,8 @@ static void leave(void) {
 
 /* Support replays the day in a table of its own. */
 static void replay(void) {
-    static struct box other;
-    rimonakh_outcome outcome =
-        rimonakh_replay(other.words, RIMONAKH_WORDS, other.store, RIMONAKH_BYTES, recording, recorded);
+    static rimonakh_table other;
+    rimonakh_outcome outcome = rimonakh_replay(RIMONAKH_TABLE(&other), recording, recorded);
     rimonakh_tally tally = outcome.tally;
     step("support: replays the day", outcome.answer);
     if (outcome.differs == 0)
@@ -346,20 +334,21 @@ static int save(const char *name) {
 int main(int argc, char **argv) {
     uint8_t list[RIMONAKH_LONGEST_LIST];
     uint8_t reference[1024];
-    uint64_t time = 12 * 3600 - 4 * 120;
+    uint64_t time = 12 * 3600 - 4 * 120; /* seconds of the day here; of a monotonic clock in a gateway */
     size_t list_len = tcp_list("10.1.4.20[49500]", list);
     size_t length;
     rimonakh_resolved resolved;
     uint64_t set;
 
+    printf("     0 done, 4 the server has left, 6 the tank level group has ended, 11 the client was silent too long and begins anew\n");
     open_table(time, list, list_len);
-    length = serve(list, list_len, reference, sizeof reference);
+    length = serve(reference, sizeof reference);
     set = take_up(reference, length);
     for (int i = 0; i < 4; i++) {
         two_minutes(&time);
         ping(set);
     }
-    swap_box();
+    time = swap_box();
     ping(set);
     add("client 1: takes 1 private reference", 1, 0, 1);
     give_back();
@@ -369,7 +358,7 @@ int main(int argc, char **argv) {
     census();
 
     printf("     the next client falls silent\n");
-    length = serve(list, list_len, reference, sizeof reference);
+    length = serve(reference, sizeof reference);
     set = take_up(reference, length);
     for (int i = 0; i < 3; i++)
         two_minutes(&time);

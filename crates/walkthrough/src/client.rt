@@ -99,20 +99,30 @@ fn resolve_udp<'a>(log: &'a mut [u8], words: &'a [u64], store: &'a [u8], oxid: O
     );
 }
 
-// The clock runs from after one period of two minutes through another, and the client pings or not.
+// Two minutes after a time, where there is such a time.
+fn later(time: u64) -> u64 {
+    if 0xFFFFFFFFFFFFFF00 < time {
+        return time;
+    }
+    time + 120
+}
+
+// The clock runs on for so many periods of two minutes, and the client pings or not.
 pub fn wait(
     log: &mut [u8; recorder::LOG],
     words: &mut [u64; limits::WORDS],
     store: &[u8; limits::BYTES],
     set: SetId,
-    from: u32,
-    to: u32,
+    clock: u64,
+    periods: u32,
     pinging: bool,
 ) {
-    let mut k = from;
-    while k < to {
+    let mut time = clock;
+    let mut k = 0;
+    while k < periods {
         k += 1;
-        passed(recorder::clock(log, words, store, server::OPENED + 120 * k as u64));
+        time = later(time);
+        passed(recorder::clock(log, words, store, time));
         if pinging {
             pinged(recorder::simple_ping(log, words, store, set));
         }
@@ -156,9 +166,10 @@ pub fn fall_silent<'a>(
     words: &mut [u64; limits::WORDS],
     store: &'a [u8; limits::BYTES],
     reference: &'a [u8; server::REFERENCE],
+    clock: u64,
 ) {
     let set = take_up(log, words, store, reference);
-    wait(log, words, store, set, 4, 7, false);
+    wait(log, words, store, set, clock, 3, false);
     released(recorder::release(log, words, store, 0, server::IPID, 7, 1));
     pinged(recorder::simple_ping(log, words, store, set));
     server::counted(recorder::census(log, words, store));

@@ -3,6 +3,9 @@
 // box is swapped: another one loads its snapshot, and serves on. The client gives the references back; the object ends once the
 // references of another client, which is lost, are dropped. Then the same with a client that falls silent. Each step is printed
 // with its answer number. The day is recorded, and replayed at the end.
+//
+// The reference carries the addresses of the resolver, without an endpoint; those of the exporter, with one, stand in the table. So
+// the next stop is seen to choose.
 use kinds::SetId;
 use kinds::limits;
 
@@ -12,6 +15,9 @@ mod say;
 mod server;
 
 fn main() {
+    print::text(
+        b"     0 done, 4 the server has left, 6 the tank level group has ended, 11 the client was silent too long and begins anew\n",
+    );
     let mut snapshot = [0u8; server::SNAPSHOT];
     let mut log = [0u8; recorder::LOG];
     let set = until_noon(&mut log, &mut snapshot);
@@ -27,7 +33,7 @@ fn until_noon(log: &mut [u8; recorder::LOG], snapshot: &mut [u8; server::SNAPSHO
     server::open(log, &mut words, &mut store);
     server::offer(log, &mut words, &store, &mut reference);
     let set = client::take_up(log, &mut words, &store, &reference);
-    client::wait(log, &mut words, &store, set, 0, 4, true);
+    client::wait(log, &mut words, &store, set, server::OPENED, 4, true);
     server::save(log, &words, &store, snapshot);
     set
 }
@@ -37,12 +43,12 @@ fn after_noon(log: &mut [u8; recorder::LOG], snapshot: &[u8; server::SNAPSHOT], 
     let mut words = [0u64; limits::WORDS];
     let mut store = [0u8; limits::BYTES];
     let mut reference = [0u8; server::REFERENCE];
-    server::take_over(log, &mut words, &mut store, snapshot);
+    let clock = server::take_over(log, &mut words, &mut store, snapshot);
     client::leave(log, &mut words, &store, set);
     client::lose_other(log, &mut words, &store, set);
     print::text(b"     the next client falls silent\n");
     server::offer(log, &mut words, &store, &mut reference);
-    client::fall_silent(log, &mut words, &store, &reference);
+    client::fall_silent(log, &mut words, &store, &reference, clock);
     server::close(log, &mut words, &mut store);
     client::come_late(log, &words, &store, &reference);
 }

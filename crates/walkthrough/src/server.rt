@@ -36,12 +36,32 @@ fn block() -> Block {
     Block::new(0, 5, OXID, OID, IPID)
 }
 
-// One string binding, "10.1.4.20[49500]" over TCP, and no security binding: 44 bytes.
-const BINDINGS: [u8; 44] =
-    *b"\x14\x00\x13\x00\x07\x001\x000\x00.\x001\x00.\x004\x00.\x002\x000\x00[\x004\x009\x005\x000\x000\x00]\x00\x00\x00\x00\x00\x00\x00";
+// The string binding of the exporter, "10.1.4.20[49500]" over TCP, and that of the resolver on its machine, which has no endpoint.
+const EXPORTER: [u16; 18] = [
+    7,
+    49,
+    48,
+    46,
+    49,
+    46,
+    52,
+    46,
+    50,
+    48,
+    91,
+    52,
+    57,
+    53,
+    48,
+    48,
+    93,
+    0,
+];
 
-// The bytes of the reference: header, object block and binding list.
-pub const REFERENCE: usize = 108;
+const RESOLVER: [u16; 11] = [7, 49, 48, 46, 49, 46, 52, 46, 50, 48, 0];
+
+// The bytes of the reference: header, object block and the resolver's binding list.
+pub const REFERENCE: usize = 94;
 
 // The bytes of the snapshot at noon: one exporter, one object, one interface, one set with a member.
 pub const SNAPSHOT: usize = 225;
@@ -59,13 +79,15 @@ pub fn open(
         recorder::reset(log, words, store, OPENED),
         b"server: resets its table at eight minutes to noon",
     );
+    let mut list = [0u8; 44];
+    list_writer::write(&EXPORTER, &[], &mut list);
     say::done(
-        recorder::enter_exporter(log, words, store, OXID, UNKNOWN, &BINDINGS),
+        recorder::enter_exporter(log, words, store, OXID, UNKNOWN, &list),
         b"server: registers as exporter",
     );
 }
 
-// Enters the group and writes its reference.
+// Enters the group and writes its reference, which carries the resolver's address (MS-DCOM, sections 2.2.18.4 and 2.2.19.3).
 pub fn offer(
     log: &mut [u8; recorder::LOG],
     words: &mut [u64; limits::WORDS],
@@ -80,7 +102,9 @@ pub fn offer(
 }
 
 fn write(reference: &mut [u8; REFERENCE]) {
-    let r = reference_writer::write(Reference::standard(IID, block()), &BINDINGS, b"", reference);
+    let mut list = [0u8; 30];
+    list_writer::write(&RESOLVER, &[], &mut list);
+    let r = reference_writer::write(Reference::standard(IID, block()), &list, b"", reference);
     say::results(
         r.answer,
         b"server: writes the reference, # bytes\n",
@@ -103,17 +127,18 @@ pub fn save<'a>(
     );
 }
 
-// The box that comes.
+// The box that comes; the clock from which it goes on by the seconds that pass there: the snapshot's, not its own.
 pub fn take_over(
     log: &mut [u8; recorder::LOG],
     words: &mut [u64; limits::WORDS],
     store: &mut [u8; limits::BYTES],
     snapshot: &[u8; SNAPSHOT],
-) {
+) -> u64 {
     say::done(
         recorder::load_snapshot(log, words, store, snapshot),
         b"server: loads it into another box, which takes over",
     );
+    fields::read_u64(snapshot, 2)
 }
 
 // Leaves.

@@ -7,10 +7,10 @@ use Rattle.walkthrough.proofs.client.wait.Statement.{statement}
 use Rattle.walkthrough.proofs.client.wait.Tie as tie
 
 abbrev Inv-loop : tie.InvT-loop
-Inv-loop words₀ store set from to pinging k₀ words k = length words ≡ length words₀
+Inv-loop log₀ words₀ store set clock periods pinging time₀ k₀ log words time k = length words ≡ length words₀
 
 abbrev μ-loop : tie.MeasureT-loop
-μ-loop words₀ store set from to pinging k₀ words k = to - k
+μ-loop log₀ words₀ store set clock periods pinging time₀ k₀ log words time k = periods - k
 
 pub wait-spec : {M : Type 1} → statement M
 wait-spec =
@@ -20,9 +20,7 @@ wait-spec =
     μ-loop
     (λ c. search needs)
     (λ c. search needs)
-    (λ c. search needs)
-    (λ c. search needs)
-    (λ c. search needs)
+    (λ c κs. search needs)
     (λ c κs. search needs)
     (λ c κs. search needs)
     (λ c κs. search needs)
