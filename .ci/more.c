@@ -55,6 +55,8 @@ static void lists(void) {
     uint8_t buffer[64];
     char text[8];
     rimonakh_written w;
+    rimonakh_cursor start;
+    rimonakh_step step;
     IS(rimonakh_write_list(NULL, NULL, buffer, sizeof buffer).length, 8);
     rimonakh_put_string_binding(&strings, 7, "a");
     rimonakh_put_security_binding(&security, 10, 9, "");
@@ -68,6 +70,12 @@ static void lists(void) {
     IS(text[0], 0);
     rimonakh_binding_text(buffer, rimonakh_list_string_binding(buffer, w.length, 1), 1, text, sizeof text);
     IS(text[0], 0); /* there is no such binding */
+    start = rimonakh_list_strings(buffer, w.length);
+    step = rimonakh_list_next_string(buffer, w.length, start.at, start.left);
+    rimonakh_binding_text(buffer, rimonakh_step_place(step), 1, text, sizeof text);
+    IS(strcmp(text, "a"), 0);
+    step = rimonakh_list_next_string(buffer, w.length, step.to, step.left);
+    IS(rimonakh_step_place(step).answer, RIMONAKH_NO_BINDING);
     rimonakh_put_word(&strings, 7);
     IS(strings.full, true);
     IS(strings.count, 3);

@@ -10,10 +10,16 @@
 #include <stdio.h>
 
 static void print_exporter(void *with, const rimonakh_exporter_row *row) {
-    char address[64];
+    const rimonakh_cursor start = rimonakh_list_strings(row->list, row->list_len);
+    rimonakh_step step = rimonakh_list_next_string(row->list, row->list_len, start.at, start.left);
     (void)with;
-    rimonakh_binding_text(row->list, rimonakh_list_string_binding(row->list, row->list_len, 0), 1, address, sizeof address);
-    printf("exporter %#" PRIx64 " at %s\n", row->oxid, address);
+    printf("exporter %#" PRIx64 " at", row->oxid);
+    for (; step.answer == RIMONAKH_DONE; step = rimonakh_list_next_string(row->list, row->list_len, step.to, step.left)) {
+        char address[64];
+        rimonakh_binding_text(row->list, rimonakh_step_place(step), 1, address, sizeof address);
+        printf(" %s", address);
+    }
+    printf("\n");
 }
 
 /* The seconds since something was heard. */
@@ -78,6 +84,7 @@ static void fill(rimonakh_table *table) {
     rimonakh_words strings = {words, 64, 0, false}, security = {services, 64, 0, false};
     rimonakh_guid unknown = {1, 1}, level = {2, 2}, alarm = {3, 3}, group = {0, 0};
     rimonakh_put_string_binding(&strings, 7, "10.1.4.20[49500]");
+    rimonakh_put_string_binding(&strings, 8, "10.1.4.20[49501]");
     rimonakh_put_security_binding(&security, 10, 0xFFFF, "RPCSS/plant-gw01");
     rimonakh_guid_from_text("{39c13a54-011e-11d0-9675-0020afd8adb3}", &group);
     done("reset", rimonakh_reset(RIMONAKH_TABLE(table), 1000));

@@ -214,6 +214,12 @@ static inline void rimonakh_binding_text(const uint8_t *bytes, rimonakh_place bi
         *text = '\0';
 }
 
+/* The place of a binding that a step of a walk in one pass answers. */
+static inline rimonakh_place rimonakh_step_place(rimonakh_step step) {
+    rimonakh_place place = {step.answer, step.from, step.to};
+    return place;
+}
+
 /* ---- the rows of a snapshot: what a table holds */
 
 typedef struct {
