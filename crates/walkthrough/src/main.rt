@@ -54,7 +54,11 @@ fn after_noon(log: &mut [u8; recorder::LOG], snapshot: &[u8; server::SNAPSHOT], 
 }
 
 // Support replays the day in a table of its own.
-fn replay(log: &[u8]) {
+fn replay(log: &[u8; recorder::LOG]) {
+    replay_bytes(log);
+}
+
+fn replay_bytes(log: &[u8]) {
     let mut words = [0u64; limits::WORDS];
     let mut store = [0u8; limits::BYTES];
     let end = fields::within(log, recorder::end(log));

@@ -31,15 +31,20 @@ pub fn end(log: &[u8]) -> usize {
 
 // Where a section that is put at a place ends; one that has no room is left out.
 fn section<'a>(log: &'a mut [u8], at: usize, s: &'a [u8]) -> usize {
-    if !fields::inside(log.len(), at, 8) {
+    let n = log.len();
+    let m = s.len();
+    if n < at {
         return at;
     }
-    if !fields::inside(log.len(), at + 8, s.len()) {
+    if n - at < 8 {
         return at;
     }
-    fields::write_u64(log, at, s.len() as u64);
+    if n - at - 8 < m {
+        return at;
+    }
+    fields::write_u64(log, at, m as u64);
     fields::copy(log, at + 8, s);
-    at + 8 + s.len()
+    at + 8 + m
 }
 
 // A record: a call, its list, its answer, and the bytes that were shown.
@@ -162,16 +167,8 @@ pub fn add<'a>(
     number
 }
 
-pub fn release<'a>(
-    log: &'a mut [u8],
-    words: &'a mut [u64],
-    store: &'a [u8],
-    client: u32,
-    ipid: Guid,
-    public: u32,
-    private: u32,
-) -> Released {
-    let r = resolver::release(words, store, client, ipid, public, private);
+// A record of a release and what it took.
+fn taken(log: &mut [u8], client: u32, ipid: Guid, public: u32, private: u32, r: Released) {
     let mut call = [0u8; 29];
     call[0] = 6;
     fields::write_u32(&mut call, 1, client);
@@ -187,6 +184,19 @@ pub fn release<'a>(
         r.interfaces as u64,
         r.objects as u64,
     );
+}
+
+pub fn release<'a>(
+    log: &'a mut [u8],
+    words: &'a mut [u64],
+    store: &'a [u8],
+    client: u32,
+    ipid: Guid,
+    public: u32,
+    private: u32,
+) -> Released {
+    let r = resolver::release(words, store, client, ipid, public, private);
+    taken(log, client, ipid, public, private, r);
     r
 }
 
