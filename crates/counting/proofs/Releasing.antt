@@ -30,7 +30,7 @@ use Rattle.counting.specs.Dropping.{Serves, InterfaceDropped}
 use Rattle.counting.specs.Replies.{releaseReply}
 use Rattle.counting.proofs.TwoCounts.{counts-as, still-counted}
 use Rattle.counting.proofs.Dropping.{serves-counted}
-use Rattle.calls.proofs.Calls.{interface-tested, refused-step, accepted-step}
+use Rattle.table.proofs.Steps.{interface-tested, refused-step, accepted-step}
 
 -- clients are 0 to 7
 pub client-missing : (c : ℕ) → 7 < c → noClient c ≡ true

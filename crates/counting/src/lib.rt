@@ -13,7 +13,7 @@ ghost use Rattle.lists.specs.Guids.{sameGuid};
 ghost use Rattle.rules.specs.Entries.{atCounts, interfaceRow};
 ghost use Rattle.rules.specs.Sound.{proper};
 ghost use Rattle.rules.specs.Calls.{Call, Edit, numbered};
-ghost use Rattle.table.specs.View.{interfaceCount, memory, view, Holds, SoundTable, Stepped, Performed, oidsOf, membersLiveIn};
+ghost use Rattle.table.specs.View.{interfaceCount, memory, view, Holds, SoundTable, Stepped, oidsOf, membersLiveIn};
 ghost use Rattle.edit.specs.Edits.{Became, changeInterface};
 ghost use Rattle.counting.specs.Replies.{releaseReply};
 ghost use Rattle.counting.specs.Dropping.{Serves, InterfaceDropped};
@@ -29,23 +29,18 @@ pub struct Released {
     pub objects: u32,
 }
 
-// Adds to the public count of an interface and to the private one of a client: 0, or 1; 20; 6; 8.
-pub fn add<'a>(
-    words: &'a mut [u64],
-    store: &'a [u8],
-    client: u32,
-    ipid: Guid,
-    public: u32,
-    private: u32,
-) -> u32
-    ensures { λ r. ⌜
-        Performed (Call.editing (Edit.add client ipid public private)) (memory (now (words .entry)) (now (store .entry)))
-        (numbered r) (memory (now (words .exit)) (now (store .entry))) ⌝ }
-{
-    if !judge::sound(words, store) {
-        return answer::UNSOUND;
+impl Released {
+    pub fn refused(number: u32) -> Released
+        ensures { λ r. ⌜ r ≡ record { answer = number; public = 0; private = 0; interfaces = 0; objects = 0 } ⌝ }
+    {
+        Released {
+            answer: number,
+            public: 0,
+            private: 0,
+            interfaces: 0,
+            objects: 0,
+        }
     }
-    add_step(words, store, client, ipid, public, private)
 }
 
 // The row of the interface with an IPID, as `find::interface_row` gives it; a row is tried first, which may be any number.
@@ -71,7 +66,7 @@ fn is_same(a: Guid, b: Guid) -> bool
     a.high == b.high
 }
 
-// The same on a sound table.
+// The call on a sound table.
 pub fn add_step<'a>(
     words: &'a mut [u64],
     store: &'a [u8],
@@ -140,18 +135,6 @@ fn smaller(a: u32, b: u32) -> u32
     if a < b { a } else { b }
 }
 
-fn refused(number: u32) -> Released
-    ensures { λ r. ⌜ r ≡ record { answer = number; public = 0; private = 0; interfaces = 0; objects = 0 } ⌝ }
-{
-    Released {
-        answer: number,
-        public: 0,
-        private: 0,
-        interfaces: 0,
-        objects: 0,
-    }
-}
-
 // Takes interface i of this object out, and with it the object where no interface names it then; answers whether it went.
 fn drop_interface(words: &mut [u64], i: usize, object: Oid) -> u32
     requires { ⌜
@@ -170,27 +153,7 @@ fn drop_interface(words: &mut [u64], i: usize, object: Oid) -> u32
     1
 }
 
-// Gives references back: the public count and the client's private one fall by the smaller of the asked number and themselves. An
-// interface without references goes, and an object without interfaces, from its sets too. 0, or 1; 20; 6.
-pub fn release<'a>(
-    words: &'a mut [u64],
-    store: &'a [u8],
-    client: u32,
-    ipid: Guid,
-    public: u32,
-    private: u32,
-) -> Released
-    ensures { λ r. ⌜
-        Performed (Call.editing (Edit.release client ipid public private)) (memory (now (words .entry)) (now (store .entry)))
-        (releaseReply r) (memory (now (words .exit)) (now (store .entry))) ⌝ }
-{
-    if !judge::sound(words, store) {
-        return refused(answer::UNSOUND);
-    }
-    release_step(words, store, client, ipid, public, private)
-}
-
-// The same on a sound table.
+// The call on a sound table.
 pub fn release_step<'a>(
     words: &'a mut [u64],
     store: &'a [u8],
@@ -224,10 +187,10 @@ pub fn release_at<'a>(
         (releaseReply r) (memory (now (words .exit)) (now (store .entry))) ⌝ }
 {
     if limits::LAST_CLIENT < client {
-        return refused(answer::NO_CLIENT);
+        return Released::refused(answer::NO_CLIENT);
     }
     if find::interface_count(words) <= i {
-        return refused(answer::NO_INTERFACE);
+        return Released::refused(answer::NO_INTERFACE);
     }
     let counts = find::interface_counts(words, i, client as usize);
     let taken_public = smaller(public, counts.public);
@@ -253,19 +216,7 @@ pub fn release_at<'a>(
     }
 }
 
-// Drops every private reference of a client. What is left without references goes as in a release: 0, or 1; 20.
-pub fn drop_client<'a>(words: &'a mut [u64], store: &'a [u8], client: u32) -> u32
-    ensures { λ r. ⌜
-        Performed (Call.editing (Edit.dropClient client)) (memory (now (words .entry)) (now (store .entry)))
-        (numbered r) (memory (now (words .exit)) (now (store .entry))) ⌝ }
-{
-    if !judge::sound(words, store) {
-        return answer::UNSOUND;
-    }
-    drop_client_step(words, store, client)
-}
-
-// The same on a sound table.
+// The call on a sound table.
 pub fn drop_client_step<'a>(words: &'a mut [u64], store: &'a [u8], client: u32) -> u32
     requires { ⌜ SoundTable (memory (now words) (now store)) ⌝ }
     ensures { λ r. ⌜

@@ -78,25 +78,7 @@ fn exporter_number<'a>(
     list_number(words, store, list)
 }
 
-// Enters an exporter with its remote-unknown IPID and its binding list: 0, or 1; 3; 13; 14; 19; 9.
-pub fn enter_exporter<'a>(
-    words: &'a mut [u64],
-    store: &'a mut [u8],
-    oxid: Oxid,
-    unknown: Guid,
-    list: &'a [u8],
-) -> u32
-    ensures { λ r. ⌜
-        Performed (Call.editing (Edit.enterExporter (oxid .0) unknown (now (list .entry)))) (memory (now (words .entry)) (now (store .entry)))
-        (numbered r) (memory (now (words .exit)) (now (store .exit))) ⌝ }
-{
-    if !judge::sound(words, store) {
-        return answer::UNSOUND;
-    }
-    enter_exporter_step(words, store, oxid, unknown, list)
-}
-
-// The same on a sound table.
+// The call on a sound table.
 pub fn enter_exporter_step<'a>(
     words: &'a mut [u64],
     store: &'a mut [u8],
@@ -146,28 +128,7 @@ fn object_number(words: &[u64], oid: Oid, oxid: Oxid, ipid: Guid, public: u32) -
     answer::DONE
 }
 
-// Enters an object with its first interface: 0, or 1; 3; 4; 7; 9.
-pub fn enter_object<'a>(
-    words: &'a mut [u64],
-    store: &'a [u8],
-    oid: Oid,
-    oxid: Oxid,
-    ipid: Guid,
-    iid: Guid,
-    public: u32,
-    no_ping: bool,
-) -> u32
-    ensures { λ r. ⌜
-        Performed (Call.editing (Edit.enterObject (oid .0) (oxid .0) ipid iid public «no_ping»)) (memory (now (words .entry)) (now (store .entry)))
-        (numbered r) (memory (now (words .exit)) (now (store .entry))) ⌝ }
-{
-    if !judge::sound(words, store) {
-        return answer::UNSOUND;
-    }
-    enter_object_step(words, store, oid, oxid, ipid, iid, public, no_ping)
-}
-
-// The same on a sound table.
+// The call on a sound table.
 pub fn enter_object_step<'a>(
     words: &'a mut [u64],
     store: &'a [u8],
@@ -212,26 +173,7 @@ fn interface_number(words: &[u64], oid: Oid, ipid: Guid, public: u32) -> u32
     answer::DONE
 }
 
-// Enters an interface of a live object: 0, or 1; 3; 5; 7; 9.
-pub fn enter_interface<'a>(
-    words: &'a mut [u64],
-    store: &'a [u8],
-    oid: Oid,
-    ipid: Guid,
-    iid: Guid,
-    public: u32,
-) -> u32
-    ensures { λ r. ⌜
-        Performed (Call.editing (Edit.enterInterface (oid .0) ipid iid public)) (memory (now (words .entry)) (now (store .entry)))
-        (numbered r) (memory (now (words .exit)) (now (store .entry))) ⌝ }
-{
-    if !judge::sound(words, store) {
-        return answer::UNSOUND;
-    }
-    enter_interface_step(words, store, oid, ipid, iid, public)
-}
-
-// The same on a sound table.
+// The call on a sound table.
 pub fn enter_interface_step<'a>(
     words: &'a mut [u64],
     store: &'a [u8],

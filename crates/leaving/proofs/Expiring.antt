@@ -20,7 +20,7 @@ use Rattle.table.proofs.LiveRows.{objects-length, interfaces-length, sets-lengt
 use Rattle.settling.specs.Leaving.{withoutLeaving, setsLeft}
 use Rattle.leaving.specs.Replies.{clockReply}
 use Rattle.settling.specs.declared.Leaving.the-variants.{Unheard}
-use Rattle.calls.proofs.Calls.{refused-step, accepted-step}
+use Rattle.table.proofs.Steps.{refused-step, accepted-step}
 
 module _ (ws s : List ℕ) (t : ℕ) (h : SoundTable (memory ws s)) where
   abbrev before : Entries

@@ -21,7 +21,7 @@ use Rattle.table.proofs.LiveRows.{exporters-length}
 use Rattle.settling.specs.Leaving.{withoutLeaving}
 use Rattle.settling.specs.declared.Leaving.{Leaving}
 use Rattle.settling.specs.declared.Leaving.the-variants.{ExporterRemoved}
-use Rattle.calls.proofs.Calls.{exporter-tested, refused-step, accepted-step}
+use Rattle.table.proofs.Steps.{exporter-tested, refused-step, accepted-step}
 
 -- settling leaves the exporters
 pub leaving-count : (w : Leaving) (ws ws′ s : List ℕ) → Became (withoutLeaving w) ws ws′ → exporterCount ws′ ≡ exporterCount ws

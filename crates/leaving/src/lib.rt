@@ -6,22 +6,10 @@ use table::find;
 ghost use mathlib.Core.Path.{_≡_};
 ghost use Prim.Native.Nat.{_<_};
 ghost use Rattle.rules.specs.Calls.{Call, Edit, numbered};
-ghost use Rattle.table.specs.View.{memory, SoundTable, Stepped, Performed};
+ghost use Rattle.table.specs.View.{memory, SoundTable, Stepped};
 ghost use Rattle.leaving.specs.Replies.{clockReply};
 
-// Removes an exporter with its objects, their interfaces and memberships: 0, or 1; 4.
-pub fn remove_exporter<'a>(words: &'a mut [u64], store: &'a mut [u8], oxid: Oxid) -> u32
-    ensures { λ r. ⌜
-        Performed (Call.editing (Edit.removeExporter (oxid .0))) (memory (now (words .entry)) (now (store .entry)))
-        (numbered r) (memory (now (words .exit)) (now (store .exit))) ⌝ }
-{
-    if !judge::sound(words, store) {
-        return answer::UNSOUND;
-    }
-    remove_exporter_step(words, store, oxid)
-}
-
-// The same on a sound table.
+// The call on a sound table.
 pub fn remove_exporter_step<'a>(words: &'a mut [u64], store: &'a mut [u8], oxid: Oxid) -> u32
     requires { ⌜ SoundTable (memory (now words) (now store)) ⌝ }
     ensures { λ r. ⌜
@@ -47,31 +35,21 @@ pub struct Expired {
     pub sets: usize,
 }
 
-fn refused(number: u32) -> Expired
-    ensures { λ r. ⌜ r ≡ record { answer = number; exporters = 0; objects = 0; interfaces = 0; sets = 0 } ⌝ }
-{
-    Expired {
-        answer: number,
-        exporters: 0,
-        objects: 0,
-        interfaces: 0,
-        sets: 0,
+impl Expired {
+    pub fn refused(number: u32) -> Expired
+        ensures { λ r. ⌜ r ≡ record { answer = number; exporters = 0; objects = 0; interfaces = 0; sets = 0 } ⌝ }
+    {
+        Expired {
+            answer: number,
+            exporters: 0,
+            objects: 0,
+            interfaces: 0,
+            sets: 0,
+        }
     }
 }
 
-// Sets the clock. Sets and pinged objects that were not heard for 360 seconds or more go: 0, or 1; 2.
-pub fn clock<'a>(words: &'a mut [u64], store: &'a [u8], time: u64) -> Expired
-    ensures { λ r. ⌜
-        Performed (Call.editing (Edit.clock time)) (memory (now (words .entry)) (now (store .entry)))
-        (clockReply r) (memory (now (words .exit)) (now (store .entry))) ⌝ }
-{
-    if !judge::sound(words, store) {
-        return refused(answer::UNSOUND);
-    }
-    clock_step(words, store, time)
-}
-
-// The same on a sound table.
+// The call on a sound table.
 pub fn clock_step<'a>(words: &'a mut [u64], store: &'a [u8], time: u64) -> Expired
     requires { ⌜ SoundTable (memory (now words) (now store)) ⌝ }
     ensures { λ r. ⌜
@@ -79,7 +57,7 @@ pub fn clock_step<'a>(words: &'a mut [u64], store: &'a [u8], time: u64) -> Expir
         (clockReply r) (memory (now (words .exit)) (now (store .entry))) ⌝ }
 {
     if time < find::clock(words) {
-        return refused(answer::CLOCK_BACK);
+        return Expired::refused(answer::CLOCK_BACK);
     }
     let objects = find::object_count(words);
     let interfaces = find::interface_count(words);

@@ -6,7 +6,7 @@ ghost use mathlib.Core.Path.{_≡_};
 ghost use Prim.Native.Nat.{_+_, _*_, _<_, _≤_};
 ghost use lib.ListN.{length, drop};
 ghost use Rattle.fields.specs.Fields.{written, stored};
-ghost use Rattle.bindings.specs.Bindings.{headWords, throughZero, firstBinding, isPart};
+ghost use Rattle.bindings.specs.Bindings.{throughZero, firstBinding, isPart};
 ghost use Rattle.bindings.specs.ListBytes.{wordBytes};
 ghost use Rattle.list_writer.specs.Writing.{ended, fits, madeList, writeList};
 

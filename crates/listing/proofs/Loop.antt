@@ -14,7 +14,7 @@ use Rattle.rules.specs.Rules.{itemDone, refusals, number, next, results, refuse
 use Rattle.rules.specs.Contract.{Memory}
 use Rattle.rules.proofs.ListLoop.{noItem, Listed, listed-none, listed-next, listed-all}
 use Rattle.table.specs.View.{view, SoundTable, Stepped}
-use Rattle.calls.proofs.Calls.{refused-step, accepted-step}
+use Rattle.table.proofs.Steps.{refused-step, accepted-step}
 use Rattle.listing.specs.Listing.{listReply, ItemStepped}
 
 items-length : (s : List ℕ) → length (itemsOf s) ≡ itemCount s

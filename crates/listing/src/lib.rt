@@ -11,47 +11,10 @@ ghost use Rattle.columns.specs.Buckets.{guidBucket, Marked};
 ghost use Rattle.rules.specs.Contract.{Whole};
 ghost use Rattle.rules.specs.Entries.{interfaceRow};
 ghost use Rattle.rules.specs.Rules.{mostListed};
-ghost use Rattle.rules.specs.Calls.{Call, adding, releasing};
+ghost use Rattle.rules.specs.Calls.{Call};
 ghost use Rattle.rules.specs.Items.{itemAt};
-ghost use Rattle.table.specs.View.{memory, Holds, SoundTable, Stepped, Performed};
+ghost use Rattle.table.specs.View.{memory, Holds, SoundTable, Stepped};
 ghost use Rattle.listing.specs.Listing.{wayOf, listReply, ipidsOf, ListTaken, ItemStepped};
-
-// Adds references by a list of items for a client, and writes the number of each item to its byte of buffer, whose rest is kept:
-// 0, or 1; 20; 13; 10; 15. An item's own number is 0, 6 or 8, and does not stop the rest.
-pub fn add_list<'a>(
-    words: &'a mut [u64],
-    store: &'a [u8],
-    client: u32,
-    items: &'a [u8],
-    buffer: &'a mut [u8],
-) -> u32
-    ensures { λ r. ⌜
-        Performed (Call.countList adding client (now (items .entry)) (now (buffer .entry))) (memory (now (words .entry)) (now (store .entry)))
-        (listReply r (now (buffer .exit))) (memory (now (words .exit)) (now (store .entry))) ⌝ }
-{
-    if !judge::sound(words, store) {
-        return answer::UNSOUND;
-    }
-    list_step(words, store, false, client, items, buffer)
-}
-
-// Gives references back by a list of items, likewise.
-pub fn release_list<'a>(
-    words: &'a mut [u64],
-    store: &'a [u8],
-    client: u32,
-    items: &'a [u8],
-    buffer: &'a mut [u8],
-) -> u32
-    ensures { λ r. ⌜
-        Performed (Call.countList releasing client (now (items .entry)) (now (buffer .entry))) (memory (now (words .entry)) (now (store .entry)))
-        (listReply r (now (buffer .exit))) (memory (now (words .exit)) (now (store .entry))) ⌝ }
-{
-    if !judge::sound(words, store) {
-        return answer::UNSOUND;
-    }
-    list_step(words, store, true, client, items, buffer)
-}
 
 // A list on a sound table: given back, or else added.
 pub fn list_step<'a>(

@@ -17,7 +17,7 @@ use Rattle.rules.specs.Entries.{Object, Entries, oids, withObjects, heardAt}
 use Rattle.rules.specs.Sound.{proper}
 use Rattle.rules.specs.Rules.{noObject, heardNow}
 use Rattle.pinging.specs.Pinging.{heardRow}
-use Rattle.calls.proofs.Members.{member-among}
+use Rattle.table.proofs.MemberLaws.{member-among}
 use Rattle.table.specs.View.{memberValues}
 
 module _ (m : Members) (e : Entries) where

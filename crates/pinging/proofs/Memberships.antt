@@ -22,7 +22,7 @@ use Rattle.rules.specs.Sound.{proper}
 use Rattle.pinging.specs.Pinging.{MembersUpdated, OneListed, AllListed}
 use Rattle.pinging.specs.declared.Listed.{Listed}
 use Rattle.table.specs.View.{memberValues}
-use Rattle.calls.proofs.Members.{ids-distinct, member-among, members-kept}
+use Rattle.table.proofs.MemberLaws.{ids-distinct, member-among, members-kept}
 
 module _ (ids : List ℕ) (p : proper ids ≡ true) where
   -- ---- the rows of a list of OIDs

@@ -33,7 +33,7 @@ use Rattle.table.proofs.LiveRows.{sets-length}
 use Rattle.table.proofs.MemberRows.{oids-length, below-at, row-members}
 use Rattle.pinging.specs.Pinging.{withPingSet, pingSetRow, isPingSet, earlyRows, lateRows, oidsIn, pingMembers, AllListed, MembersBefore, updatedTo, Reduced}
 use Rattle.pinging.specs.declared.Listed.{Listed}
-use Rattle.calls.proofs.Calls.{row-gives, row-passes, two-rows, set-tested}
+use Rattle.table.proofs.Steps.{row-gives, row-passes, two-rows, set-tested}
 use Rattle.pinging.proofs.Memberships.{new-members}
 
 -- ---- refusals

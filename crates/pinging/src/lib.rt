@@ -17,7 +17,7 @@ ghost use Rattle.rules.specs.Sound.{proper};
 ghost use Rattle.rules.specs.Rules.{staleSequence, pingSetNumber, heardNow};
 ghost use Rattle.rules.specs.Calls.{Call, Edit, numbered};
 ghost use Rattle.rules.specs.PingRows.{pingedRow};
-ghost use Rattle.table.specs.View.{objectCount, setCount, memory, view, SoundTable, Stepped, Performed, Holds, oidsOf, membersBelow, nextOf, memberValues};
+ghost use Rattle.table.specs.View.{objectCount, setCount, memory, view, SoundTable, Stepped, Holds, oidsOf, membersBelow, nextOf, memberValues};
 ghost use Rattle.edit.specs.Edits.{Became};
 ghost use Rattle.pinging.specs.Replies.{pingReply};
 ghost use Rattle.pinging.specs.Pinging.{heardRow, pingSetRow, withPingSet, isPingSet, earlyRows, lateRows, oidsIn, OneListed, AllListed, MembersBefore, updatedTo, Reduced};
@@ -60,19 +60,7 @@ fn ping_row(words: &mut [u64], i: usize)
     edit::set_pinged(words, i, clock);
 }
 
-// Pings a set: 0, or 1; 11.
-pub fn simple_ping<'a>(words: &'a mut [u64], store: &'a [u8], set: SetId) -> u32
-    ensures { λ r. ⌜
-        Performed (Call.editing (Edit.simplePing (set .0))) (memory (now (words .entry)) (now (store .entry)))
-        (numbered r) (memory (now (words .exit)) (now (store .entry))) ⌝ }
-{
-    if !judge::sound(words, store) {
-        return answer::UNSOUND;
-    }
-    simple_ping_step(words, store, set)
-}
-
-// The same on a sound table.
+// The call on a sound table.
 pub fn simple_ping_step<'a>(words: &'a mut [u64], store: &'a [u8], set: SetId) -> u32
     requires { ⌜ SoundTable (memory (now words) (now store)) ⌝ }
     ensures { λ r. ⌜
@@ -327,37 +315,19 @@ pub struct Pinged {
     pub backoff: u16,
 }
 
-fn refused(number: u32) -> Pinged
-    ensures { λ r. ⌜ r ≡ record { answer = number; set = record { 0 = 0 }; backoff = 0 } ⌝ }
-{
-    Pinged {
-        answer: number,
-        set: SetId(0),
-        backoff: 0,
+impl Pinged {
+    pub fn refused(number: u32) -> Pinged
+        ensures { λ r. ⌜ r ≡ record { answer = number; set = record { 0 = 0 }; backoff = 0 } ⌝ }
+    {
+        Pinged {
+            answer: number,
+            set: SetId(0),
+            backoff: 0,
+        }
     }
 }
 
-// Adds objects to a set, takes objects out of it and pings it; for set 0 a set is made: 0, or 1; 10; of a set other than 0: 11; 12; 5;
-// of set 0: 5; 9; 18.
-pub fn complex_ping<'a>(
-    words: &'a mut [u64],
-    store: &'a [u8],
-    set: SetId,
-    sequence: u16,
-    adds: &'a [u64],
-    deletes: &'a [u64],
-) -> Pinged
-    ensures { λ r. ⌜
-        Performed (Call.editing (Edit.complexPing (set .0) sequence (now (adds .entry)) (now (deletes .entry))))
-        (memory (now (words .entry)) (now (store .entry))) (pingReply r) (memory (now (words .exit)) (now (store .entry))) ⌝ }
-{
-    if !judge::sound(words, store) {
-        return refused(answer::UNSOUND);
-    }
-    complex_ping_step(words, store, set, sequence, adds, deletes)
-}
-
-// The same on a sound table.
+// The call on a sound table.
 pub fn complex_ping_step<'a>(
     words: &'a mut [u64],
     store: &'a [u8],
@@ -373,14 +343,14 @@ pub fn complex_ping_step<'a>(
 {
     let number = early_number(words, set, sequence, adds.len(), deletes.len());
     if number != answer::DONE {
-        return refused(number);
+        return Pinged::refused(number);
     }
     let before = members_before(words, set);
     let mut hints = [0u8; buckets::BUCKETS];
     hint_listed(words, &mut hints, adds.len(), deletes.len());
     let joined = update_members(words, &hints, before, adds, true);
     if !joined.live {
-        return refused(answer::NO_OBJECT);
+        return Pinged::refused(answer::NO_OBJECT);
     }
     let members = joined.members;
     let left = update_members(words, &hints, members, deletes, false);
@@ -404,14 +374,14 @@ pub fn complex_ping_bytes_step<'a>(
 {
     let number = early_number(words, set, sequence, adds.len() / 8, deletes.len() / 8);
     if number != answer::DONE {
-        return refused(number);
+        return Pinged::refused(number);
     }
     let before = members_before(words, set);
     let mut hints = [0u8; buckets::BUCKETS];
     hint_listed(words, &mut hints, adds.len() / 8, deletes.len() / 8);
     let joined = update_members_bytes(words, &hints, before, adds, true);
     if !joined.live {
-        return refused(answer::NO_OBJECT);
+        return Pinged::refused(answer::NO_OBJECT);
     }
     let members = joined.members;
     let left = update_members_bytes(words, &hints, members, deletes, false);
@@ -438,7 +408,7 @@ fn ping_listed<'a>(
 {
     let number = late_number(words, set);
     if number != answer::DONE {
-        return refused(number);
+        return Pinged::refused(number);
     }
     let pinged = ping_set_number(words, set);
     let i = ping_set_row(words, set);

@@ -3,7 +3,7 @@ use kinds::SetId;
 use kinds::answer;
 use table::find;
 ghost use Rattle.rules.specs.Calls.{Call, Look};
-ghost use Rattle.table.specs.View.{memory, SoundTable, Stepped, Performed};
+ghost use Rattle.table.specs.View.{memory, SoundTable, Stepped};
 ghost use Rattle.reading.specs.Replies.{censusReply, membersReply};
 
 // The live numbers of the four kinds.
@@ -23,25 +23,7 @@ pub struct MemberCount {
     pub count: usize,
 }
 
-// The live number of each kind: 0, or 1.
-pub fn census<'a>(words: &'a [u64], store: &'a [u8]) -> LiveCounts
-    ensures { λ r. ⌜
-        Performed (Call.looking Look.census) (memory (now (words .entry)) (now (store .entry))) (censusReply r)
-        (memory (now (words .entry)) (now (store .entry))) ⌝ }
-{
-    if !judge::sound(words, store) {
-        return LiveCounts {
-            answer: answer::UNSOUND,
-            exporters: 0,
-            objects: 0,
-            interfaces: 0,
-            sets: 0,
-        };
-    }
-    census_step(words, store)
-}
-
-// The same on a sound table.
+// The call on a sound table.
 pub fn census_step<'a>(words: &'a [u64], store: &'a [u8]) -> LiveCounts
     requires { ⌜ SoundTable (memory (now words) (now store)) ⌝ }
     ensures { λ r. ⌜
@@ -57,22 +39,7 @@ pub fn census_step<'a>(words: &'a [u64], store: &'a [u8]) -> LiveCounts
     }
 }
 
-// The number of members of a set: 0, or 1; 11.
-pub fn members<'a>(words: &'a [u64], store: &'a [u8], set: SetId) -> MemberCount
-    ensures { λ r. ⌜
-        Performed (Call.looking (Look.members (set .0))) (memory (now (words .entry)) (now (store .entry))) (membersReply r)
-        (memory (now (words .entry)) (now (store .entry))) ⌝ }
-{
-    if !judge::sound(words, store) {
-        return MemberCount {
-            answer: answer::UNSOUND,
-            count: 0,
-        };
-    }
-    members_step(words, store, set)
-}
-
-// The same on a sound table.
+// The call on a sound table.
 pub fn members_step<'a>(words: &'a [u64], store: &'a [u8], set: SetId) -> MemberCount
     requires { ⌜ SoundTable (memory (now words) (now store)) ⌝ }
     ensures { λ r. ⌜

@@ -12,7 +12,7 @@ ghost use Prim.Native.Nat.{ℕ};
 ghost use Rattle.bindings.specs.Filter.{wordsIn, Marks};
 ghost use Rattle.rules.specs.Calls.{Call, Look};
 ghost use Rattle.rules.specs.Rules.{tooMany};
-ghost use Rattle.table.specs.View.{memory, SoundTable, Stepped, Performed};
+ghost use Rattle.table.specs.View.{memory, SoundTable, Stepped};
 ghost use Rattle.reading.specs.Replies.{resolveReply};
 
 // The length of the list that was written, and the remote-unknown IPID.
@@ -23,30 +23,20 @@ pub struct Resolved {
     pub unknown: Guid,
 }
 
-fn refused(number: u32) -> Resolved
-    ensures { λ r. ⌜ r ≡ record { answer = number; length = 0; unknown = record { low = 0; high = 0 } } ⌝ }
-{
-    let nil = Guid { low: 0, high: 0 };
-    Resolved {
-        answer: number,
-        length: 0,
-        unknown: nil,
+impl Resolved {
+    pub fn refused(number: u32) -> Resolved
+        ensures { λ r. ⌜ r ≡ record { answer = number; length = 0; unknown = record { low = 0; high = 0 } } ⌝ }
+    {
+        let nil = Guid { low: 0, high: 0 };
+        Resolved {
+            answer: number,
+            length: 0,
+            unknown: nil,
+        }
     }
 }
 
-// Writes an exporter's binding list at the front of buffer and keeps the rest: 0, or 1; 4; 15.
-pub fn resolve<'a>(words: &'a [u64], store: &'a [u8], oxid: Oxid, buffer: &'a mut [u8]) -> Resolved
-    ensures { λ r. ⌜
-        Performed (Call.looking (Look.resolve (oxid .0) (now (buffer .entry)))) (memory (now (words .entry)) (now (store .entry)))
-        (resolveReply r (now (buffer .exit))) (memory (now (words .entry)) (now (store .entry))) ⌝ }
-{
-    if !judge::sound(words, store) {
-        return refused(answer::UNSOUND);
-    }
-    resolve_step(words, store, oxid, buffer)
-}
-
-// The same on a sound table.
+// The call on a sound table.
 pub fn resolve_step<'a>(
     words: &'a [u64],
     store: &'a [u8],
@@ -60,11 +50,11 @@ pub fn resolve_step<'a>(
 {
     let i = find::exporter_row(words, oxid);
     if find::exporter_count(words) <= i {
-        return refused(answer::NO_EXPORTER);
+        return Resolved::refused(answer::NO_EXPORTER);
     }
     let list = find::list(words, store, i);
     if buffer.len() < list.len() {
-        return refused(answer::NO_ROOM);
+        return Resolved::refused(answer::NO_ROOM);
     }
     fields::copy(buffer, 0, list);
     let unknown = find::unknown(words, i);
@@ -75,28 +65,10 @@ pub fn resolve_step<'a>(
     }
 }
 
-// The same of the list with only the string bindings whose tower is requested: 0, or 1; 10; 4; 15.
-pub fn resolve_filtered<'a>(
-    words: &'a [u64],
-    store: &'a [u8],
-    oxid: Oxid,
-    protocols: &'a [u16],
-    buffer: &'a mut [u8],
-) -> Resolved
-    ensures { λ r. ⌜
-        Performed (Call.looking (Look.resolveFiltered (oxid .0) (now (protocols .entry)) (now (buffer .entry)))) (memory (now (words .entry)) (now (store .entry)))
-        (resolveReply r (now (buffer .exit))) (memory (now (words .entry)) (now (store .entry))) ⌝ }
-{
-    if !judge::sound(words, store) {
-        return refused(answer::UNSOUND);
-    }
-    resolve_filtered_step(words, store, oxid, protocols, buffer)
-}
-
 // A request of more protocols is read once, into marks.
 const FEW: usize = 64;
 
-// The same on a sound table.
+// The call on a sound table.
 pub fn resolve_filtered_step<'a>(
     words: &'a [u64],
     store: &'a [u8],
@@ -113,7 +85,7 @@ pub fn resolve_filtered_step<'a>(
         return resolve_searched(words, store, oxid, protocols, buffer);
     }
     if answer::MOST_LISTED < protocols.len() {
-        return refused(answer::TOO_MANY);
+        return Resolved::refused(answer::TOO_MANY);
     }
     let mut marks = [0u64; filter::MARKS];
     filter::mark_all(&mut marks, protocols);
@@ -134,16 +106,16 @@ fn resolve_searched<'a>(
         (resolveReply r (now (buffer .exit))) (memory (now (words .entry)) (now (store .entry))) ⌝ }
 {
     if answer::MOST_LISTED < protocols.len() {
-        return refused(answer::TOO_MANY);
+        return Resolved::refused(answer::TOO_MANY);
     }
     let i = find::exporter_row(words, oxid);
     if find::exporter_count(words) <= i {
-        return refused(answer::NO_EXPORTER);
+        return Resolved::refused(answer::NO_EXPORTER);
     }
     let list = find::list(words, store, i);
     let w = filter::write_filtered(list, protocols, buffer);
     if w.answer != answer::DONE {
-        return refused(answer::NO_ROOM);
+        return Resolved::refused(answer::NO_ROOM);
     }
     let unknown = find::unknown(words, i);
     Resolved {
@@ -169,7 +141,7 @@ fn resolve_marked<'a>(
 {
     let i = find::exporter_row(words, oxid);
     if find::exporter_count(words) <= i {
-        return refused(answer::NO_EXPORTER);
+        return Resolved::refused(answer::NO_EXPORTER);
     }
     let list = find::list(words, store, i);
     let mut towers = [0u16; limits::LONGEST_LIST / 2];
@@ -191,7 +163,7 @@ pub fn resolve_filtered_bytes_step<'a>(
         (resolveReply r (now (buffer .exit))) (memory (now (words .entry)) (now (store .entry))) ⌝ }
 {
     if answer::MOST_LISTED < protocols.len() / 2 {
-        return refused(answer::TOO_MANY);
+        return Resolved::refused(answer::TOO_MANY);
     }
     let mut marks = [0u64; filter::MARKS];
     filter::mark_all_bytes(&mut marks, protocols);

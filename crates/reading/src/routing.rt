@@ -6,11 +6,10 @@ use table::find;
 ghost use mathlib.Core.Path.{_≡_};
 ghost use mathlib.Core.Bool.{true};
 ghost use Prim.Native.Nat.{_<_};
-ghost use Rattle.rules.specs.Calls.{Call, Look};
 ghost use Rattle.rules.specs.Sound.{listsKept};
-ghost use Rattle.rules.specs.Contract.{replyTo, Whole};
+ghost use Rattle.rules.specs.Contract.{Whole};
 ghost use Rattle.table.specs.View.{exporterCount, memory, view, SoundTable};
-ghost use Rattle.reading.specs.NextStop.{refusedStop, stopInStore, stopInReference, StopFound, StopPart};
+ghost use Rattle.reading.specs.NextStop.{refusedStop, stopInStore, stopInReference, StopFound};
 
 // Where a next stop stands, in the store or else in the reference. A place in the store holds until the next call that changes the store.
 #[repr(C)]
@@ -21,14 +20,16 @@ pub struct StopPlace {
     pub to: usize,
 }
 
-fn refused(number: u32) -> StopPlace
-    ensures { λ r. ⌜ r ≡ refusedStop number ⌝ }
-{
-    StopPlace {
-        answer: number,
-        in_store: false,
-        from: 0,
-        to: 0,
+impl StopPlace {
+    pub fn refused(number: u32) -> StopPlace
+        ensures { λ r. ⌜ r ≡ refusedStop number ⌝ }
+    {
+        StopPlace {
+            answer: number,
+            in_store: false,
+            from: 0,
+            to: 0,
+        }
     }
 }
 
@@ -60,28 +61,18 @@ fn in_reference(own: Place) -> StopPlace
     }
 }
 
-// Where the next stop stands: 0, or 1; the reference's 13, 14, 21 or 22; 14 for a custom reference.
-pub fn next_stop_place<'a>(words: &'a [u64], store: &'a [u8], reference: &'a [u8]) -> StopPlace
-    ensures { λ r. ⌜ StopFound (memory (now (words .entry)) (now (store .entry))) (now (reference .entry)) r ⌝ }
-{
-    if !judge::sound(words, store) {
-        return refused(answer::UNSOUND);
-    }
-    next_stop_step(words, store, reference)
-}
-
-// The same on a sound table.
+// The call on a sound table.
 pub fn next_stop_step<'a>(words: &'a [u64], store: &'a [u8], reference: &'a [u8]) -> StopPlace
     requires { ⌜ SoundTable (memory (now words) (now store)) ⌝ }
     ensures { λ r. ⌜ StopFound (memory (now (words .entry)) (now (store .entry))) (now (reference .entry)) r ⌝ }
 {
     let own = references::tail_place(reference);
     if own.answer != answer::DONE {
-        return refused(own.answer);
+        return StopPlace::refused(own.answer);
     }
     let named = Reference::fields(reference);
     if named.flags == Reference::CUSTOM {
-        return refused(answer::LAYOUT);
+        return StopPlace::refused(answer::LAYOUT);
     }
     let block = named.block;
     let i = find::exporter_row(words, block.oxid);
@@ -89,28 +80,4 @@ pub fn next_stop_step<'a>(words: &'a [u64], store: &'a [u8], reference: &'a [u8]
         return in_store(words, store, i);
     }
     in_reference(own)
-}
-
-// The number of the next stop, as above.
-pub fn next_stop_answer<'a>(words: &'a [u64], store: &'a [u8], reference: &'a [u8]) -> u32
-    ensures { λ r. ⌜
-        r ≡ replyTo view (Call.looking (Look.nextStop (now (reference .entry)))) (memory (now (words .entry)) (now (store .entry))) .number ⌝ }
-{
-    next_stop_place(words, store, reference).answer
-}
-
-// The next stop, a part of the store or of the reference; no bytes where it is refused. A part of the store is lent until a call changes
-// the store.
-pub fn next_stop<'a>(words: &'a [u64], store: &'a [u8], reference: &'a [u8]) -> &'a [u8]
-    ensures { λ r. ⌜
-        StopPart (memory (now (words .entry)) (now (store .entry))) (now (reference .entry))
-        (store .entry .ptr) (reference .entry .ptr) (r .ptr) (now r) ⌝ }
-{
-    let x = next_stop_place(words, store, reference);
-    let from = x.from;
-    let to = x.to;
-    if x.in_store {
-        return &store[from..to];
-    }
-    &reference[from..to]
 }

@@ -1,33 +1,367 @@
-// The calls on the table, by their rooms. Each takes the table as it is lent, judges it, and gives one numbered answer; a refused call
-// changes nothing.
+// Every call on the table, with its promise. Each takes the table as it is lent, judges it, refuses it by 1 where it is not sound, and else
+// performs the call's step; a refused call changes nothing. Reset, load and replay start the table anew, and look at lengths only.
 pub use counting::Released;
-pub use counting::add;
-pub use counting::drop_client;
-pub use counting::release;
-pub use entering::enter_exporter;
-pub use entering::enter_interface;
-pub use entering::enter_object;
-pub use entering::reset;
+use fields::Written;
+use kinds::Guid;
+use kinds::Oid;
+use kinds::Oxid;
+use kinds::SetId;
+use kinds::answer;
 pub use leaving::Expired;
-pub use leaving::clock;
-pub use leaving::remove_exporter;
-pub use listing::add_list;
-pub use listing::release_list;
-pub use loading::load_snapshot;
 pub use pinging::Pinged;
-pub use pinging::complex_ping;
-pub use pinging::simple_ping;
 pub use reading::LiveCounts;
 pub use reading::MemberCount;
 pub use reading::Resolved;
 pub use reading::StopPlace;
-pub use reading::census;
-pub use reading::members;
-pub use reading::next_stop;
-pub use reading::next_stop_answer;
-pub use reading::next_stop_place;
-pub use reading::resolve;
-pub use reading::resolve_filtered;
 pub use replaying::Outcome;
-pub use replaying::replay;
-pub use saving::write_snapshot;
+ghost use mathlib.Core.Path.{_≡_};
+ghost use Rattle.kinds.specs.declared.Guid.{Guid};
+ghost use Rattle.rules.specs.Calls.{Call, Edit, Look, Start, adding, numbered, releasing};
+ghost use Rattle.rules.specs.Rules.{number};
+ghost use Rattle.table.specs.View.{Performed, memory, view};
+ghost use Rattle.rules.specs.Contract.{replyTo};
+ghost use Rattle.leaving.specs.Replies.{clockReply};
+ghost use Rattle.counting.specs.Replies.{releaseReply};
+ghost use Rattle.listing.specs.Listing.{listReply};
+ghost use Rattle.pinging.specs.Replies.{pingReply};
+ghost use Rattle.reading.specs.Replies.{censusReply, membersReply, resolveReply};
+ghost use Rattle.reading.specs.NextStop.{StopFound, StopPart};
+ghost use Rattle.saving.specs.Replies.{writtenReply};
+ghost use Rattle.replaying.specs.Replay.{Replayed};
+
+// Empties the table and sets its clock: 0, or 1 (lengths only).
+pub fn reset<'a>(words: &'a mut [u64], store: &'a [u8], time: u64) -> u32
+    ensures { λ r. ⌜
+        Performed (Call.starting (Start.reset time)) (memory (now (words .entry)) (now (store .entry))) (numbered r)
+        (memory (now (words .exit)) (now (store .entry))) ⌝ }
+{
+    entering::reset(words, store, time)
+}
+
+// Enters an exporter with its remote-unknown IPID and its binding list: 0, or 1; 3; 13; 14; 19; 9.
+pub fn enter_exporter<'a>(
+    words: &'a mut [u64],
+    store: &'a mut [u8],
+    oxid: Oxid,
+    unknown: Guid,
+    list: &'a [u8],
+) -> u32
+    ensures { λ r. ⌜
+        Performed (Call.editing (Edit.enterExporter (oxid .0) unknown (now (list .entry)))) (memory (now (words .entry)) (now (store .entry)))
+        (numbered r) (memory (now (words .exit)) (now (store .exit))) ⌝ }
+{
+    if !judge::sound(words, store) {
+        return answer::UNSOUND;
+    }
+    entering::enter_exporter_step(words, store, oxid, unknown, list)
+}
+
+// Enters an object with its first interface: 0, or 1; 3; 4; 7; 9.
+pub fn enter_object<'a>(
+    words: &'a mut [u64],
+    store: &'a [u8],
+    oid: Oid,
+    oxid: Oxid,
+    ipid: Guid,
+    iid: Guid,
+    public: u32,
+    no_ping: bool,
+) -> u32
+    ensures { λ r. ⌜
+        Performed (Call.editing (Edit.enterObject (oid .0) (oxid .0) ipid iid public «no_ping»)) (memory (now (words .entry)) (now (store .entry)))
+        (numbered r) (memory (now (words .exit)) (now (store .entry))) ⌝ }
+{
+    if !judge::sound(words, store) {
+        return answer::UNSOUND;
+    }
+    entering::enter_object_step(words, store, oid, oxid, ipid, iid, public, no_ping)
+}
+
+// Enters an interface of a live object: 0, or 1; 3; 5; 7; 9.
+pub fn enter_interface<'a>(
+    words: &'a mut [u64],
+    store: &'a [u8],
+    oid: Oid,
+    ipid: Guid,
+    iid: Guid,
+    public: u32,
+) -> u32
+    ensures { λ r. ⌜
+        Performed (Call.editing (Edit.enterInterface (oid .0) ipid iid public)) (memory (now (words .entry)) (now (store .entry)))
+        (numbered r) (memory (now (words .exit)) (now (store .entry))) ⌝ }
+{
+    if !judge::sound(words, store) {
+        return answer::UNSOUND;
+    }
+    entering::enter_interface_step(words, store, oid, ipid, iid, public)
+}
+
+// Removes an exporter with its objects, their interfaces and memberships: 0, or 1; 4.
+pub fn remove_exporter<'a>(words: &'a mut [u64], store: &'a mut [u8], oxid: Oxid) -> u32
+    ensures { λ r. ⌜
+        Performed (Call.editing (Edit.removeExporter (oxid .0))) (memory (now (words .entry)) (now (store .entry)))
+        (numbered r) (memory (now (words .exit)) (now (store .exit))) ⌝ }
+{
+    if !judge::sound(words, store) {
+        return answer::UNSOUND;
+    }
+    leaving::remove_exporter_step(words, store, oxid)
+}
+
+// Sets the clock. Sets and pinged objects that were not heard for 360 seconds or more go: 0, or 1; 2.
+pub fn clock<'a>(words: &'a mut [u64], store: &'a [u8], time: u64) -> Expired
+    ensures { λ r. ⌜
+        Performed (Call.editing (Edit.clock time)) (memory (now (words .entry)) (now (store .entry)))
+        (clockReply r) (memory (now (words .exit)) (now (store .entry))) ⌝ }
+{
+    if !judge::sound(words, store) {
+        return Expired::refused(answer::UNSOUND);
+    }
+    leaving::clock_step(words, store, time)
+}
+
+// Adds to the public count of an interface and to the private one of a client: 0, or 1; 20; 6; 8.
+pub fn add<'a>(
+    words: &'a mut [u64],
+    store: &'a [u8],
+    client: u32,
+    ipid: Guid,
+    public: u32,
+    private: u32,
+) -> u32
+    ensures { λ r. ⌜
+        Performed (Call.editing (Edit.add client ipid public private)) (memory (now (words .entry)) (now (store .entry)))
+        (numbered r) (memory (now (words .exit)) (now (store .entry))) ⌝ }
+{
+    if !judge::sound(words, store) {
+        return answer::UNSOUND;
+    }
+    counting::add_step(words, store, client, ipid, public, private)
+}
+
+// Gives references back: the public count and the client's private one fall by the smaller of the asked number and themselves. An
+// interface without references goes, and an object without interfaces, from its sets too. 0, or 1; 20; 6.
+pub fn release<'a>(
+    words: &'a mut [u64],
+    store: &'a [u8],
+    client: u32,
+    ipid: Guid,
+    public: u32,
+    private: u32,
+) -> Released
+    ensures { λ r. ⌜
+        Performed (Call.editing (Edit.release client ipid public private)) (memory (now (words .entry)) (now (store .entry)))
+        (releaseReply r) (memory (now (words .exit)) (now (store .entry))) ⌝ }
+{
+    if !judge::sound(words, store) {
+        return Released::refused(answer::UNSOUND);
+    }
+    counting::release_step(words, store, client, ipid, public, private)
+}
+
+// Drops every private reference of a client. What is left without references goes as in a release: 0, or 1; 20.
+pub fn drop_client<'a>(words: &'a mut [u64], store: &'a [u8], client: u32) -> u32
+    ensures { λ r. ⌜
+        Performed (Call.editing (Edit.dropClient client)) (memory (now (words .entry)) (now (store .entry)))
+        (numbered r) (memory (now (words .exit)) (now (store .entry))) ⌝ }
+{
+    if !judge::sound(words, store) {
+        return answer::UNSOUND;
+    }
+    counting::drop_client_step(words, store, client)
+}
+
+// Adds references by a list of items for a client, and writes the number of each item to its byte of buffer, whose rest is kept:
+// 0, or 1; 20; 13; 10; 15. An item's own number is 0, 6 or 8, and does not stop the rest.
+pub fn add_list<'a>(
+    words: &'a mut [u64],
+    store: &'a [u8],
+    client: u32,
+    items: &'a [u8],
+    buffer: &'a mut [u8],
+) -> u32
+    ensures { λ r. ⌜
+        Performed (Call.countList adding client (now (items .entry)) (now (buffer .entry))) (memory (now (words .entry)) (now (store .entry)))
+        (listReply r (now (buffer .exit))) (memory (now (words .exit)) (now (store .entry))) ⌝ }
+{
+    if !judge::sound(words, store) {
+        return answer::UNSOUND;
+    }
+    listing::list_step(words, store, false, client, items, buffer)
+}
+
+// Gives references back by a list of items, likewise.
+pub fn release_list<'a>(
+    words: &'a mut [u64],
+    store: &'a [u8],
+    client: u32,
+    items: &'a [u8],
+    buffer: &'a mut [u8],
+) -> u32
+    ensures { λ r. ⌜
+        Performed (Call.countList releasing client (now (items .entry)) (now (buffer .entry))) (memory (now (words .entry)) (now (store .entry)))
+        (listReply r (now (buffer .exit))) (memory (now (words .exit)) (now (store .entry))) ⌝ }
+{
+    if !judge::sound(words, store) {
+        return answer::UNSOUND;
+    }
+    listing::list_step(words, store, true, client, items, buffer)
+}
+
+// Pings a set: 0, or 1; 11.
+pub fn simple_ping<'a>(words: &'a mut [u64], store: &'a [u8], set: SetId) -> u32
+    ensures { λ r. ⌜
+        Performed (Call.editing (Edit.simplePing (set .0))) (memory (now (words .entry)) (now (store .entry)))
+        (numbered r) (memory (now (words .exit)) (now (store .entry))) ⌝ }
+{
+    if !judge::sound(words, store) {
+        return answer::UNSOUND;
+    }
+    pinging::simple_ping_step(words, store, set)
+}
+
+// Adds objects to a set, takes objects out of it and pings it; for set 0 a set is made: 0, or 1; 10; of a set other than 0: 11; 12; 5;
+// of set 0: 5; 9; 18.
+pub fn complex_ping<'a>(
+    words: &'a mut [u64],
+    store: &'a [u8],
+    set: SetId,
+    sequence: u16,
+    adds: &'a [u64],
+    deletes: &'a [u64],
+) -> Pinged
+    ensures { λ r. ⌜
+        Performed (Call.editing (Edit.complexPing (set .0) sequence (now (adds .entry)) (now (deletes .entry))))
+        (memory (now (words .entry)) (now (store .entry))) (pingReply r) (memory (now (words .exit)) (now (store .entry))) ⌝ }
+{
+    if !judge::sound(words, store) {
+        return Pinged::refused(answer::UNSOUND);
+    }
+    pinging::complex_ping_step(words, store, set, sequence, adds, deletes)
+}
+
+// The live number of each kind: 0, or 1.
+pub fn census<'a>(words: &'a [u64], store: &'a [u8]) -> LiveCounts
+    ensures { λ r. ⌜
+        Performed (Call.looking Look.census) (memory (now (words .entry)) (now (store .entry))) (censusReply r)
+        (memory (now (words .entry)) (now (store .entry))) ⌝ }
+{
+    if !judge::sound(words, store) {
+        return LiveCounts {
+            answer: answer::UNSOUND,
+            exporters: 0,
+            objects: 0,
+            interfaces: 0,
+            sets: 0,
+        };
+    }
+    reading::census_step(words, store)
+}
+
+// The number of members of a set: 0, or 1; 11.
+pub fn members<'a>(words: &'a [u64], store: &'a [u8], set: SetId) -> MemberCount
+    ensures { λ r. ⌜
+        Performed (Call.looking (Look.members (set .0))) (memory (now (words .entry)) (now (store .entry))) (membersReply r)
+        (memory (now (words .entry)) (now (store .entry))) ⌝ }
+{
+    if !judge::sound(words, store) {
+        return MemberCount {
+            answer: answer::UNSOUND,
+            count: 0,
+        };
+    }
+    reading::members_step(words, store, set)
+}
+
+// Writes an exporter's binding list at the front of buffer and keeps the rest: 0, or 1; 4; 15.
+pub fn resolve<'a>(words: &'a [u64], store: &'a [u8], oxid: Oxid, buffer: &'a mut [u8]) -> Resolved
+    ensures { λ r. ⌜
+        Performed (Call.looking (Look.resolve (oxid .0) (now (buffer .entry)))) (memory (now (words .entry)) (now (store .entry)))
+        (resolveReply r (now (buffer .exit))) (memory (now (words .entry)) (now (store .entry))) ⌝ }
+{
+    if !judge::sound(words, store) {
+        return Resolved::refused(answer::UNSOUND);
+    }
+    reading::resolve_step(words, store, oxid, buffer)
+}
+
+// The same of the list with only the string bindings whose tower is requested: 0, or 1; 10; 4; 15.
+pub fn resolve_filtered<'a>(
+    words: &'a [u64],
+    store: &'a [u8],
+    oxid: Oxid,
+    protocols: &'a [u16],
+    buffer: &'a mut [u8],
+) -> Resolved
+    ensures { λ r. ⌜
+        Performed (Call.looking (Look.resolveFiltered (oxid .0) (now (protocols .entry)) (now (buffer .entry)))) (memory (now (words .entry)) (now (store .entry)))
+        (resolveReply r (now (buffer .exit))) (memory (now (words .entry)) (now (store .entry))) ⌝ }
+{
+    if !judge::sound(words, store) {
+        return Resolved::refused(answer::UNSOUND);
+    }
+    reading::resolve_filtered_step(words, store, oxid, protocols, buffer)
+}
+
+// Where the next stop stands: 0, or 1; the reference's 13, 14, 21 or 22; 14 for a custom reference.
+pub fn next_stop_place<'a>(words: &'a [u64], store: &'a [u8], reference: &'a [u8]) -> StopPlace
+    ensures { λ r. ⌜ StopFound (memory (now (words .entry)) (now (store .entry))) (now (reference .entry)) r ⌝ }
+{
+    if !judge::sound(words, store) {
+        return StopPlace::refused(answer::UNSOUND);
+    }
+    reading::next_stop_step(words, store, reference)
+}
+
+// The number of the next stop, as above.
+pub fn next_stop_answer<'a>(words: &'a [u64], store: &'a [u8], reference: &'a [u8]) -> u32
+    ensures { λ r. ⌜
+        r ≡ replyTo view (Call.looking (Look.nextStop (now (reference .entry)))) (memory (now (words .entry)) (now (store .entry))) .number ⌝ }
+{
+    next_stop_place(words, store, reference).answer
+}
+
+// The next stop, a part of the store or of the reference; no bytes where it is refused. A part of the store is lent until a call changes
+// the store.
+pub fn next_stop<'a>(words: &'a [u64], store: &'a [u8], reference: &'a [u8]) -> &'a [u8]
+    ensures { λ r. ⌜
+        StopPart (memory (now (words .entry)) (now (store .entry))) (now (reference .entry))
+        (store .entry .ptr) (reference .entry .ptr) (r .ptr) (now r) ⌝ }
+{
+    let x = next_stop_place(words, store, reference);
+    let from = x.from;
+    let to = x.to;
+    if x.in_store {
+        return &store[from..to];
+    }
+    &reference[from..to]
+}
+
+// Writes the snapshot of the table at the front of buffer and keeps the rest: 0 and the snapshot's length, or 1; 15.
+pub fn write_snapshot<'a>(words: &'a [u64], store: &'a [u8], buffer: &'a mut [u8]) -> Written
+    ensures { λ r. ⌜
+        Performed (Call.looking (Look.writeSnapshot (now (buffer .entry)))) (memory (now (words .entry)) (now (store .entry)))
+        (writtenReply r (now (buffer .exit))) (memory (now (words .entry)) (now (store .entry))) ⌝ }
+{
+    if !judge::sound(words, store) {
+        return saving::refused(answer::UNSOUND);
+    }
+    saving::write_snapshot_step(words, store, buffer)
+}
+
+// Loads a snapshot: 0, or 1 (lengths only); 23.
+pub fn load_snapshot<'a>(words: &'a mut [u64], store: &'a mut [u8], snapshot: &'a [u8]) -> u32
+    ensures { λ r. ⌜
+        Performed (Call.starting (Start.loadSnapshot (now (snapshot .entry)))) (memory (now (words .entry)) (now (store .entry))) (numbered r)
+        (memory (now (words .exit)) (now (store .exit))) ⌝ }
+{
+    loading::load_snapshot(words, store, snapshot)
+}
+
+// Replays a recorded shift from a reset at 0: 0, or 1 (lengths only); 13; 14; 10.
+pub fn replay<'a>(words: &'a mut [u64], store: &'a mut [u8], recording: &'a [u8]) -> Outcome
+    ensures { λ r. ⌜
+        Replayed (memory (now (words .entry)) (now (store .entry))) (now (recording .entry)) r (memory (now (words .exit)) (now (store .exit))) ⌝ }
+{
+    replaying::replay(words, store, recording)
+}

@@ -3,13 +3,13 @@ use fields::Written;
 use kinds::answer;
 ghost use mathlib.Core.Path.{_≡_};
 ghost use Rattle.rules.specs.Calls.{Call, Look};
-ghost use Rattle.table.specs.View.{memory, SoundTable, Stepped, Performed};
+ghost use Rattle.table.specs.View.{memory, SoundTable, Stepped};
 ghost use Rattle.saving.specs.Replies.{writtenReply};
 
 mod sections;
 mod size;
 
-fn refused(number: u32) -> Written
+pub fn refused(number: u32) -> Written
     ensures { λ r. ⌜ r ≡ record { answer = number; length = 0 } ⌝ }
 {
     Written {
@@ -18,19 +18,7 @@ fn refused(number: u32) -> Written
     }
 }
 
-// Writes the snapshot of the table at the front of buffer and keeps the rest: 0 and the snapshot's length, or 1; 15.
-pub fn write_snapshot<'a>(words: &'a [u64], store: &'a [u8], buffer: &'a mut [u8]) -> Written
-    ensures { λ r. ⌜
-        Performed (Call.looking (Look.writeSnapshot (now (buffer .entry)))) (memory (now (words .entry)) (now (store .entry)))
-        (writtenReply r (now (buffer .exit))) (memory (now (words .entry)) (now (store .entry))) ⌝ }
-{
-    if !judge::sound(words, store) {
-        return refused(answer::UNSOUND);
-    }
-    write_snapshot_step(words, store, buffer)
-}
-
-// The same on a sound table.
+// The call on a sound table.
 pub fn write_snapshot_step<'a>(words: &'a [u64], store: &'a [u8], buffer: &'a mut [u8]) -> Written
     requires { ⌜ SoundTable (memory (now words) (now store)) ⌝ }
     ensures { λ r. ⌜

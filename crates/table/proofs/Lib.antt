@@ -8,3 +8,5 @@ pub mod MemberRows
 pub mod FreePlaces
 pub mod Sizes
 pub mod Fitting
+pub mod Steps
+pub mod MemberLaws

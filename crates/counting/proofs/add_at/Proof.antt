@@ -19,7 +19,7 @@ use Rattle.table.specs.Counts.{countsAt}
 use Rattle.edit.specs.Edits.{changeInterface}
 use Rattle.table.specs.declared.find.InterfaceCounts.{InterfaceCounts}
 use Rattle.table.proofs.LiveRows.{interfaces-length}
-use Rattle.calls.proofs.Calls.{refused-step, accepted-step, row-gives, row-passes, gone-gives, live-passes, rows-end, two-rows, interface-tested}
+use Rattle.table.proofs.Steps.{refused-step, accepted-step, row-gives, row-passes, gone-gives, live-passes, rows-end, two-rows, interface-tested}
 use Rattle.counting.proofs.TwoCounts.{counts-as}
 use Rattle.counting.proofs.Releasing.{client-missing, client-here}
 use borrow.Author.Needs.{needs}

@@ -12,7 +12,7 @@ use Rattle.settling.specs.Leaving.{withoutLeaving, heldLeft}
 use Rattle.settling.specs.declared.Leaving.the-variants.{NoInterface}
 use Rattle.settling.proofs.Settling.{asked}
 use Rattle.settling.proofs.ClientDrop.{drop-steps}
-use Rattle.calls.proofs.Calls.{refused-step, accepted-step, row-gives, row-passes, rows-end}
+use Rattle.table.proofs.Steps.{refused-step, accepted-step, row-gives, row-passes, rows-end}
 use Rattle.counting.proofs.Releasing.{client-missing, client-here}
 use borrow.Author.Needs.{needs}
 use Rattle.counting.proofs.drop_client_step.Statement.{statement}

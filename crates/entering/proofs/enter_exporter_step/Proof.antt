@@ -6,7 +6,7 @@ use Rattle.rules.proofs.SoundLaws.{sound-fields}
 use Rattle.table.specs.View.{memory, view}
 use Rattle.table.proofs.LiveRows.{exporters-length}
 use Rattle.table.proofs.KeptLists.{bytes-live}
-use Rattle.calls.proofs.Calls.{refused-step, accepted-step}
+use Rattle.table.proofs.Steps.{refused-step, accepted-step}
 use Rattle.entering.proofs.Places.{exporter-fits}
 use borrow.Author.Needs.{needs}
 use Rattle.entering.proofs.enter_exporter_step.Statement.{statement}

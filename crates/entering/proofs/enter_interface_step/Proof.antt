@@ -4,7 +4,7 @@ use native.Mathlib.Omega.{arith}
 use Rattle.rules.specs.Rules.{next, results, refusedReply, acceptedReply}
 use Rattle.table.specs.View.{memory, view}
 use Rattle.table.proofs.LiveRows.{interfaces-length}
-use Rattle.calls.proofs.Calls.{refused-step, accepted-step}
+use Rattle.table.proofs.Steps.{refused-step, accepted-step}
 use Rattle.entering.proofs.Places.{interface-fits}
 use borrow.Author.Needs.{needs}
 use Rattle.entering.proofs.enter_interface_step.Statement.{statement}

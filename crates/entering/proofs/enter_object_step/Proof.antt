@@ -8,7 +8,7 @@ use Rattle.rules.specs.Rules.{next, results, refusedReply, acceptedReply}
 use Rattle.table.specs.View.{memory, view}
 use Rattle.edit.specs.Edits.{addInterface}
 use Rattle.table.proofs.LiveRows.{objects-length, interfaces-length}
-use Rattle.calls.proofs.Calls.{sound-below, refused-step, accepted-step}
+use Rattle.table.proofs.Steps.{sound-below, refused-step, accepted-step}
 use Rattle.entering.proofs.Places.{object-fits}
 use borrow.Author.Needs.{needs}
 use Rattle.entering.proofs.enter_object_step.Statement.{statement}

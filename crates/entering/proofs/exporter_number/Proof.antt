@@ -12,7 +12,7 @@ use Rattle.rules.specs.Calls.{Call, Edit}
 use Rattle.rules.specs.Rules.{refusals, number, listRefusals, isLiveExporter}
 use Rattle.rules.proofs.SoundLaws.{sound-fields}
 use Rattle.table.specs.View.{memory, view}
-use Rattle.calls.proofs.Calls.{row-gives, row-passes, identifier-rows, exporter-tested}
+use Rattle.table.proofs.Steps.{row-gives, row-passes, identifier-rows, exporter-tested}
 use borrow.Author.Needs.{needs}
 use Rattle.entering.proofs.exporter_number.Statement.{statement}
 use Rattle.entering.proofs.exporter_number.Tie as tie

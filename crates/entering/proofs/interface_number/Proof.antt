@@ -12,7 +12,7 @@ use Rattle.rules.specs.Calls.{Call, Edit}
 use Rattle.rules.specs.Rules.{refusals, number, isLiveObject}
 use Rattle.table.specs.View.{memory, view}
 use Rattle.table.proofs.LiveRows.{interfaces-length}
-use Rattle.calls.proofs.Calls.{row-gives, row-passes, gone-gives, live-passes, rows-end, object-tested, full-tested}
+use Rattle.table.proofs.Steps.{row-gives, row-passes, gone-gives, live-passes, rows-end, object-tested, full-tested}
 use borrow.Author.Needs.{needs}
 use Rattle.entering.proofs.interface_number.Statement.{statement}
 use Rattle.entering.proofs.interface_number.Tie as tie

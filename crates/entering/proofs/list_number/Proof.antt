@@ -14,7 +14,7 @@ use Rattle.rules.specs.Sound.{longestList, storeBytes}
 use Rattle.table.specs.View.{exporterCount, listStart, memory, view}
 use Rattle.table.proofs.LiveRows.{exporters-length}
 use Rattle.table.proofs.KeptLists.{list-starts, bytes-live}
-use Rattle.calls.proofs.Calls.{row-gives, row-passes, rows-end, two-rows, full-tested}
+use Rattle.table.proofs.Steps.{row-gives, row-passes, rows-end, two-rows, full-tested}
 use borrow.Author.Needs.{needs}
 use Rattle.entering.proofs.list_number.Statement.{statement}
 use Rattle.entering.proofs.list_number.Tie as tie

@@ -15,7 +15,7 @@ use Rattle.rules.specs.Calls.{Call, Edit}
 use Rattle.rules.specs.Rules.{refusals, number, isLiveExporter, isLiveObject}
 use Rattle.table.specs.View.{memory, view}
 use Rattle.table.proofs.LiveRows.{objects-length, interfaces-length}
-use Rattle.calls.proofs.Calls.{row-gives, row-passes, gone-gives, live-passes, rows-end, two-rows, identifier-rows, exporter-tested, object-tested, full-tested}
+use Rattle.table.proofs.Steps.{row-gives, row-passes, gone-gives, live-passes, rows-end, two-rows, identifier-rows, exporter-tested, object-tested, full-tested}
 use borrow.Author.Needs.{needs}
 use Rattle.entering.proofs.object_number.Statement.{statement}
 use Rattle.entering.proofs.object_number.Tie as tie

@@ -3,7 +3,7 @@ use borrow.Author.Needs.{needs}
 use mathlib.Core.Path.{sym, _∙_}
 use native.Mathlib.Omega.{arith}
 use borrow.Author.Tests.{not-true, not-false}
-use Rattle.calls.proofs.Calls.{sound-table}
+use Rattle.table.proofs.Steps.{sound-table}
 use Rattle.loading.proofs.Loading.{lent, not-read, not-sound, read-sound}
 use Rattle.loading.proofs.read_snapshot.Statement.{statement}
 use Rattle.loading.proofs.read_snapshot.Tie as tie

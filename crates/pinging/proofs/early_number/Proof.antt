@@ -10,7 +10,7 @@ use Rattle.kinds.specs.Refusals.{order}
 use Rattle.rules.specs.Entries.{Entries}
 use Rattle.rules.specs.Rules.{isLiveSet, setOf, staleSequence}
 use Rattle.table.specs.View.{memory, view}
-use Rattle.calls.proofs.Calls.{row-gives, row-passes, gone-gives, live-passes, rows-end, set-tested}
+use Rattle.table.proofs.Steps.{row-gives, row-passes, gone-gives, live-passes, rows-end, set-tested}
 use Rattle.pinging.specs.Pinging.{earlyRows}
 use Rattle.pinging.proofs.Pings.{liveRows, short-rows, stale-tested}
 use borrow.Author.Needs.{needs}

@@ -10,7 +10,7 @@ use Rattle.kinds.specs.Refusals.{Row, order, _gives_}
 use Rattle.rules.specs.Entries.{Entries, setPlaces}
 use Rattle.table.specs.View.{memory, view}
 use Rattle.table.proofs.LiveRows.{sets-length}
-use Rattle.calls.proofs.Calls.{row-gives, row-passes, rows-end, full-tested}
+use Rattle.table.proofs.Steps.{row-gives, row-passes, rows-end, full-tested}
 use Rattle.pinging.specs.Pinging.{lateRows}
 use borrow.Author.Needs.{needs}
 use Rattle.pinging.proofs.late_number.Statement.{statement}

@@ -8,7 +8,7 @@ use Rattle.rules.specs.Calls.{Call, Edit}
 use Rattle.rules.specs.Rules.{number, results, refusedReply, acceptedReply}
 use Rattle.table.specs.View.{memory, view}
 use Rattle.table.proofs.LiveRows.{sets-length}
-use Rattle.calls.proofs.Calls.{refused-step, accepted-step}
+use Rattle.table.proofs.Steps.{refused-step, accepted-step}
 use Rattle.pinging.specs.Pinging.{Reduced}
 use Rattle.pinging.proofs.Pings.{late-left, late-fits, update-asked, ping-asked, pinged-next}
 use borrow.Author.Needs.{needs}

@@ -10,7 +10,7 @@ use Rattle.rules.proofs.PingRows.{simple-ping-row}
 use Rattle.rules.specs.PingRows.{pingedRow}
 use Rattle.table.specs.View.{memory, view}
 use Rattle.table.proofs.LiveRows.{sets-length}
-use Rattle.calls.proofs.Calls.{refused-step, accepted-step, row-gives, row-passes, gone-gives, live-passes, rows-end, set-tested}
+use Rattle.table.proofs.Steps.{refused-step, accepted-step, row-gives, row-passes, gone-gives, live-passes, rows-end, set-tested}
 use Rattle.pinging.proofs.Pings.{simple-rows}
 use borrow.Author.Needs.{needs}
 use Rattle.pinging.proofs.simple_ping_step.Statement.{statement}

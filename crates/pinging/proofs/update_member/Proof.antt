@@ -7,7 +7,7 @@ use borrow.Author.Needs.{needs}
 use Rattle.rules.specs.Entries.{oids}
 use Rattle.table.specs.View.{memory, view}
 use Rattle.table.proofs.MemberRows.{oids-length}
-use Rattle.calls.proofs.Calls.{object-tested}
+use Rattle.table.proofs.Steps.{object-tested}
 use Rattle.pinging.proofs.Memberships.{put-none, put-one}
 use Rattle.pinging.proofs.update_member.Statement.{statement}
 use Rattle.pinging.proofs.update_member.Tie as tie

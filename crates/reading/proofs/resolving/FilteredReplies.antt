@@ -28,7 +28,7 @@ use Rattle.table.specs.View.{exporterCount, listFrom, exportersOf, memory, view
 use Rattle.table.proofs.KeptLists.{front-kept}
 use Rattle.table.proofs.LiveRows.{exporter-at, exporters-length}
 use Rattle.reading.specs.Replies.{resolveReply}
-use Rattle.calls.proofs.Calls.{row-gives, row-passes, gone-gives, live-passes, exporter-tested, exporter-in-row}
+use Rattle.table.proofs.Steps.{row-gives, row-passes, gone-gives, live-passes, exporter-tested, exporter-in-row}
 
 -- the list of a live exporter is accepted
 pub kept-list : (ws s : List ℕ) (i : ℕ) → i < exporterCount ws → listsKept (view (memory ws s)) ≡ true → listAnswer (getD (exportersOf ws s) i noExporter .bindings) ≡ 0

@@ -17,7 +17,7 @@ use Rattle.table.specs.View.{exporterCount, objectCount, interfaceCount, setCou
 use Rattle.table.proofs.LiveRows.{exporters-length, objects-length, interfaces-length, sets-length}
 use Rattle.table.proofs.Counts.{nine-each}
 use Rattle.table.proofs.KeptLists.{list-starts, bytes-live}
-use Rattle.calls.proofs.Members.{row-size, table-ordered}
+use Rattle.table.proofs.MemberLaws.{row-size, table-ordered}
 
 -- the members of the sets from i on
 abbrev pub membersFrom : List ℕ → ℕ → List ℕ

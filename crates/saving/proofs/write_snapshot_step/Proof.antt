@@ -13,7 +13,7 @@ use Rattle.rules.specs.Snapshot.{snapshotBytes}
 use Rattle.table.specs.View.{memory, view}
 use Rattle.snapshot_rows.specs.Writing.{Wrote}
 use Rattle.saving.specs.Replies.{writtenReply}
-use Rattle.calls.proofs.Calls.{refused-step, accepted-step, row-gives, row-passes, rows-end}
+use Rattle.table.proofs.Steps.{refused-step, accepted-step, row-gives, row-passes, rows-end}
 use borrow.Author.Needs.{needs}
 use Rattle.saving.proofs.write_snapshot_step.Statement.{statement}
 use Rattle.saving.proofs.write_snapshot_step.Tie as tie

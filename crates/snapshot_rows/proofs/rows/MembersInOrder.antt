@@ -21,7 +21,7 @@ use Rattle.rules.specs.Rules.{noObject, noSet}
 use Rattle.rules.specs.Snapshot.{objectBefore, inRow}
 use Rattle.table.specs.View.{setCount, objectsOf, setsOf, membersAt}
 use Rattle.table.proofs.LiveRows.{objects-length}
-use Rattle.calls.proofs.Members.{object-member, row-ordered, row-size}
+use Rattle.table.proofs.MemberLaws.{object-member, row-ordered, row-size}
 use Rattle.snapshot_rows.specs.Rows.{memberBytesAt, risingOids, ObjectsSorted}
 use Rattle.snapshot_rows.proofs.Writing.{row-map}
 

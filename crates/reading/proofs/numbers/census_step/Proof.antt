@@ -7,7 +7,7 @@ use Rattle.rules.specs.Calls.{Call, Look}
 use Rattle.rules.specs.Rules.{liveNumbers, refusals, number, next, results, acceptedReply}
 use Rattle.table.specs.View.{memory, view, Stepped}
 use Rattle.table.proofs.LiveRows.{exporters-length, objects-length, interfaces-length, sets-length}
-use Rattle.calls.proofs.Calls.{accepted-step}
+use Rattle.table.proofs.Steps.{accepted-step}
 use borrow.Author.Needs.{needs}
 use Rattle.reading.proofs.numbers.census_step.Statement.{statement}
 use Rattle.reading.proofs.numbers.census_step.Tie as tie

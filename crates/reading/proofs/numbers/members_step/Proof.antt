@@ -12,7 +12,7 @@ use Rattle.rules.specs.Rules.{noSet, setOf, refusals, number, next, results, re
 use Rattle.rules.proofs.ByRow.{set-row}
 use Rattle.table.specs.View.{setCount, setsOf, memory, view, Stepped, membersAt}
 use Rattle.table.proofs.MemberRows.{row-members}
-use Rattle.calls.proofs.Calls.{refused-step, accepted-step, gone-gives, live-passes, rows-end, set-tested}
+use Rattle.table.proofs.Steps.{refused-step, accepted-step, gone-gives, live-passes, rows-end, set-tested}
 use borrow.Author.Needs.{needs}
 use Rattle.reading.proofs.numbers.members_step.Statement.{statement}
 use Rattle.reading.proofs.numbers.members_step.Tie as tie

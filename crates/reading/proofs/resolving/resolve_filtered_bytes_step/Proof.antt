@@ -6,7 +6,7 @@ use lib.ListN.{length}
 use Rattle.bindings.specs.Filter.{wordsIn}
 use Rattle.bindings.proofs.Marks.{words-length, marks-none}
 use Rattle.rules.specs.Rules.{results, refusedReply}
-use Rattle.calls.proofs.Calls.{refused-step}
+use Rattle.table.proofs.Steps.{refused-step}
 use Rattle.reading.proofs.resolving.FilteredReplies.{too-many}
 use Rattle.reading.proofs.resolving.resolve_filtered_bytes_step.Statement.{statement}
 use Rattle.reading.proofs.resolving.resolve_filtered_bytes_step.Tie as tie

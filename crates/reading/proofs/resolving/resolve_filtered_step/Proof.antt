@@ -5,7 +5,7 @@ use borrow.Author.Needs.{needs}
 use lib.ListN.{length}
 use Rattle.bindings.proofs.Marks.{marks-none}
 use Rattle.rules.specs.Rules.{results, refusedReply}
-use Rattle.calls.proofs.Calls.{refused-step}
+use Rattle.table.proofs.Steps.{refused-step}
 use Rattle.reading.proofs.resolving.FilteredReplies.{too-many}
 use Rattle.reading.proofs.resolving.resolve_filtered_step.Statement.{statement}
 use Rattle.reading.proofs.resolving.resolve_filtered_step.Tie as tie

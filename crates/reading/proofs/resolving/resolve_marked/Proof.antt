@@ -14,7 +14,7 @@ use Rattle.rules.specs.Entries.{Exporter}
 use Rattle.rules.specs.Rules.{exporterOf, results, refusedReply}
 use Rattle.rules.proofs.SoundLaws.{sound-fields}
 use Rattle.table.specs.View.{memory, view}
-use Rattle.calls.proofs.Calls.{refused-step, exporter-in-row}
+use Rattle.table.proofs.Steps.{refused-step, exporter-in-row}
 use Rattle.reading.proofs.resolving.FilteredReplies.{kept-list, short-list, gone, alike-step}
 use borrow.Author.Needs.{needs}
 use Rattle.reading.proofs.resolving.resolve_marked.Statement.{statement}

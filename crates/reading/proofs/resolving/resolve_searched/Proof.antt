@@ -12,7 +12,7 @@ use Rattle.rules.specs.Calls.{Call, Look}
 use Rattle.rules.specs.Rules.{number, next, results, refusedReply}
 use Rattle.rules.proofs.SoundLaws.{sound-fields}
 use Rattle.table.specs.View.{memory, view}
-use Rattle.calls.proofs.Calls.{refused-step, accepted-step, row-gives, row-passes, rows-end}
+use Rattle.table.proofs.Steps.{refused-step, accepted-step, row-gives, row-passes, rows-end}
 use Rattle.reading.proofs.resolving.FilteredReplies.{kept-list, filter-room, filter-short, filter-length, too-many, gone, length-left, answered}
 use borrow.Author.Needs.{needs}
 use Rattle.reading.proofs.resolving.resolve_searched.Statement.{statement}

@@ -17,7 +17,7 @@ use Rattle.rules.proofs.SoundLaws.{sound-fields}
 use Rattle.rules.proofs.ByRow.{exporter-row}
 use Rattle.table.specs.View.{exporterCount, exportersOf, memory, view}
 use Rattle.reading.specs.Replies.{resolveReply}
-use Rattle.calls.proofs.Calls.{refused-step, accepted-step, row-gives, row-passes, gone-gives, live-passes, rows-end, exporter-tested, exporter-in-row}
+use Rattle.table.proofs.Steps.{refused-step, accepted-step, row-gives, row-passes, gone-gives, live-passes, rows-end, exporter-tested, exporter-in-row}
 use borrow.Author.Needs.{needs}
 use Rattle.reading.proofs.resolving.resolve_step.Statement.{statement}
 use Rattle.reading.proofs.resolving.resolve_step.Tie as tie

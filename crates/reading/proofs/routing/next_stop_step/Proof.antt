@@ -8,8 +8,8 @@ use Rattle.rules.specs.Calls.{Call, Look}
 use Rattle.rules.specs.Rules.{oxidOf, next, acceptedReply}
 use Rattle.rules.proofs.SoundLaws.{sound-fields}
 use Rattle.table.specs.View.{memory, view, SoundTable, Performed}
-use Rattle.calls.proofs.Calls.{refused-step, accepted-step, step-call, row-gives, row-passes, rows-end, exporter-tested}
-use Rattle.reading.proofs.routing.Stopping.{reference-refused, good-reference, same-form, form-left, refused-stop, store-stop, reference-stop}
+use Rattle.table.proofs.Steps.{refused-step, accepted-step, step-call, row-gives, row-passes, rows-end, exporter-tested}
+use Rattle.reading.proofs.Stopping.{reference-refused, good-reference, same-form, form-left, refused-stop, store-stop, reference-stop}
 use borrow.Author.Needs.{needs}
 use Rattle.reading.proofs.routing.next_stop_step.Statement.{statement}
 use Rattle.reading.proofs.routing.next_stop_step.Tie as tie

@@ -3,7 +3,7 @@ use mathlib.Core.Path.{sym}
 use native.Mathlib.Omega.{arith}
 use lib.Seq.{length-take-le}
 use Rattle.rules.proofs.SoundLaws.{sound-fields}
-use Rattle.calls.proofs.Calls.{sound-below}
+use Rattle.table.proofs.Steps.{sound-below}
 use borrow.Author.Needs.{needs}
 use Rattle.saving.proofs.sections.put_snapshot.Statement.{statement}
 use Rattle.saving.proofs.sections.put_snapshot.Tie as tie

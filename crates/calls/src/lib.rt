@@ -1,1 +1,0 @@
-// What serves every call: laws alone, in proofs/.

@@ -1,2 +1,0 @@
--- What the proofs of the next stop use.
-pub mod Stopping
