@@ -1,11 +1,11 @@
 // What each call grants, takes and runs down, and that a tally of it balances: definitions (specs/) and proofs. The table's sum.
-use table::find;
+use table_view::find;
 ghost use mathlib.Core.Path.{_≡_};
 ghost use Prim.Native.Nat.{_*_, _^_, _<_, _≤_};
 ghost use lib.ListN.{getD};
 ghost use Rattle.rules.specs.Rules.{noInterface};
 ghost use Rattle.rules.specs.Contract.{Whole};
-ghost use Rattle.table.specs.View.{interfaceCount, interfacesOf, Holds};
+ghost use Rattle.table_view.specs.View.{interfaceCount, interfacesOf, Holds};
 ghost use Rattle.balance.specs.Balance.{total, heldIn};
 
 // The counts of interface i, summed.

@@ -13,14 +13,14 @@ use resolver::Released;
 use resolver::Resolved;
 use resolver::StopPlace;
 ghost use Rattle.rules.specs.Calls.{Call, Start, Look, Edit, adding, releasing, numbered};
-ghost use Rattle.table.specs.View.{memory, Performed};
-ghost use Rattle.reading.specs.Replies.{censusReply, membersReply, resolveReply};
-ghost use Rattle.counting.specs.Replies.{releaseReply};
-ghost use Rattle.leaving.specs.Replies.{clockReply};
-ghost use Rattle.listing.specs.Listing.{listReply};
-ghost use Rattle.pinging.specs.Replies.{pingReply};
-ghost use Rattle.reading.specs.NextStop.{StopFound};
-ghost use Rattle.saving.specs.Replies.{writtenReply};
+ghost use Rattle.table_view.specs.View.{memory, Performed};
+ghost use Rattle.call_look.specs.Replies.{censusReply, membersReply, resolveReply};
+ghost use Rattle.call_references.specs.Replies.{releaseReply};
+ghost use Rattle.call_remove.specs.Replies.{clockReply};
+ghost use Rattle.call_lists.specs.Listing.{listReply};
+ghost use Rattle.call_ping.specs.Replies.{pingReply};
+ghost use Rattle.call_look.specs.NextStop.{StopFound};
+ghost use Rattle.call_save.specs.Replies.{writtenReply};
 ghost use Rattle.replaying.specs.Replay.{Replayed};
 
 // Empties the table and sets its clock.

@@ -11,7 +11,7 @@ use Rattle.rules.specs.EitherOrder.{callDone, CountCall, callOf, behind, Either
 use Rattle.rules.proofs.SoundLaws.{table-fields}
 use Rattle.rules.proofs.Stepping.{reply-number}
 use Rattle.rules.proofs.EitherOrder.{order-irrelevant}
-use Rattle.table.specs.View.{view, soundMemory, Performed}
+use Rattle.table_view.specs.View.{view, soundMemory, Performed}
 use Rattle.history.specs.Orders.{Served, EitherServed}
 use Rattle.history.proofs.Runs.{replied}
 

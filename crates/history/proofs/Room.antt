@@ -22,8 +22,8 @@ use Rattle.rules.proofs.ListsLength.{bytes-joined}
 use Rattle.rules.specs.Calls.{Call, starting, looking, editing, reset, enterExporter, removeExporter, enterObject, enterInterface, add, release, dropClient, countList, simplePing, complexPing, clock, resolve, resolveFiltered, census, members, nextStop, writeSnapshot, loadSnapshot}
 use Rattle.rules.specs.Rules.{refusals, number}
 use Rattle.rules.specs.Contract.{Memory}
-use Rattle.table.specs.View.{view}
-use Rattle.table.proofs.LiveRows.{exporters-length, objects-length, interfaces-length, sets-length}
+use Rattle.table_view.specs.View.{view}
+use Rattle.table_view.proofs.LiveRows.{exporters-length, objects-length, interfaces-length, sets-length}
 use Rattle.history.specs.Runs.{together, agree, above, needsFullKind, roomExactly}
 
 -- ---- rows of refusals

@@ -18,7 +18,7 @@ use Rattle.rules.specs.Contract as contract
 use Rattle.rules.specs.Contract.{Memory, rightLengths, lengthsOnly, fit, replyTo}
 use Rattle.rules.proofs.Stepping.{reply-number}
 use Rattle.rules.proofs.SoundLaws.{table-fields}
-use Rattle.table.specs.View.{view, soundMemory, Performed}
+use Rattle.table_view.specs.View.{view, soundMemory, Performed}
 use Rattle.history.specs.History.{History, begins, live, feed, feedAll, replies, numbers, staysGone}
 use Rattle.history.specs.Runs.{Run, none, call, answeredAll, callsIn, numbersIn, unbegun, historyOf, WholeRun, countsGranted, goneExactly, roomExactly}
 use Rattle.history.proofs.Lives.{Kept}

@@ -19,8 +19,8 @@ use Rattle.rules.proofs.SoundLaws.{table-fields}
 use Rattle.rules.proofs.Performing.{fit-sound, fit-lengths}
 use Rattle.rules.proofs.Stepping.{reply-number}
 use Rattle.rules.proofs.Swapping.{snapshot-fields, swaps, loads}
-use Rattle.table.specs.View.{view, soundMemory, Performed}
-use Rattle.table.proofs.Fitting.{view-fits}
+use Rattle.table_view.specs.View.{view, soundMemory, Performed}
+use Rattle.table_view.proofs.Fitting.{view-fits}
 use Rattle.history.specs.Swapping.{LoadsExactly, writtenIn, BoxesSwap}
 use Rattle.history.proofs.Runs.{fit-reply, accepted-fits, accepted-reply, replied}
 

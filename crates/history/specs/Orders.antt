@@ -5,7 +5,7 @@ use Rattle.lists.specs.Guids.{sameGuid}
 use Rattle.rules.specs.Calls.{Reply}
 use Rattle.rules.specs.Contract.{Memory}
 use Rattle.rules.specs.EitherOrder.{CountCall, callOf, takenIn, interfaceWent, objectWent, BothLast}
-use Rattle.table.specs.View.{view, soundMemory, Performed}
+use Rattle.table_view.specs.View.{view, soundMemory, Performed}
 
 -- two replies to one call, of which the note that an object went is looked at apart
 pub record SameReply (r s : Reply) : Type 0 where

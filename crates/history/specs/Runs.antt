@@ -16,7 +16,7 @@ use Rattle.rules.specs.Items.{itemAt, itemCount, itemCall}
 use Rattle.rules.specs.Sound.{sound}
 use Rattle.rules.specs.Rules.{isLiveExporter, isLiveObject, interfaceOf, refusals, number, releaseValues, clockValues}
 use Rattle.rules.specs.Contract.{Memory}
-use Rattle.table.specs.View.{view, soundMemory, Performed}
+use Rattle.table_view.specs.View.{view, soundMemory, Performed}
 use Rattle.history.specs.History.{ObjectLife, InterfaceLife, History, begin, begins, interfacesAtZero, exporterRemoved, unheard, liveInterface, live, feed, feedAll, replies, numbers, staysGone, accountOf}
 
 -- ---- the sentences of demand 3, as tests

@@ -8,8 +8,8 @@ use lib.ListN.{getD, take}
 use Rattle.rules.specs.Calls.{starting, looking, Reply, writeSnapshot, loadSnapshot}
 use Rattle.rules.specs.Snapshot.{sorted, snapshotBytes}
 use Rattle.rules.specs.Contract.{Memory, Whole}
-use Rattle.table.specs.View.{view, soundMemory, Performed}
-use Rattle.table.specs.Fitting.{Lent}
+use Rattle.table_view.specs.View.{view, soundMemory, Performed}
+use Rattle.table_view.specs.Fitting.{Lent}
 
 -- a load of s into a memory of right lengths, with the reply r, which leaves m
 pub record Loaded (s : List ℕ) (r : Reply) (m : Memory) : Type 0 where

@@ -14,8 +14,8 @@ use Rattle.lists.proofs.Tests.{same-or-not, and-intro, and-left, and-right}
 use Rattle.lists.proofs.First.{first-at, some-first}
 use Rattle.lists.proofs.Lists.{every-nil, every-mono, every-ext, none-some, some-at, some-cons}
 use Rattle.lists.proofs.Distinct.{eqb-decides, same-comm, distinct-none, distinct-cons, distinct-at}
-use Rattle.columns.specs.Buckets.{wordBucket}
-use Rattle.columns.proofs.buckets.Marks.{each-one, each-absent}
+use Rattle.table_columns.specs.Buckets.{wordBucket}
+use Rattle.table_columns.proofs.buckets.Marks.{each-one, each-absent}
 use Rattle.identifiers.specs.Index.{climbing, Indexed, Noted, RowOf}
 
 -- ---- lists

@@ -8,7 +8,7 @@ use lib.Dec.{eqb, ltb}
 use Rattle.kinds.specs.declared.Guid.{Guid}
 use Rattle.lists.specs.Lists.{every, nonzero, distinct, among}
 use Rattle.lists.specs.Guids.{nil, sameGuid}
-use Rattle.columns.specs.Buckets.{guidBucket, wordBucket, Marked}
+use Rattle.table_columns.specs.Buckets.{guidBucket, wordBucket, Marked}
 
 -- each number is above the one before it, and the first above a
 unfoldable pub climbing : ℕ → List ℕ → Bool

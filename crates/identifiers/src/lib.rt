@@ -2,8 +2,8 @@
 //
 // An index is a number for each bucket: the row of a word of the bucket, counted from 1. A bucket with 0 shows that no word of the
 // column has it. Which row the others hold decides nothing: its word is compared, and searched for where it is another.
-use columns::buckets;
 use kinds::Guid;
+use table_columns::buckets;
 ghost use mathlib.Core.Path.{_≡_};
 ghost use mathlib.Core.Bool.{true, false, _&&_};
 ghost use mathlib.Core.List.{_++_};
@@ -12,8 +12,8 @@ ghost use lib.ListN.{length, drop};
 ghost use lib.Dec.{eqb};
 ghost use Rattle.lists.specs.Lists.{every, some, nonzero, distinct, among};
 ghost use Rattle.lists.specs.Guids.{sameGuid};
-ghost use Rattle.columns.specs.Guids.{guids};
-ghost use Rattle.columns.specs.Buckets.{wordBucket};
+ghost use Rattle.table_columns.specs.Guids.{guids};
+ghost use Rattle.table_columns.specs.Buckets.{wordBucket};
 ghost use Rattle.identifiers.specs.Index.{climbing, Indexed, Noted, RowOf, lowBucket, MarkedTwice, Entered};
 
 // The bucket of a word among m.
@@ -40,7 +40,7 @@ pub fn note<'a>(rows: &'a mut [u8], col: &'a [u64]) -> bool
         }
         let b = bucket(x, rows.len());
         if rows[b] != 0 {
-            if columns::has(&col[next..], x) {
+            if table_columns::has(&col[next..], x) {
                 return false;
             }
         }
@@ -94,7 +94,7 @@ fn row_of<'a>(rows: &'a [u8], col: &'a [u64], x: u64) -> usize
             return row;
         }
     }
-    columns::index_of(col, x)
+    table_columns::index_of(col, x)
 }
 
 // Each word of a stands in the column.
@@ -154,10 +154,10 @@ fn stands_later<'a>(
 ) -> bool
     ensures { λ r. ⌜ r ≡ some (sameGuid g) (drop from (guids (now (lows .entry)) (now (highs .entry))) ++ guids (now (lows2 .entry)) (now (highs2 .entry))) ⌝ }
 {
-    if columns::has_guid_from(lows, highs, from, g) {
+    if table_columns::has_guid_from(lows, highs, from, g) {
         return true;
     }
-    columns::has_guid(lows2, highs2, g)
+    table_columns::has_guid(lows2, highs2, g)
 }
 
 // A second bucket of a GUID, so that two in one bucket are rarely in one by both.
@@ -187,8 +187,8 @@ pub fn enter_guids<'a>(
     while 0 < i {
         let next = i;
         i -= 1;
-        let g = columns::guid_at(lows, highs, i);
-        if columns::is_nil(g) {
+        let g = table_columns::guid_at(lows, highs, i);
+        if table_columns::is_nil(g) {
             return false;
         }
         let b = buckets::of_guid(g);

@@ -29,9 +29,9 @@ use Rattle.rules.proofs.SoundLaws.{sound-fields}
 use Rattle.rules.proofs.SnapshotSizes.{snapshot-inside}
 use Rattle.rules.specs.Snapshot.{snapshotBytes}
 use Rattle.rules.specs.Contract.{Memory}
-use Rattle.table.specs.View.{view, SoundTable}
-use Rattle.table.specs.Fitting.{Lent}
-use Rattle.table.proofs.Fitting.{view-fits}
+use Rattle.table_view.specs.View.{view, SoundTable}
+use Rattle.table_view.specs.Fitting.{Lent}
+use Rattle.table_view.proofs.Fitting.{view-fits}
 use Rattle.replay_calls.specs.declared.Step.{Step}
 use Rattle.replay_calls.specs.Steps.{CallDone}
 use Rattle.replay_calls.proofs.Alike.{Alike}

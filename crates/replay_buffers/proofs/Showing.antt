@@ -17,11 +17,11 @@ use Rattle.rules.proofs.OneByOne.{length-numbers}
 use Rattle.rules.proofs.Performing.{fit-sound}
 use Rattle.rules.proofs.SoundLaws.{table-made}
 use Rattle.rules.proofs.Stepping.{reply-number, performed-step}
-use Rattle.table.specs.View.{view, SoundTable, Stepped}
+use Rattle.table_view.specs.View.{view, SoundTable, Stepped}
 use Rattle.recording.specs.Statements.{valueCount}
-use Rattle.listing.specs.Listing.{listReply}
-use Rattle.reading.specs.NextStop.{StopFound, placeReply}
-use Rattle.reading.specs.declared.routing.StopPlace.{StopPlace}
+use Rattle.call_lists.specs.Listing.{listReply}
+use Rattle.call_look.specs.NextStop.{StopFound, placeReply}
+use Rattle.call_look.specs.declared.routing.StopPlace.{StopPlace}
 use Rattle.replay_calls.specs.Answers.{answerTo, sameAnswer}
 use Rattle.replay_calls.specs.Steps.{CallDone, answerIn}
 use Rattle.replay_calls.specs.declared.Step.{Step}

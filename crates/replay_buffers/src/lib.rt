@@ -30,7 +30,7 @@ fn shown_step<'a>(
 {
     let numbers = replay_calls::answers(answer, number as u64, a, b, c, d);
     Step {
-        agrees: replay_calls::both(numbers, loading::same_bytes(shown, ours)),
+        agrees: replay_calls::both(numbers, call_load::same_bytes(shown, ours)),
         accepted: number == 0,
     }
 }

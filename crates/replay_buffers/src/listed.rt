@@ -7,8 +7,8 @@ ghost use lib.Dec.{eqb};
 ghost use lib.ListN.{length};
 ghost use Rattle.fields.specs.Fields.{field, zeros};
 ghost use Rattle.rules.specs.Calls.{countList, adding, releasing};
-ghost use Rattle.table.specs.View.{memory, SoundTable};
-ghost use Rattle.listing.specs.Listing.{wayOf};
+ghost use Rattle.table_view.specs.View.{memory, SoundTable};
+ghost use Rattle.call_lists.specs.Listing.{wayOf};
 ghost use Rattle.replay_calls.specs.Steps.{CallDone};
 
 // Code 8: items is the first list.
@@ -95,7 +95,7 @@ fn count_into<'a>(
         (now (answer .entry)) (now (shown .entry)) (memory (now (words .entry)) (now (store .entry)))
         r (memory (now (words .exit)) (now (store .entry))) ⌝ }
 {
-    let number = listing::list_step(words, store, back, client, items, buffer);
+    let number = call_lists::list_step(words, store, back, client, items, buffer);
     let n = written(number, items.len() / 24);
     crate::shown_step(answer, shown, &buffer[..n], number, 0, 0, 0, 0)
 }

@@ -8,7 +8,7 @@ ghost use Rattle.fields.specs.Fields.{field, zeros};
 ghost use Rattle.bindings.specs.Filter.{wordsIn};
 ghost use Rattle.recording.specs.Recording.{numbersOf};
 ghost use Rattle.rules.specs.Calls.{looking, resolve, resolveFiltered, nextStop, writeSnapshot};
-ghost use Rattle.table.specs.View.{memory, SoundTable};
+ghost use Rattle.table_view.specs.View.{memory, SoundTable};
 ghost use Rattle.replay_calls.specs.Steps.{CallDone};
 
 // Code 13.
@@ -46,7 +46,7 @@ fn resolve_into<'a>(
         (now (answer .entry)) (now (shown .entry)) (memory (now (words .entry)) (now (store .entry)))
         r (memory (now (words .entry)) (now (store .entry))) ⌝ }
 {
-    let r = reading::resolve_step(words, store, oxid, buffer);
+    let r = call_look::resolve_step(words, store, oxid, buffer);
     let n = r.length;
     let unknown = r.unknown;
     crate::shown_step(
@@ -106,7 +106,7 @@ fn resolve_filtered_into<'a>(
         (now (answer .entry)) (now (shown .entry)) (memory (now (words .entry)) (now (store .entry)))
         r (memory (now (words .entry)) (now (store .entry))) ⌝ }
 {
-    let r = reading::resolve_filtered_bytes_step(words, store, oxid, protocols, buffer);
+    let r = call_look::resolve_filtered_bytes_step(words, store, oxid, protocols, buffer);
     let n = r.length;
     let unknown = r.unknown;
     crate::shown_step(
@@ -135,7 +135,7 @@ pub fn next_stop<'a>(
         (now (answer .entry)) (now (shown .entry)) (memory (now (words .entry)) (now (store .entry)))
         r (memory (now (words .entry)) (now (store .entry))) ⌝ }
 {
-    let x = reading::next_stop_step(words, store, reference);
+    let x = call_look::next_stop_step(words, store, reference);
     let from = x.from;
     let to = x.to;
     if x.in_store {
@@ -177,7 +177,7 @@ fn write_into<'a>(
         (now (answer .entry)) (now (shown .entry)) (memory (now (words .entry)) (now (store .entry)))
         r (memory (now (words .entry)) (now (store .entry))) ⌝ }
 {
-    let w = saving::write_snapshot_step(words, store, buffer);
+    let w = call_save::write_snapshot_step(words, store, buffer);
     let n = w.length;
     crate::shown_step(answer, shown, &buffer[..n], w.answer, n as u64, 0, 0, 0)
 }

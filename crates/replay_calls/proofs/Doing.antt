@@ -20,7 +20,7 @@ use Rattle.rules.specs.Sound.{sound}
 use Rattle.rules.specs.Contract.{Memory, Whole, rightLengths, lengthsOnly, fit, replyTo}
 use Rattle.rules.proofs.Stepping.{reply-number, performed-step}
 use Rattle.rules.proofs.SoundLaws.{clause-at}
-use Rattle.table.specs.View.{view, SoundTable, Stepped, Performed}
+use Rattle.table_view.specs.View.{view, SoundTable, Stepped, Performed}
 use Rattle.recording.specs.Statements.{valueCount}
 use Rattle.replay_calls.specs.Answers.{answerTo}
 use Rattle.replay_calls.specs.Steps.{numbersAre, CallDone, plainStep}

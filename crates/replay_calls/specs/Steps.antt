@@ -10,7 +10,7 @@ use Rattle.lists.specs.Lists.{holding, tabulate}
 use Rattle.rules.specs.Calls.{Call, Reply}
 use Rattle.rules.specs.Rules.{number}
 use Rattle.rules.specs.Contract.{Memory, Whole}
-use Rattle.table.specs.View.{view, Performed}
+use Rattle.table_view.specs.View.{view, Performed}
 use Rattle.recording.specs.Recording.{Answer, Recorded}
 use Rattle.recording.specs.Statements.{valueCount}
 use Rattle.replay_calls.specs.Answers.{answerTo, sameAnswer}

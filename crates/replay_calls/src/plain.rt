@@ -11,7 +11,7 @@ ghost use Rattle.fields.specs.Fields.{field, guidAt};
 ghost use Rattle.rules.specs.Calls.{starting, looking, editing, reset, enterExporter, removeExporter, enterObject, enterInterface};
 ghost use Rattle.rules.specs.Calls.{add, release, dropClient, simplePing, complexPing, clock, census, members, loadSnapshot};
 ghost use Rattle.recording.specs.Recording.{numbersOf};
-ghost use Rattle.table.specs.View.{memory, SoundTable};
+ghost use Rattle.table_view.specs.View.{memory, SoundTable};
 ghost use Rattle.replay_calls.specs.Steps.{CallDone};
 
 // Code 12.
@@ -27,7 +27,7 @@ pub fn clock<'a>(
         CallDone (editing (clock (field (now (call .entry)) 1 8))) (now (answer .entry)) (now (shown .entry)) (memory (now (words .entry)) (now (store .entry)))
         r (memory (now (words .exit)) (now (store .entry))) ⌝ }
 {
-    let r = leaving::clock_step(words, store, fields::read_u64(call, 1));
+    let r = call_remove::clock_step(words, store, fields::read_u64(call, 1));
     crate::step_of(
         answer,
         shown,
@@ -52,7 +52,7 @@ pub fn drop_client<'a>(
         CallDone (editing (dropClient (field (now (call .entry)) 1 4))) (now (answer .entry)) (now (shown .entry)) (memory (now (words .entry)) (now (store .entry)))
         r (memory (now (words .exit)) (now (store .entry))) ⌝ }
 {
-    let number = counting::drop_client_step(words, store, fields::read_u32(call, 1));
+    let number = call_references::drop_client_step(words, store, fields::read_u32(call, 1));
     crate::step_of(answer, shown, number, 0, 0, 0, 0)
 }
 
@@ -69,7 +69,7 @@ pub fn simple_ping<'a>(
         CallDone (editing (simplePing (field (now (call .entry)) 1 8))) (now (answer .entry)) (now (shown .entry)) (memory (now (words .entry)) (now (store .entry)))
         r (memory (now (words .exit)) (now (store .entry))) ⌝ }
 {
-    let number = pinging::simple_ping_step(words, store, SetId(fields::read_u64(call, 1)));
+    let number = call_ping::simple_ping_step(words, store, SetId(fields::read_u64(call, 1)));
     crate::step_of(answer, shown, number, 0, 0, 0, 0)
 }
 
@@ -87,7 +87,7 @@ pub fn add<'a>(
         (now (answer .entry)) (now (shown .entry)) (memory (now (words .entry)) (now (store .entry)))
         r (memory (now (words .exit)) (now (store .entry))) ⌝ }
 {
-    let number = counting::add_step(
+    let number = call_references::add_step(
         words,
         store,
         fields::read_u32(call, 1),
@@ -112,7 +112,7 @@ pub fn release<'a>(
         (now (answer .entry)) (now (shown .entry)) (memory (now (words .entry)) (now (store .entry)))
         r (memory (now (words .exit)) (now (store .entry))) ⌝ }
 {
-    let r = counting::release_step(
+    let r = call_references::release_step(
         words,
         store,
         fields::read_u32(call, 1),
@@ -149,7 +149,7 @@ pub fn enter_interface<'a>(
     let ipid = fields::read_guid(call, 9);
     let iid = fields::read_guid(call, 25);
     let public = fields::read_u32(call, 41);
-    let number = entering::enter_interface_step(words, store, oid, ipid, iid, public);
+    let number = call_enter::enter_interface_step(words, store, oid, ipid, iid, public);
     crate::step_of(answer, shown, number, 0, 0, 0, 0)
 }
 
@@ -160,7 +160,7 @@ pub fn census<'a>(words: &'a [u64], store: &'a [u8], answer: &'a [u8], shown: &'
         CallDone (looking census) (now (answer .entry)) (now (shown .entry)) (memory (now (words .entry)) (now (store .entry)))
         r (memory (now (words .entry)) (now (store .entry))) ⌝ }
 {
-    let r = reading::census_step(words, store);
+    let r = call_look::census_step(words, store);
     crate::step_of(
         answer,
         shown,
@@ -185,7 +185,7 @@ pub fn remove_exporter<'a>(
         CallDone (editing (removeExporter (field (now (call .entry)) 1 8))) (now (answer .entry)) (now (shown .entry)) (memory (now (words .entry)) (now (store .entry)))
         r (memory (now (words .exit)) (now (store .exit))) ⌝ }
 {
-    let number = leaving::remove_exporter_step(words, store, Oxid(fields::read_u64(call, 1)));
+    let number = call_remove::remove_exporter_step(words, store, Oxid(fields::read_u64(call, 1)));
     crate::step_of(answer, shown, number, 0, 0, 0, 0)
 }
 
@@ -206,7 +206,7 @@ pub fn enter_exporter<'a>(
 {
     let oxid = Oxid(fields::read_u64(call, 1));
     let unknown = fields::read_guid(call, 9);
-    let number = entering::enter_exporter_step(words, store, oxid, unknown, list);
+    let number = call_enter::enter_exporter_step(words, store, oxid, unknown, list);
     crate::step_of(answer, shown, number, 0, 0, 0, 0)
 }
 
@@ -232,7 +232,16 @@ pub fn enter_object<'a>(
     let iid = fields::read_guid(call, 33);
     let public = fields::read_u32(call, 49);
     let mark = recording::byte(call, 53);
-    let number = entering::enter_object_step(words, store, oid, oxid, ipid, iid, public, mark != 0);
+    let number = call_enter::enter_object_step(
+        words,
+        store,
+        oid,
+        oxid,
+        ipid,
+        iid,
+        public,
+        mark != 0,
+    );
     crate::step_of(answer, shown, number, 0, 0, 0, 0)
 }
 
@@ -249,7 +258,7 @@ pub fn reset<'a>(
         CallDone (starting (reset (field (now (call .entry)) 1 8))) (now (answer .entry)) (now (shown .entry)) (memory (now (words .entry)) (now (store .entry)))
         r (memory (now (words .exit)) (now (store .entry))) ⌝ }
 {
-    let number = entering::reset(words, store, fields::read_u64(call, 1));
+    let number = call_enter::reset(words, store, fields::read_u64(call, 1));
     crate::step_of(answer, shown, number, 0, 0, 0, 0)
 }
 
@@ -266,7 +275,7 @@ pub fn load_snapshot<'a>(
         CallDone (starting (loadSnapshot (now (snapshot .entry)))) (now (answer .entry)) (now (shown .entry)) (memory (now (words .entry)) (now (store .entry)))
         r (memory (now (words .exit)) (now (store .exit))) ⌝ }
 {
-    let number = loading::load_snapshot(words, store, snapshot);
+    let number = call_load::load_snapshot(words, store, snapshot);
     crate::step_of(answer, shown, number, 0, 0, 0, 0)
 }
 
@@ -283,7 +292,7 @@ pub fn members<'a>(
         CallDone (looking (members (field (now (call .entry)) 1 8))) (now (answer .entry)) (now (shown .entry)) (memory (now (words .entry)) (now (store .entry)))
         r (memory (now (words .entry)) (now (store .entry))) ⌝ }
 {
-    let r = reading::members_step(words, store, SetId(fields::read_u64(call, 1)));
+    let r = call_look::members_step(words, store, SetId(fields::read_u64(call, 1)));
     crate::step_of(answer, shown, r.answer, r.count as u64, 0, 0, 0)
 }
 
@@ -305,6 +314,6 @@ pub fn complex_ping<'a>(
 {
     let set = SetId(fields::read_u64(call, 1));
     let sequence = fields::read_u16(call, 9);
-    let r = pinging::complex_ping_bytes_step(words, store, set, sequence, adds, deletes);
+    let r = call_ping::complex_ping_bytes_step(words, store, set, sequence, adds, deletes);
     crate::step_of(answer, shown, r.answer, r.set.0, r.backoff as u64, 0, 0)
 }

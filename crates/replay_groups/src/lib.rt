@@ -5,7 +5,7 @@ use replay_calls::plain;
 ghost use mathlib.Core.Path.{_≡_};
 ghost use mathlib.Core.Bool.{true};
 ghost use Prim.Native.Nat.{_≤_};
-ghost use Rattle.table.specs.View.{memory, SoundTable};
+ghost use Rattle.table_view.specs.View.{memory, SoundTable};
 ghost use Rattle.fields.specs.Fields.{field};
 ghost use lib.ListN.{length};
 ghost use Rattle.recording.specs.Recording.{wellFormed};

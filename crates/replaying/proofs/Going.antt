@@ -14,8 +14,8 @@ use Rattle.rules.specs.Rules.{next}
 use Rattle.rules.specs.Contract.{Memory, rightLengths}
 use Rattle.rules.specs.OneByOne.{callsDone}
 use Rattle.rules.proofs.SoundLaws.{table-fields}
-use Rattle.table.specs.View.{view, soundMemory, Performed}
-use Rattle.table.proofs.Counts.{nine-each}
+use Rattle.table_view.specs.View.{view, soundMemory, Performed}
+use Rattle.table_view.proofs.Counts.{nine-each}
 use Rattle.history.specs.Runs.{Run, none, call}
 use Rattle.tally.specs.declared.Tally.{Tally}
 use Rattle.balance.specs.Balance.{heldIn, noTally, after, tallied, tallyOver, Balanced}

@@ -19,7 +19,7 @@ use Rattle.rules.specs.Rules.{next}
 use Rattle.rules.specs.Contract.{Memory, rightLengths}
 use Rattle.rules.specs.Swapping.{Each}
 use Rattle.rules.specs.OneByOne.{callsDone}
-use Rattle.table.specs.View.{view, Performed}
+use Rattle.table_view.specs.View.{view, Performed}
 use Rattle.tally.specs.declared.Tally.{Tally}
 use Rattle.tally.specs.Tallies.{wrapped}
 use Rattle.tally.proofs.Tallies.{kept-small}

@@ -17,7 +17,7 @@ use Rattle.rules.specs.Rules.{number, refusals, next}
 use Rattle.rules.specs.Contract.{Memory, rightLengths, fit}
 use Rattle.rules.specs.OneByOne.{callsDone}
 use Rattle.rules.proofs.Stepping.{reply-number}
-use Rattle.table.specs.View.{view, soundMemory, Performed}
+use Rattle.table_view.specs.View.{view, soundMemory, Performed}
 use Rattle.history.specs.Runs.{Run, none, call}
 use Rattle.history.proofs.Runs.{replied, fit-reply, whole-run}
 use Rattle.tally.specs.declared.Tally.{Tally}

@@ -8,7 +8,7 @@ use Rattle.rules.specs.Calls.{Call, starting, reset, Reply}
 use Rattle.rules.specs.Contract.{Memory}
 use Rattle.rules.specs.Swapping.{Each}
 use Rattle.rules.specs.OneByOne.{callsDone}
-use Rattle.table.specs.View.{view}
+use Rattle.table_view.specs.View.{view}
 use Rattle.history.specs.Runs.{Run, AfterRun}
 use Rattle.recording.specs.Recording.{Recorded, mostRecords}
 use Rattle.recording.specs.Statements.{Given, byLength}

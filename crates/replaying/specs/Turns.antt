@@ -6,7 +6,7 @@ use mathlib.Core.List.{List}
 use lib.ListN.{drop}
 use lib.Dec.{eqb}
 use Rattle.rules.specs.Contract.{Memory, Whole}
-use Rattle.table.specs.View.{view}
+use Rattle.table_view.specs.View.{view}
 use Rattle.tally.specs.declared.Tally.{Tally}
 use Rattle.tally.specs.Tallies.{wrapped}
 use Rattle.balance.specs.Balance.{heldIn}

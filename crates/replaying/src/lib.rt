@@ -6,7 +6,7 @@ use kinds::answer;
 use kinds::limits;
 use tally::Tally;
 ghost use mathlib.Core.Path.{_≡_};
-ghost use Rattle.table.specs.View.{memory};
+ghost use Rattle.table_view.specs.View.{memory};
 ghost use Rattle.balance.specs.Balance.{noTally};
 ghost use Rattle.replaying.specs.Replay.{Replayed};
 

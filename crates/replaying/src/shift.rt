@@ -5,7 +5,7 @@ use tally::Tally;
 ghost use mathlib.Core.Path.{_≡_};
 ghost use mathlib.Core.Bool.{true};
 ghost use lib.ListN.{drop};
-ghost use Rattle.table.specs.View.{view, memory, SoundTable};
+ghost use Rattle.table_view.specs.View.{view, memory, SoundTable};
 ghost use Rattle.rules.specs.Contract.{Whole};
 ghost use Rattle.balance.specs.Balance.{heldIn};
 ghost use Rattle.recording.specs.Recording.{wellFormed, sectionsAt, recordingAnswer};
@@ -57,7 +57,7 @@ pub fn replay_records<'a>(words: &'a mut [u64], store: &'a mut [u8], s: &'a [u8]
     ensures { λ r. ⌜
         Replayed (memory (now (words .entry)) (now (store .entry))) (now (s .entry)) r (memory (now (words .exit)) (now (store .exit))) ⌝ }
 {
-    entering::reset(words, store, 0);
+    call_enter::reset(words, store, 0);
     let mut left = fields::read_u64(s, 0);
     let mut at = 8;
     let mut number = 1;

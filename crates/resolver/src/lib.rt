@@ -1,32 +1,32 @@
 // Every call on the table, with its promise. Each takes the table as it is lent, judges it, refuses it by 1 where it is not sound, and else
 // performs the call's step; a refused call changes nothing. Reset, load and replay start the table anew, and look at lengths only.
-pub use counting::Released;
+pub use call_look::LiveCounts;
+pub use call_look::MemberCount;
+pub use call_look::Resolved;
+pub use call_look::StopPlace;
+pub use call_ping::Pinged;
+pub use call_references::Released;
+pub use call_remove::Expired;
 use fields::Written;
 use kinds::Guid;
 use kinds::Oid;
 use kinds::Oxid;
 use kinds::SetId;
 use kinds::answer;
-pub use leaving::Expired;
-pub use pinging::Pinged;
-pub use reading::LiveCounts;
-pub use reading::MemberCount;
-pub use reading::Resolved;
-pub use reading::StopPlace;
 pub use replaying::Outcome;
 ghost use mathlib.Core.Path.{_≡_};
 ghost use Rattle.kinds.specs.declared.Guid.{Guid};
 ghost use Rattle.rules.specs.Calls.{Call, Edit, Look, Start, adding, numbered, releasing};
 ghost use Rattle.rules.specs.Rules.{number};
-ghost use Rattle.table.specs.View.{Performed, memory, view};
+ghost use Rattle.table_view.specs.View.{Performed, memory, view};
 ghost use Rattle.rules.specs.Contract.{replyTo};
-ghost use Rattle.leaving.specs.Replies.{clockReply};
-ghost use Rattle.counting.specs.Replies.{releaseReply};
-ghost use Rattle.listing.specs.Listing.{listReply};
-ghost use Rattle.pinging.specs.Replies.{pingReply};
-ghost use Rattle.reading.specs.Replies.{censusReply, membersReply, resolveReply};
-ghost use Rattle.reading.specs.NextStop.{StopFound, StopPart};
-ghost use Rattle.saving.specs.Replies.{writtenReply};
+ghost use Rattle.call_remove.specs.Replies.{clockReply};
+ghost use Rattle.call_references.specs.Replies.{releaseReply};
+ghost use Rattle.call_lists.specs.Listing.{listReply};
+ghost use Rattle.call_ping.specs.Replies.{pingReply};
+ghost use Rattle.call_look.specs.Replies.{censusReply, membersReply, resolveReply};
+ghost use Rattle.call_look.specs.NextStop.{StopFound, StopPart};
+ghost use Rattle.call_save.specs.Replies.{writtenReply};
 ghost use Rattle.replaying.specs.Replay.{Replayed};
 
 // Empties the table and sets its clock: 0, or 1 (lengths only).
@@ -35,7 +35,7 @@ pub fn reset<'a>(words: &'a mut [u64], store: &'a [u8], time: u64) -> u32
         Performed (Call.starting (Start.reset time)) (memory (now (words .entry)) (now (store .entry))) (numbered r)
         (memory (now (words .exit)) (now (store .entry))) ⌝ }
 {
-    entering::reset(words, store, time)
+    call_enter::reset(words, store, time)
 }
 
 // Enters an exporter with its remote-unknown IPID and its binding list: 0, or 1; 3; 13; 14; 19; 9.
@@ -50,10 +50,10 @@ pub fn enter_exporter<'a>(
         Performed (Call.editing (Edit.enterExporter (oxid .0) unknown (now (list .entry)))) (memory (now (words .entry)) (now (store .entry)))
         (numbered r) (memory (now (words .exit)) (now (store .exit))) ⌝ }
 {
-    if !judge::sound(words, store) {
+    if !table_judge::sound(words, store) {
         return answer::UNSOUND;
     }
-    entering::enter_exporter_step(words, store, oxid, unknown, list)
+    call_enter::enter_exporter_step(words, store, oxid, unknown, list)
 }
 
 // Enters an object with its first interface: 0, or 1; 3; 4; 7; 9.
@@ -71,10 +71,10 @@ pub fn enter_object<'a>(
         Performed (Call.editing (Edit.enterObject (oid .0) (oxid .0) ipid iid public «no_ping»)) (memory (now (words .entry)) (now (store .entry)))
         (numbered r) (memory (now (words .exit)) (now (store .entry))) ⌝ }
 {
-    if !judge::sound(words, store) {
+    if !table_judge::sound(words, store) {
         return answer::UNSOUND;
     }
-    entering::enter_object_step(words, store, oid, oxid, ipid, iid, public, no_ping)
+    call_enter::enter_object_step(words, store, oid, oxid, ipid, iid, public, no_ping)
 }
 
 // Enters an interface of a live object: 0, or 1; 3; 5; 7; 9.
@@ -90,10 +90,10 @@ pub fn enter_interface<'a>(
         Performed (Call.editing (Edit.enterInterface (oid .0) ipid iid public)) (memory (now (words .entry)) (now (store .entry)))
         (numbered r) (memory (now (words .exit)) (now (store .entry))) ⌝ }
 {
-    if !judge::sound(words, store) {
+    if !table_judge::sound(words, store) {
         return answer::UNSOUND;
     }
-    entering::enter_interface_step(words, store, oid, ipid, iid, public)
+    call_enter::enter_interface_step(words, store, oid, ipid, iid, public)
 }
 
 // Removes an exporter with its objects, their interfaces and memberships: 0, or 1; 4.
@@ -102,10 +102,10 @@ pub fn remove_exporter<'a>(words: &'a mut [u64], store: &'a mut [u8], oxid: Oxid
         Performed (Call.editing (Edit.removeExporter (oxid .0))) (memory (now (words .entry)) (now (store .entry)))
         (numbered r) (memory (now (words .exit)) (now (store .exit))) ⌝ }
 {
-    if !judge::sound(words, store) {
+    if !table_judge::sound(words, store) {
         return answer::UNSOUND;
     }
-    leaving::remove_exporter_step(words, store, oxid)
+    call_remove::remove_exporter_step(words, store, oxid)
 }
 
 // Sets the clock. Sets and pinged objects that were not heard for 360 seconds or more go: 0, or 1; 2.
@@ -114,10 +114,10 @@ pub fn clock<'a>(words: &'a mut [u64], store: &'a [u8], time: u64) -> Expired
         Performed (Call.editing (Edit.clock time)) (memory (now (words .entry)) (now (store .entry)))
         (clockReply r) (memory (now (words .exit)) (now (store .entry))) ⌝ }
 {
-    if !judge::sound(words, store) {
+    if !table_judge::sound(words, store) {
         return Expired::refused(answer::UNSOUND);
     }
-    leaving::clock_step(words, store, time)
+    call_remove::clock_step(words, store, time)
 }
 
 // Adds to the public count of an interface and to the private one of a client: 0, or 1; 20; 6; 8.
@@ -133,10 +133,10 @@ pub fn add<'a>(
         Performed (Call.editing (Edit.add client ipid public private)) (memory (now (words .entry)) (now (store .entry)))
         (numbered r) (memory (now (words .exit)) (now (store .entry))) ⌝ }
 {
-    if !judge::sound(words, store) {
+    if !table_judge::sound(words, store) {
         return answer::UNSOUND;
     }
-    counting::add_step(words, store, client, ipid, public, private)
+    call_references::add_step(words, store, client, ipid, public, private)
 }
 
 // Gives references back: the public count and the client's private one fall by the smaller of the asked number and themselves. An
@@ -153,10 +153,10 @@ pub fn release<'a>(
         Performed (Call.editing (Edit.release client ipid public private)) (memory (now (words .entry)) (now (store .entry)))
         (releaseReply r) (memory (now (words .exit)) (now (store .entry))) ⌝ }
 {
-    if !judge::sound(words, store) {
+    if !table_judge::sound(words, store) {
         return Released::refused(answer::UNSOUND);
     }
-    counting::release_step(words, store, client, ipid, public, private)
+    call_references::release_step(words, store, client, ipid, public, private)
 }
 
 // Drops every private reference of a client. What is left without references goes as in a release: 0, or 1; 20.
@@ -165,10 +165,10 @@ pub fn drop_client<'a>(words: &'a mut [u64], store: &'a [u8], client: u32) -> u3
         Performed (Call.editing (Edit.dropClient client)) (memory (now (words .entry)) (now (store .entry)))
         (numbered r) (memory (now (words .exit)) (now (store .entry))) ⌝ }
 {
-    if !judge::sound(words, store) {
+    if !table_judge::sound(words, store) {
         return answer::UNSOUND;
     }
-    counting::drop_client_step(words, store, client)
+    call_references::drop_client_step(words, store, client)
 }
 
 // Adds references by a list of items for a client, and writes the number of each item to its byte of buffer, whose rest is kept:
@@ -184,10 +184,10 @@ pub fn add_list<'a>(
         Performed (Call.countList adding client (now (items .entry)) (now (buffer .entry))) (memory (now (words .entry)) (now (store .entry)))
         (listReply r (now (buffer .exit))) (memory (now (words .exit)) (now (store .entry))) ⌝ }
 {
-    if !judge::sound(words, store) {
+    if !table_judge::sound(words, store) {
         return answer::UNSOUND;
     }
-    listing::list_step(words, store, false, client, items, buffer)
+    call_lists::list_step(words, store, false, client, items, buffer)
 }
 
 // Gives references back by a list of items, likewise.
@@ -202,10 +202,10 @@ pub fn release_list<'a>(
         Performed (Call.countList releasing client (now (items .entry)) (now (buffer .entry))) (memory (now (words .entry)) (now (store .entry)))
         (listReply r (now (buffer .exit))) (memory (now (words .exit)) (now (store .entry))) ⌝ }
 {
-    if !judge::sound(words, store) {
+    if !table_judge::sound(words, store) {
         return answer::UNSOUND;
     }
-    listing::list_step(words, store, true, client, items, buffer)
+    call_lists::list_step(words, store, true, client, items, buffer)
 }
 
 // Pings a set: 0, or 1; 11.
@@ -214,10 +214,10 @@ pub fn simple_ping<'a>(words: &'a mut [u64], store: &'a [u8], set: SetId) -> u32
         Performed (Call.editing (Edit.simplePing (set .0))) (memory (now (words .entry)) (now (store .entry)))
         (numbered r) (memory (now (words .exit)) (now (store .entry))) ⌝ }
 {
-    if !judge::sound(words, store) {
+    if !table_judge::sound(words, store) {
         return answer::UNSOUND;
     }
-    pinging::simple_ping_step(words, store, set)
+    call_ping::simple_ping_step(words, store, set)
 }
 
 // Adds objects to a set, takes objects out of it and pings it; for set 0 a set is made: 0, or 1; 10; of a set other than 0: 11; 12; 5;
@@ -234,10 +234,10 @@ pub fn complex_ping<'a>(
         Performed (Call.editing (Edit.complexPing (set .0) sequence (now (adds .entry)) (now (deletes .entry))))
         (memory (now (words .entry)) (now (store .entry))) (pingReply r) (memory (now (words .exit)) (now (store .entry))) ⌝ }
 {
-    if !judge::sound(words, store) {
+    if !table_judge::sound(words, store) {
         return Pinged::refused(answer::UNSOUND);
     }
-    pinging::complex_ping_step(words, store, set, sequence, adds, deletes)
+    call_ping::complex_ping_step(words, store, set, sequence, adds, deletes)
 }
 
 // The live number of each kind: 0, or 1.
@@ -246,7 +246,7 @@ pub fn census<'a>(words: &'a [u64], store: &'a [u8]) -> LiveCounts
         Performed (Call.looking Look.census) (memory (now (words .entry)) (now (store .entry))) (censusReply r)
         (memory (now (words .entry)) (now (store .entry))) ⌝ }
 {
-    if !judge::sound(words, store) {
+    if !table_judge::sound(words, store) {
         return LiveCounts {
             answer: answer::UNSOUND,
             exporters: 0,
@@ -255,7 +255,7 @@ pub fn census<'a>(words: &'a [u64], store: &'a [u8]) -> LiveCounts
             sets: 0,
         };
     }
-    reading::census_step(words, store)
+    call_look::census_step(words, store)
 }
 
 // The number of members of a set: 0, or 1; 11.
@@ -264,13 +264,13 @@ pub fn members<'a>(words: &'a [u64], store: &'a [u8], set: SetId) -> MemberCount
         Performed (Call.looking (Look.members (set .0))) (memory (now (words .entry)) (now (store .entry))) (membersReply r)
         (memory (now (words .entry)) (now (store .entry))) ⌝ }
 {
-    if !judge::sound(words, store) {
+    if !table_judge::sound(words, store) {
         return MemberCount {
             answer: answer::UNSOUND,
             count: 0,
         };
     }
-    reading::members_step(words, store, set)
+    call_look::members_step(words, store, set)
 }
 
 // Writes an exporter's binding list at the front of buffer and keeps the rest: 0, or 1; 4; 15.
@@ -279,10 +279,10 @@ pub fn resolve<'a>(words: &'a [u64], store: &'a [u8], oxid: Oxid, buffer: &'a mu
         Performed (Call.looking (Look.resolve (oxid .0) (now (buffer .entry)))) (memory (now (words .entry)) (now (store .entry)))
         (resolveReply r (now (buffer .exit))) (memory (now (words .entry)) (now (store .entry))) ⌝ }
 {
-    if !judge::sound(words, store) {
+    if !table_judge::sound(words, store) {
         return Resolved::refused(answer::UNSOUND);
     }
-    reading::resolve_step(words, store, oxid, buffer)
+    call_look::resolve_step(words, store, oxid, buffer)
 }
 
 // The same of the list with only the string bindings whose tower is requested: 0, or 1; 10; 4; 15.
@@ -297,20 +297,20 @@ pub fn resolve_filtered<'a>(
         Performed (Call.looking (Look.resolveFiltered (oxid .0) (now (protocols .entry)) (now (buffer .entry)))) (memory (now (words .entry)) (now (store .entry)))
         (resolveReply r (now (buffer .exit))) (memory (now (words .entry)) (now (store .entry))) ⌝ }
 {
-    if !judge::sound(words, store) {
+    if !table_judge::sound(words, store) {
         return Resolved::refused(answer::UNSOUND);
     }
-    reading::resolve_filtered_step(words, store, oxid, protocols, buffer)
+    call_look::resolve_filtered_step(words, store, oxid, protocols, buffer)
 }
 
 // Where the next stop stands: 0, or 1; the reference's 13, 14, 21 or 22; 14 for a custom reference.
 pub fn next_stop_place<'a>(words: &'a [u64], store: &'a [u8], reference: &'a [u8]) -> StopPlace
     ensures { λ r. ⌜ StopFound (memory (now (words .entry)) (now (store .entry))) (now (reference .entry)) r ⌝ }
 {
-    if !judge::sound(words, store) {
+    if !table_judge::sound(words, store) {
         return StopPlace::refused(answer::UNSOUND);
     }
-    reading::next_stop_step(words, store, reference)
+    call_look::next_stop_step(words, store, reference)
 }
 
 // The number of the next stop, as above.
@@ -343,10 +343,10 @@ pub fn write_snapshot<'a>(words: &'a [u64], store: &'a [u8], buffer: &'a mut [u8
         Performed (Call.looking (Look.writeSnapshot (now (buffer .entry)))) (memory (now (words .entry)) (now (store .entry)))
         (writtenReply r (now (buffer .exit))) (memory (now (words .entry)) (now (store .entry))) ⌝ }
 {
-    if !judge::sound(words, store) {
-        return saving::refused(answer::UNSOUND);
+    if !table_judge::sound(words, store) {
+        return call_save::refused(answer::UNSOUND);
     }
-    saving::write_snapshot_step(words, store, buffer)
+    call_save::write_snapshot_step(words, store, buffer)
 }
 
 // Loads a snapshot: 0, or 1 (lengths only); 23.
@@ -355,7 +355,7 @@ pub fn load_snapshot<'a>(words: &'a mut [u64], store: &'a mut [u8], snapshot: &'
         Performed (Call.starting (Start.loadSnapshot (now (snapshot .entry)))) (memory (now (words .entry)) (now (store .entry))) (numbered r)
         (memory (now (words .exit)) (now (store .exit))) ⌝ }
 {
-    loading::load_snapshot(words, store, snapshot)
+    call_load::load_snapshot(words, store, snapshot)
 }
 
 // Replays a recorded shift from a reset at 0: 0, or 1 (lengths only); 13; 14; 10.

@@ -30,7 +30,7 @@ fn report(s: &[u8]) {
 fn load(s: &[u8]) -> u32 {
     let mut words = [0u64; limits::WORDS];
     let mut store = [0u8; limits::BYTES];
-    loading::load_snapshot(&mut words, &mut store, s)
+    call_load::load_snapshot(&mut words, &mut store, s)
 }
 
 fn refused(number: u32) {

@@ -10,8 +10,8 @@ use Rattle.lists.specs.Lists.{every, tabulate, holding}
 use Rattle.rules.specs.Entries.{PingSet, Entries, exporterPlaces, objectPlaces, interfacePlaces, setPlaces, oids}
 use Rattle.rules.specs.Sound.{listsKept, listsInside}
 use Rattle.rules.specs.Snapshot.{readExporter, readObject, readInterface, readSet}
-use Rattle.table.specs.View.{memberValues}
-use Rattle.edit.specs.Edits.{addExporter, addObject, addInterface, addSet}
+use Rattle.table_view.specs.View.{memberValues}
+use Rattle.table_edit.specs.Edits.{addExporter, addObject, addInterface, addSet}
 use Rattle.snapshot_rows.specs.declared.Section.{Section}
 use Rattle.snapshot_rows.specs.declared.Section.the-variants.{Exporters, Objects, Interfaces, Sets}
 use Rattle.snapshot_reader.specs.declared.rows.Row.{Row}

@@ -1,12 +1,12 @@
 // The rows of a snapshot, read into a table.
-use columns::members::Members;
 use kinds::Oid;
 use kinds::Oxid;
 use kinds::SetId;
 use kinds::answer;
 use kinds::limits;
 use snapshot_rows::Section;
-use table::find;
+use table_columns::members::Members;
+use table_view::find;
 ghost use mathlib.Core.Path.{_≡_};
 ghost use mathlib.Core.Bool.{true, false, cond, _&&_};
 ghost use mathlib.Core.List.{List};
@@ -16,8 +16,8 @@ ghost use lib.Dec.{eqb, ltb};
 ghost use Rattle.kinds.specs.declared.Guid.{Guid};
 ghost use Rattle.fields.specs.Fields.{field};
 ghost use Rattle.rules.specs.Contract.{Whole};
-ghost use Rattle.table.specs.View.{memory, view, oidsOf, objectCount, Holds};
-ghost use Rattle.edit.specs.Edits.{addExporter};
+ghost use Rattle.table_view.specs.View.{memory, view, oidsOf, objectCount, Holds};
+ghost use Rattle.table_edit.specs.Edits.{addExporter};
 ghost use Rattle.snapshot_rows.specs.declared.Section.the-variants.{Exporters, Objects, Interfaces, Sets};
 ghost use Rattle.snapshot_reader.specs.ReadRows.{fits, RowRead, membersIn, MembersFound};
 
@@ -52,7 +52,7 @@ fn has_room<'a>(words: &'a [u64], store: &'a [u8], list: &'a [u8]) -> bool
         ((x : ℕ) (u : Guid) →
         r ≡ fits Exporters (addExporter (record { oxid = x; unknown = u; bindings = now (list .entry) }) (view (memory (now (words .entry)) (now (store .entry)))))) ⌝ }
 {
-    entering::list_number(words, store, list) == answer::DONE
+    call_enter::list_number(words, store, list) == answer::DONE
 }
 
 // OXID, remote-unknown IPID, list length, list.
@@ -71,7 +71,7 @@ fn read_exporter<'a>(words: &'a mut [u64], store: &'a mut [u8], s: &'a [u8]) -> 
     }
     let oxid = Oxid(fields::read_u64(s, 0));
     let unknown = fields::read_guid(s, 8);
-    edit::put_exporter(words, store, oxid, unknown, list);
+    table_edit::put_exporter(words, store, oxid, unknown, list);
     Row {
         read: true,
         length: to,
@@ -92,7 +92,7 @@ fn read_object<'a>(words: &'a mut [u64], s: &'a [u8]) -> Row
     let exporter = Oxid(fields::read_u64(s, 8));
     let no_ping = !fields::is_zero(s, 16, 1);
     let heard = fields::read_u64(s, 17);
-    edit::add_object(words, oid, exporter, no_ping, heard);
+    table_edit::add_object(words, oid, exporter, no_ping, heard);
     Row {
         read: true,
         length: fields::within(s, 25),
@@ -123,7 +123,7 @@ fn read_interface<'a>(words: &'a mut [u64], s: &'a [u8]) -> Row
         fields::read_u32(s, 68),
         fields::read_u32(s, 72),
     ];
-    edit::add_interface(words, ipid, iid, object, &counts);
+    table_edit::add_interface(words, ipid, iid, object, &counts);
     Row {
         read: true,
         length: fields::within(s, 76),
@@ -189,7 +189,7 @@ fn read_set<'a>(words: &'a mut [u64], s: &'a [u8]) -> Row
     let sequence = fields::read_u16(s, 8);
     let pinged = fields::read_u64(s, 10);
     let members = found.members;
-    edit::add_set(words, number, sequence, pinged, members);
+    table_edit::add_set(words, number, sequence, pinged, members);
     Row {
         read: true,
         length: fields::within(s, 20 + 8 * n),

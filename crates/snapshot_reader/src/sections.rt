@@ -10,7 +10,7 @@ ghost use lib.ListN.{length};
 ghost use Rattle.fields.specs.Fields.{field};
 ghost use Rattle.rules.specs.Contract.{Whole};
 ghost use Rattle.rules.specs.Swapping.{longestSnapshot};
-ghost use Rattle.table.specs.View.{memory, view};
+ghost use Rattle.table_view.specs.View.{memory, view};
 ghost use Rattle.snapshot_reader.specs.ReadRows.{fits};
 ghost use Rattle.snapshot_reader.specs.ReadSections.{begun, SectionRead, TableRead};
 
@@ -89,7 +89,7 @@ pub fn read_table<'a>(words: &'a mut [u64], store: &'a mut [u8], s: &'a [u8]) ->
     if fields::read_u16(s, 0) != 2 {
         return false;
     }
-    edit::clear(words, fields::read_u64(s, 2));
-    edit::set_next(words, SetId(fields::read_u64(s, 10)));
+    table_edit::clear(words, fields::read_u64(s, 2));
+    table_edit::set_next(words, SetId(fields::read_u64(s, 10)));
     read_sections(words, store, s, fields::within(s, 18))
 }

@@ -11,7 +11,7 @@ use Rattle.fields.specs.Fields.{written}
 use Rattle.fields.proofs.Fields.{written-none, written-two, length-written}
 use Rattle.lists.specs.Lists.{every}
 use Rattle.lists.proofs.Lists.{every-at}
-use Rattle.columns.proofs.Loops.{column-step, column-end}
+use Rattle.table_columns.proofs.Loops.{column-step, column-end}
 use Rattle.rules.specs.Snapshot.{inRow}
 use Rattle.snapshot_rows.specs.Writing.{Room, Wrote}
 

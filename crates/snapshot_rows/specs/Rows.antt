@@ -6,14 +6,14 @@ use mathlib.Core.List.{List, [], map}
 use lib.ListN.{getD}
 use Rattle.fields.specs.Fields.{encode}
 use Rattle.lists.specs.Order.{rising}
-use Rattle.columns.specs.Members.{hasMember}
-use Rattle.columns.specs.declared.members.Members.{Members}
+use Rattle.table_columns.specs.Members.{hasMember}
+use Rattle.table_columns.specs.declared.members.Members.{Members}
 use Rattle.rules.specs.Entries.{Object, countOf}
 use Rattle.rules.specs.Rules.{noExporter, noObject, noInterface, noSet}
 use Rattle.rules.specs.Snapshot.{objectBefore, membersInOrder, exporterBytes, objectBytes, interfaceBytes, setBytes}
 use Rattle.rules.specs.Sound.{proper}
 use Rattle.rules.specs.Contract.{Whole}
-use Rattle.table.specs.View.{exporterCount, objectCount, interfaceCount, setCount, exportersOf, objectsOf, interfacesOf, setsOf, oidsOf, membersBelow}
+use Rattle.table_view.specs.View.{exporterCount, objectCount, interfaceCount, setCount, exportersOf, objectsOf, interfacesOf, setsOf, oidsOf, membersBelow}
 use Rattle.snapshot_rows.specs.declared.Section.{Section}
 use Rattle.snapshot_rows.specs.declared.Section.the-variants.{Exporters, Objects, Interfaces, Sets}
 use Rattle.snapshot_rows.specs.Keys.{InOrder}

@@ -1,7 +1,7 @@
 // The bytes of one entry. Each function answers the place behind what it wrote.
 use crate::Section;
-use columns::members::Members;
-use table::find;
+use table_columns::members::Members;
+use table_view::find;
 ghost use mathlib.Core.Path.{_≡_};
 ghost use mathlib.Core.Bool.{true, cond};
 ghost use Prim.Native.Nat.{_<_};
@@ -11,7 +11,7 @@ ghost use Rattle.fields.specs.Fields.{encode, written};
 ghost use Rattle.lists.specs.Lists.{every, tabulate};
 ghost use Rattle.rules.specs.Contract.{Whole};
 ghost use Rattle.rules.specs.Snapshot.{inRow};
-ghost use Rattle.table.specs.View.{memory, SoundTable, exporterCount, objectCount, interfaceCount, setCount};
+ghost use Rattle.table_view.specs.View.{memory, SoundTable, exporterCount, objectCount, interfaceCount, setCount};
 ghost use Rattle.snapshot_rows.specs.Writing.{Room, Wrote};
 ghost use Rattle.snapshot_rows.specs.Rows.{exporterBytesAt, objectBytesAt, interfaceBytesAt, countBytesAt, memberBytesAt, setBytesAt, ObjectsSorted, rowCount, rowBytes};
 

@@ -1,4 +1,4 @@
-//! Which word of the array and which byte of the store hold what (crates/table/specs/View.antt): the live entries are read from
+//! Which word of the array and which byte of the store hold what (crates/table_view/specs/View.antt): the live entries are read from
 //! there, and put there. No other file here knows a word's number.
 
 use crate::op::halves;

@@ -4,8 +4,8 @@ use mathlib.Core.Path.{_≡_}
 use native.Mathlib.Omega.{arith}
 use lib.ListN.{drop}
 use Rattle.rules.specs.Rules.{noInterface}
-use Rattle.table.specs.View.{interfacesOf}
-use Rattle.table.proofs.LiveRows.{interfaces-length}
+use Rattle.table_view.specs.View.{interfacesOf}
+use Rattle.table_view.proofs.LiveRows.{interfaces-length}
 use Rattle.balance.specs.Balance.{countsHeld}
 use Rattle.balance.proofs.Sums.{held-on, held-past}
 use borrow.Author.Needs.{needs}

@@ -5,8 +5,8 @@ use mathlib.Core.List.{List}
 use native.Mathlib.Omega.{arith}
 use lib.ListN.{getD, drop}
 use Rattle.rules.specs.Rules.{noInterface}
-use Rattle.table.specs.View.{interfacesOf}
-use Rattle.table.proofs.Counts.{nine-counts}
+use Rattle.table_view.specs.View.{interfacesOf}
+use Rattle.table_view.proofs.Counts.{nine-counts}
 use Rattle.balance.specs.Balance.{total}
 use Rattle.balance.proofs.Sums.{total-on, total-past}
 use borrow.Author.Needs.{needs}

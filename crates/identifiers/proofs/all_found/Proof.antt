@@ -4,7 +4,7 @@ use mathlib.Core.Path.{_≡_, refl}
 use borrow.Author.Needs.{needs}
 use lib.ListN.{length, drop}
 use Rattle.lists.specs.Lists.{every, among}
-use Rattle.columns.proofs.Loops.{column-step, column-end, every-passes, every-fails, every-end}
+use Rattle.table_columns.proofs.Loops.{column-step, column-end, every-passes, every-fails, every-end}
 use Rattle.identifiers.proofs.Laws.{row-here}
 use Rattle.identifiers.proofs.all_found.Statement.{statement}
 use Rattle.identifiers.proofs.all_found.Tie as tie

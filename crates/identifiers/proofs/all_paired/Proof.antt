@@ -7,7 +7,7 @@ use borrow.Author.Needs.{needs}
 use lib.ListN.{length, drop, length-set, length-replicate, getD-replicate}
 use lib.Seq.{length-take-le}
 use Rattle.lists.specs.Lists.{every, among}
-use Rattle.columns.proofs.Loops.{column-step, column-end, every-passes, every-fails, every-end}
+use Rattle.table_columns.proofs.Loops.{column-step, column-end, every-passes, every-fails, every-end}
 use Rattle.identifiers.proofs.Laws.{Met, met-one, met-all, row-here}
 use Rattle.identifiers.proofs.all_paired.Statement.{statement}
 use Rattle.identifiers.proofs.all_paired.Tie as tie

@@ -6,7 +6,7 @@ use borrow.Author.Needs.{needs}
 use borrow.Author.Tests.{not-true, not-false}
 use lib.ListN.{length, drop}
 use Rattle.lists.specs.Lists.{every}
-use Rattle.columns.proofs.Loops.{column-step, column-end, every-passes, every-fails, every-end}
+use Rattle.table_columns.proofs.Loops.{column-step, column-end, every-passes, every-fails, every-end}
 use Rattle.identifiers.proofs.all_true.Statement.{statement}
 use Rattle.identifiers.proofs.all_true.Tie as tie
 

@@ -3,7 +3,7 @@ use Prim.Native.Nat.{_-_}
 use mathlib.Core.Path.{_≡_, refl}
 use borrow.Author.Needs.{needs}
 use lib.ListN.{length, drop}
-use Rattle.columns.proofs.Loops.{column-step, column-end}
+use Rattle.table_columns.proofs.Loops.{column-step, column-end}
 use Rattle.identifiers.specs.Index.{climbing}
 use Rattle.identifiers.proofs.Laws.{climbs-on, climbs-not, climbs-end}
 use Rattle.identifiers.proofs.climbs.Statement.{statement}

@@ -5,8 +5,8 @@ use mathlib.Core.Logic.{⊎-elim}
 use native.Mathlib.Omega.{arith}
 use borrow.Author.Needs.{needs}
 use lib.ListN.{length, drop}
-use Rattle.columns.specs.Guids.{guids}
-use Rattle.columns.proofs.GuidColumns.{guids-last, guids-end}
+use Rattle.table_columns.specs.Guids.{guids}
+use Rattle.table_columns.proofs.GuidColumns.{guids-last, guids-end}
 use Rattle.identifiers.proofs.Guids.{Before, unmarked-first, unmarked-second, before-none, before-one, before-nil, before-repeated, before-all}
 use Rattle.identifiers.proofs.enter_guids.Statement.{statement}
 use Rattle.identifiers.proofs.enter_guids.Tie as tie

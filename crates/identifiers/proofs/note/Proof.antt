@@ -9,8 +9,8 @@ use borrow.Author.Tests.{eq-eqb, ne-eqb}
 use lib.Dec.{eqb}
 use lib.ListN.{length, drop, getD, length-set}
 use Rattle.lists.specs.Lists.{some, nonzero, distinct}
-use Rattle.columns.proofs.Loops.{last-step, column-end, tail-part, told}
-use Rattle.columns.proofs.buckets.Marks.{repeated}
+use Rattle.table_columns.proofs.Loops.{last-step, column-end, tail-part, told}
+use Rattle.table_columns.proofs.buckets.Marks.{repeated}
 use Rattle.identifiers.proofs.Laws.{Taken, taken-none, taken-one, unindexed, noted-not, fails-at}
 use Rattle.identifiers.proofs.note.Statement.{statement}
 use Rattle.identifiers.proofs.note.Tie as tie

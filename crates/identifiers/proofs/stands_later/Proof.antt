@@ -4,7 +4,7 @@ use borrow.Author.Needs.{needs}
 use lib.ListN.{drop}
 use Rattle.lists.specs.Guids.{sameGuid}
 use Rattle.lists.proofs.Lists.{some-append}
-use Rattle.columns.specs.Guids.{guids}
+use Rattle.table_columns.specs.Guids.{guids}
 use Rattle.identifiers.proofs.stands_later.Statement.{statement}
 use Rattle.identifiers.proofs.stands_later.Tie as tie
 

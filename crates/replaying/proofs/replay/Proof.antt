@@ -6,7 +6,7 @@ use borrow.Author.Tests.{eq-eqb, ne-eqb}
 use lib.ListN.{length}
 use lib.Dec.{eqb}
 use Rattle.rules.specs.Contract.{rightLengths}
-use Rattle.table.specs.View.{memory}
+use Rattle.table_view.specs.View.{memory}
 use Rattle.replaying.specs.Replay.{Replayed}
 use Rattle.replaying.specs.declared.Outcome.{Outcome}
 use Rattle.replaying.proofs.Going.{replayed-refused}

@@ -1,5 +1,5 @@
 -- `resolver::next_stop`: the bytes of the place, in the store or in the reference.
-use Rattle.reading.proofs.Stopping.{found-part}
+use Rattle.call_look.proofs.Stopping.{found-part}
 use borrow.Author.Needs.{needs}
 use Rattle.resolver.proofs.next_stop.Statement.{statement}
 use Rattle.resolver.proofs.next_stop.Tie as tie

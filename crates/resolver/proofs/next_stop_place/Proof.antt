@@ -1,8 +1,8 @@
 -- `resolver::next_stop_place`: a table that is not sound is refused; else the step is the call.
 use mathlib.Core.Path.{refl}
 use native.Mathlib.Omega.{arith}
-use Rattle.table.proofs.Steps.{sound-table, unsound-call}
-use Rattle.reading.proofs.Stopping.{refused-stop}
+use Rattle.table_view.proofs.Steps.{sound-table, unsound-call}
+use Rattle.call_look.proofs.Stopping.{refused-stop}
 use borrow.Author.Needs.{needs}
 use Rattle.resolver.proofs.next_stop_place.Statement.{statement}
 use Rattle.resolver.proofs.next_stop_place.Tie as tie

@@ -14,12 +14,12 @@ use Rattle.rules.specs.Entries.{Exporter, PingSet, Entries, setPlaces}
 use Rattle.rules.specs.Sound.{storeBytes, listsKept}
 use Rattle.rules.specs.Snapshot.{Front, readExporter, readSet}
 use Rattle.rules.proofs.SoundLaws.{clause-at}
-use Rattle.table.specs.View.{exporterCount, setCount, listStart, oidsOf, setsOf, memory, view, membersBelow}
-use Rattle.edit.specs.Edits.{addExporter, addSet}
-use Rattle.table.proofs.LiveRows.{exporters-length, sets-length}
-use Rattle.table.proofs.KeptLists.{bytes-live}
-use Rattle.entering.proofs.Places.{list-fits}
-use Rattle.table.proofs.MemberRows.{below-from}
+use Rattle.table_view.specs.View.{exporterCount, setCount, listStart, oidsOf, setsOf, memory, view, membersBelow}
+use Rattle.table_edit.specs.Edits.{addExporter, addSet}
+use Rattle.table_view.proofs.LiveRows.{exporters-length, sets-length}
+use Rattle.table_view.proofs.KeptLists.{bytes-live}
+use Rattle.call_enter.proofs.Places.{list-fits}
+use Rattle.table_view.proofs.MemberRows.{below-from}
 use Rattle.snapshot_rows.specs.declared.Section.the-variants.{Exporters, Objects, Sets}
 use Rattle.snapshot_reader.specs.declared.rows.Found.{Found}
 use Rattle.snapshot_reader.specs.ReadRows.{withRow, afterRow, inOrder, fits, membersIn, MembersFound}

@@ -20,8 +20,8 @@ use Rattle.rules.specs.Sound.{longestList, storeBytes}
 use Rattle.rules.specs.Snapshot.{readExporter, readObject, readInterface, readSet}
 use Rattle.rules.proofs.ListsLength.{bytes-snoc}
 use Rattle.rules.proofs.SoundLaws.{clause-at, none, _and_}
-use Rattle.entering.proofs.Places.{list-fits, fits-list}
-use Rattle.edit.specs.Edits.{addExporter, addObject, addInterface, addSet}
+use Rattle.call_enter.proofs.Places.{list-fits, fits-list}
+use Rattle.table_edit.specs.Edits.{addExporter, addObject, addInterface, addSet}
 use Rattle.snapshot_rows.specs.declared.Section.{Section}
 use Rattle.snapshot_rows.specs.declared.Section.the-variants.{Exporters, Objects, Interfaces, Sets}
 use Rattle.snapshot_reader.specs.declared.rows.Row.{Row}

@@ -15,10 +15,10 @@ use Rattle.kinds.proofs.Refusing.{true-false, same-test, by-test}
 use Rattle.lists.specs.Lists.{keep, tabulate}
 use Rattle.lists.proofs.Tests.{true-or-false, below-or-not, and-left, and-right}
 use Rattle.lists.proofs.Lists.{keep-ext-on, every-tabulate, map-append, length-tabulate, getD-tabulate}
-use Rattle.columns.specs.Members.{hasMember, MemberPut}
-use Rattle.columns.specs.declared.members.Members.{Members}
-use Rattle.columns.proofs.members.Bits.{keep-next, below-holds, members-below}
-use Rattle.columns.proofs.members.Making.{zero-member}
+use Rattle.table_columns.specs.Members.{hasMember, MemberPut}
+use Rattle.table_columns.specs.declared.members.Members.{Members}
+use Rattle.table_columns.proofs.members.Bits.{keep-next, below-holds, members-below}
+use Rattle.table_columns.proofs.members.Making.{zero-member}
 use Rattle.snapshot_reader.specs.ReadRows.{passed, inOrder, membersIn, MembersFound}
 
 -- ---- members in the order of the objects

@@ -16,15 +16,15 @@ use Rattle.bindings.specs.Bindings.{joined, listAnswer}
 use Rattle.lists.specs.Lists.{tabulate}
 use Rattle.lists.proofs.Tests.{and-right}
 use Rattle.lists.proofs.Lists.{every-at, tabulate-getD, map-tabulate}
-use Rattle.columns.proofs.Loops.{table-step, table-end}
+use Rattle.table_columns.proofs.Loops.{table-step, table-end}
 use Rattle.rules.specs.Entries.{Exporter, Object, Interface, PingSet}
 use Rattle.rules.specs.Rules.{noExporter}
 use Rattle.rules.specs.Sound.{longestList, listsKept}
 use Rattle.rules.specs.Snapshot.{inRow, exporterBytes, objectBytes, interfaceBytes, setBytes}
 use Rattle.rules.proofs.SnapshotReading.{length-numbers}
 use Rattle.rules.proofs.SnapshotSizes.{interface-size, set-size}
-use Rattle.table.specs.View.{exporterCount, exportersOf, memory, view}
-use Rattle.table.proofs.LiveRows.{exporters-length}
+use Rattle.table_view.specs.View.{exporterCount, exportersOf, memory, view}
+use Rattle.table_view.proofs.LiveRows.{exporters-length}
 use Rattle.snapshot_rows.specs.Writing.{Room, Wrote}
 use Rattle.snapshot_rows.proofs.Writing.{left-all, left-same, left-step, left-none, row-map, row-none}
 

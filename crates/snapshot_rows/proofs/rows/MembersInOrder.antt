@@ -14,14 +14,14 @@ use Rattle.lists.specs.Order.{rising}
 use Rattle.lists.proofs.Tests.{true-or-false, and-left, and-right}
 use Rattle.lists.proofs.Lists.{keep-map, length-keep, length-tabulate, map-map}
 use Rattle.lists.proofs.Rising.{kept-rising}
-use Rattle.columns.specs.Members.{hasMember, memberRows}
-use Rattle.columns.specs.declared.members.Members.{Members}
+use Rattle.table_columns.specs.Members.{hasMember, memberRows}
+use Rattle.table_columns.specs.declared.members.Members.{Members}
 use Rattle.rules.specs.Entries.{Object}
 use Rattle.rules.specs.Rules.{noObject, noSet}
 use Rattle.rules.specs.Snapshot.{objectBefore, inRow}
-use Rattle.table.specs.View.{setCount, objectsOf, setsOf, membersAt}
-use Rattle.table.proofs.LiveRows.{objects-length}
-use Rattle.table.proofs.MemberLaws.{object-member, row-ordered, row-size}
+use Rattle.table_view.specs.View.{setCount, objectsOf, setsOf, membersAt}
+use Rattle.table_view.proofs.LiveRows.{objects-length}
+use Rattle.table_view.proofs.MemberLaws.{object-member, row-ordered, row-size}
 use Rattle.snapshot_rows.specs.Rows.{memberBytesAt, risingOids, ObjectsSorted}
 use Rattle.snapshot_rows.proofs.Writing.{row-map}
 

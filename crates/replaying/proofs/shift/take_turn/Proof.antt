@@ -3,7 +3,7 @@ use mathlib.Core.Path.{_≡_, refl, sym, ap, _∙_, subst}
 use native.Mathlib.Omega.{arith}
 use lib.ListN.{drop}
 use Rattle.tally.specs.Tallies.{wrapped}
-use Rattle.table.specs.View.{memory}
+use Rattle.table_view.specs.View.{memory}
 use Rattle.balance.specs.Sides.{sideOf, moved}
 use Rattle.recording.specs.Recording.{Sections, codeOf, callOf, wellFormed, sectionsAt}
 use Rattle.recording.specs.declared.Ends.{Ends}

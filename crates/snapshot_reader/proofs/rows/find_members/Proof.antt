@@ -6,8 +6,8 @@ use native.Mathlib.Omega.{arith}
 use lib.ListN.{length, getD}
 use borrow.Author.Needs.{needs}
 use Rattle.lists.proofs.Lists.{length-tabulate}
-use Rattle.table.specs.View.{oidsOf}
-use Rattle.table.proofs.MemberRows.{oids-length}
+use Rattle.table_view.specs.View.{oidsOf}
+use Rattle.table_view.proofs.MemberRows.{oids-length}
 use Rattle.snapshot_reader.specs.ReadRows.{membersIn}
 use Rattle.snapshot_reader.proofs.rows.Walk.{Walked, walk-begun, walk-step, walk-ended, member-tested}
 use Rattle.snapshot_reader.proofs.rows.find_members.Statement.{statement}

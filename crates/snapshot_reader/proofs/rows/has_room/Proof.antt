@@ -2,7 +2,7 @@
 use mathlib.Core.Path.{sym, ap, _∙_}
 use lib.Dec.{eqb}
 use Prim.Native.Nat.{ℕ}
-use Rattle.table.specs.View.{memory, view}
+use Rattle.table_view.specs.View.{memory, view}
 use Rattle.snapshot_reader.proofs.rows.SectionFits.{exporter-fits}
 use Rattle.snapshot_reader.proofs.rows.Reading.{lists-kept}
 use borrow.Author.Needs.{needs}

@@ -5,8 +5,8 @@ use lib.Dec.{eqb}
 use Rattle.lists.proofs.Lists.{getD-map}
 use Rattle.rules.specs.Entries.{Object}
 use Rattle.rules.specs.Rules.{noObject}
-use Rattle.table.specs.View.{objectsOf}
-use Rattle.table.proofs.LiveRows.{objects-length}
+use Rattle.table_view.specs.View.{objectsOf}
+use Rattle.table_view.proofs.LiveRows.{objects-length}
 use borrow.Author.Needs.{needs}
 use Rattle.snapshot_reader.proofs.rows.is_member.Statement.{statement}
 use Rattle.snapshot_reader.proofs.rows.is_member.Tie as tie

@@ -4,7 +4,7 @@ use native.Mathlib.Omega.{arith}
 use borrow.Author.Tests.{not-true, not-false}
 use Rattle.fields.specs.Fields.{field, guidAt}
 use Rattle.rules.specs.Snapshot.{readExporter}
-use Rattle.table.specs.View.{memory, view}
+use Rattle.table_view.specs.View.{memory, view}
 use Rattle.snapshot_rows.specs.declared.Section.the-variants.{Exporters}
 use Rattle.snapshot_reader.proofs.rows.SectionFits.{row-refused, row-read}
 use Rattle.snapshot_reader.proofs.rows.Reading.{list-read, exporter-after, room-made}

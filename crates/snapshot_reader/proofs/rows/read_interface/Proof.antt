@@ -5,8 +5,8 @@ use borrow.Author.Tests.{lt-ltb, le-ltb}
 use Rattle.lists.specs.Lists.{tabulate}
 use Rattle.rules.specs.Entries.{interfacePlaces}
 use Rattle.rules.specs.Snapshot.{readInterface}
-use Rattle.table.specs.View.{memory, view}
-use Rattle.table.proofs.LiveRows.{interfaces-length}
+use Rattle.table_view.specs.View.{memory, view}
+use Rattle.table_view.proofs.LiveRows.{interfaces-length}
 use Rattle.snapshot_rows.specs.declared.Section.the-variants.{Interfaces}
 use Rattle.snapshot_reader.proofs.rows.RowFields.{drop-within}
 use Rattle.snapshot_reader.proofs.rows.SectionFits.{interface-fits, row-refused, row-read}

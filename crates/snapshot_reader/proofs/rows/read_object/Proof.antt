@@ -5,8 +5,8 @@ use native.Mathlib.Omega.{arith}
 use borrow.Author.Tests.{lt-ltb, le-ltb}
 use Rattle.rules.specs.Entries.{objectPlaces}
 use Rattle.rules.specs.Snapshot.{readObject}
-use Rattle.table.specs.View.{memory, view}
-use Rattle.table.proofs.LiveRows.{objects-length}
+use Rattle.table_view.specs.View.{memory, view}
+use Rattle.table_view.proofs.LiveRows.{objects-length}
 use Rattle.snapshot_rows.specs.declared.Section.the-variants.{Objects}
 use Rattle.snapshot_reader.proofs.rows.RowFields.{drop-within}
 use Rattle.snapshot_reader.proofs.rows.SectionFits.{object-fits, row-refused, row-read}

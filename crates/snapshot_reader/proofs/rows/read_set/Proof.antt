@@ -2,7 +2,7 @@
 use mathlib.Core.Path.{_∙_}
 use native.Mathlib.Omega.{arith}
 use borrow.Author.Tests.{not-true, not-false}
-use Rattle.table.specs.View.{memory, view}
+use Rattle.table_view.specs.View.{memory, view}
 use Rattle.snapshot_rows.specs.declared.Section.the-variants.{Sets}
 use Rattle.snapshot_reader.proofs.rows.SectionFits.{row-refused, row-read}
 use Rattle.snapshot_reader.proofs.rows.Reading.{set-full, set-judged, set-entered, set-after}

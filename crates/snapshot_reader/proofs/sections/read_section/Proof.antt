@@ -6,7 +6,7 @@ use borrow.Author.Tests.{not-true, not-false}
 use lib.ListN.{drop, length-drop}
 use Rattle.fields.proofs.Fields.{take-rest}
 use Rattle.rules.specs.Contract.{Whole}
-use Rattle.table.specs.View.{memory, view}
+use Rattle.table_view.specs.View.{memory, view}
 use Rattle.snapshot_reader.specs.ReadRows.{withSection}
 use Rattle.snapshot_reader.proofs.sections.RowByRow.{RowsLeft, row-off, row-stops, rows-begun, rows-ended, rows-stopped}
 use Rattle.snapshot_reader.proofs.sections.read_section.Statement.{statement}

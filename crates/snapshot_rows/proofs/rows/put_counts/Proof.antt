@@ -10,7 +10,7 @@ use lib.ListN.{getD}
 use Rattle.fields.proofs.Fields.{length-encode}
 use Rattle.rules.specs.Entries.{countOf}
 use Rattle.rules.specs.Rules.{noInterface}
-use Rattle.table.specs.View.{interfacesOf}
+use Rattle.table_view.specs.View.{interfacesOf}
 use borrow.Author.Needs.{needs}
 use Rattle.snapshot_rows.proofs.Writing.{Left, left-all, left-same, left-step, left-none, left-room}
 use Rattle.snapshot_rows.proofs.rows.FieldByField.{wrote-number, numbered-next, numbered-end}

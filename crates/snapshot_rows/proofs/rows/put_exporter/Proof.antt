@@ -3,7 +3,7 @@ use lib.ListN.{getD}
 use native.Mathlib.Omega.{arith}
 use Rattle.rules.specs.Rules.{noExporter}
 use Rattle.rules.proofs.SnapshotSizes.{exporter-size}
-use Rattle.table.specs.View.{exportersOf}
+use Rattle.table_view.specs.View.{exportersOf}
 use Rattle.snapshot_rows.proofs.rows.FieldByField.{exporter-put, list-short}
 use mathlib.Core.Path.{ap}
 use lib.ListN.{length}

@@ -2,8 +2,8 @@
 use native.Mathlib.Omega.{arith}
 use lib.ListN.{getD}
 use Rattle.rules.specs.Rules.{noInterface}
-use Rattle.table.specs.View.{interfacesOf}
-use Rattle.table.proofs.Counts.{nine-counts}
+use Rattle.table_view.specs.View.{interfacesOf}
+use Rattle.table_view.proofs.Counts.{nine-counts}
 use Rattle.snapshot_rows.proofs.rows.FieldByField.{counts-room, interface-put}
 use borrow.Author.Needs.{needs}
 use Rattle.snapshot_rows.proofs.rows.put_interface.Statement.{statement}

@@ -3,7 +3,7 @@ use Prim.Native.Nat.{_-_, _≤_}
 use native.Mathlib.Omega.{arith}
 use lib.ListN.{length, drop}
 use Rattle.rules.specs.Snapshot.{inRow}
-use Rattle.table.specs.View.{objectCount}
+use Rattle.table_view.specs.View.{objectCount}
 use Rattle.snapshot_rows.specs.Rows.{memberBytesAt}
 use borrow.Author.Needs.{needs}
 use Rattle.snapshot_rows.proofs.Writing.{Left, left-all, left-none, row-end, next-live, next-room, next-put}

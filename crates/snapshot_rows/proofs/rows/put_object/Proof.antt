@@ -3,7 +3,7 @@ use lib.ListN.{getD}
 use native.Mathlib.Omega.{arith}
 use Rattle.rules.specs.Rules.{noObject}
 use Rattle.rules.proofs.SnapshotSizes.{object-size}
-use Rattle.table.specs.View.{objectsOf}
+use Rattle.table_view.specs.View.{objectsOf}
 use Rattle.snapshot_rows.proofs.rows.FieldByField.{object-put}
 use borrow.Author.Needs.{needs}
 use Rattle.snapshot_rows.proofs.rows.put_object.Statement.{statement}

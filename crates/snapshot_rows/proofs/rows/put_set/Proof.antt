@@ -2,13 +2,13 @@
 use mathlib.Core.Path.{ap, _∙_}
 use native.Mathlib.Omega.{arith}
 use lib.ListN.{length, getD}
-use Rattle.columns.specs.Members.{memberRows}
-use Rattle.columns.specs.declared.members.Members.{Members}
+use Rattle.table_columns.specs.Members.{memberRows}
+use Rattle.table_columns.specs.declared.members.Members.{Members}
 use Rattle.rules.specs.Rules.{noSet}
 use Rattle.rules.specs.Snapshot.{membersInOrder}
 use Rattle.rules.proofs.SnapshotSizes.{set-size}
-use Rattle.table.specs.View.{setsOf}
-use Rattle.table.proofs.LiveRows.{objects-length}
+use Rattle.table_view.specs.View.{setsOf}
+use Rattle.table_view.proofs.LiveRows.{objects-length}
 use Rattle.snapshot_rows.specs.Rows.{risingOids}
 use Rattle.snapshot_rows.proofs.rows.FieldByField.{members-room, set-put}
 use Rattle.snapshot_rows.proofs.rows.MembersInOrder.{few-members, members-row, members-number}

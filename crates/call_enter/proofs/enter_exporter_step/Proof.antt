@@ -1,0 +1,49 @@
+-- `call_enter::enter_exporter_step`: refused as the number says; else the exporter is entered with its list.
+use mathlib.Core.Path.{sym, _∙_}
+use native.Mathlib.Omega.{arith}
+use Rattle.rules.specs.Rules.{next, results, refusedReply, acceptedReply}
+use Rattle.rules.proofs.SoundLaws.{sound-fields}
+use Rattle.table_view.specs.View.{memory, view}
+use Rattle.table_view.proofs.LiveRows.{exporters-length}
+use Rattle.table_view.proofs.KeptLists.{bytes-live}
+use Rattle.table_view.proofs.Steps.{refused-step, accepted-step}
+use Rattle.call_enter.proofs.Places.{exporter-fits}
+use borrow.Author.Needs.{needs}
+use Rattle.call_enter.proofs.enter_exporter_step.Statement.{statement}
+use Rattle.call_enter.proofs.enter_exporter_step.Tie as tie
+
+exporter-number-requires : tie.Need-exporter-number-requires
+exporter-number-requires c κs = c .before .before .before .before .before .pre
+
+returns : tie.Need-returns
+unfolding refusedReply results
+returns c = refused-step _ (c .before .exporter-number .ensures) (c .if1 .taken)
+
+put-exporter-requires : tie.Need-put-exporter-requires
+put-exporter-requires c κs =
+    let a = c .before .before .before .before .before .before .before .before .before .args in
+    let t = c .before .before .before .before .before .before .before .before .before .pre in
+    let fits = exporter-fits (view (memory (a .words .now) (a .store .now))) (a .list .now) (a .oxid .0) (a .unknown) (sym (c .before .before .before .exporter-number .ensures) ∙ c .before .before .if1 .left) in
+    let l = exporters-length (a .words .now) (a .store .now) in
+    let p = fits .2 in
+    let b = bytes-live (a .words .now) (a .store .now) (sound-fields _ (t .entries) .listsKept) in
+    (t .words, t .store, omega arith, fits .0, rw (← b) (fits .3))
+
+returns-2 : tie.Need-returns-2
+unfolding acceptedReply results next
+returns-2 c =
+    let t = c .before .before .before .before .before .before .before .before .before .before .before .before .before .before .pre in
+    accepted-step _ (c .before .before .before .before .before .before .before .before .exporter-number .ensures) (c .before .before .before .before .before .before .before .if1 .left) _ (c .before .before .before .before .put-exporter .ensures)
+
+pub enter-exporter-step-spec : {M : Type 1} → statement M
+enter-exporter-step-spec =
+    tie.close
+    (tie.spec
+    exporter-number-requires
+    (λ c. search needs)
+    (λ c. search needs)
+    returns
+    put-exporter-requires
+    (λ c. search needs)
+    (λ c. search needs)
+    returns-2)

@@ -1,0 +1,75 @@
+-- `call_enter::enter_object_step`: refused as the number says; else the object is entered, and then its first interface.
+use Prim.Native.Nat.{_<_}
+use mathlib.Core.Path.{_≡_, sym, ap, _∙_}
+use native.Mathlib.Omega.{arith}
+use lib.ListN.{length}
+use Rattle.rules.specs.Entries.{Entries, objectPlaces, interfacePlaces}
+use Rattle.rules.specs.Rules.{next, results, refusedReply, acceptedReply}
+use Rattle.table_view.specs.View.{memory, view}
+use Rattle.table_edit.specs.Edits.{addInterface}
+use Rattle.table_view.proofs.LiveRows.{objects-length, interfaces-length}
+use Rattle.table_view.proofs.Steps.{sound-below, refused-step, accepted-step}
+use Rattle.call_enter.proofs.Places.{object-fits}
+use borrow.Author.Needs.{needs}
+use Rattle.call_enter.proofs.enter_object_step.Statement.{statement}
+use Rattle.call_enter.proofs.enter_object_step.Tie as tie
+
+object-number-requires : tie.Need-object-number-requires
+object-number-requires c κs = c .before .before .before .pre .words
+
+returns : tie.Need-returns
+unfolding refusedReply results
+returns c =
+    let a = c .before .before .before .before .before .args in
+    refused-step _ (c .before .object-number .ensures (a .store .now) (a .iid) (a .no-ping)) (c .if1 .taken)
+
+-- there is a place for the object and its interface
+fits-objects : (c : tie.After-object-number) → c .object-number .result ≡ 0
+    → (length (view (memory (c .before .before .before .before .args .words .now) (c .before .before .before .before .args .store .now)) .objects) < objectPlaces)
+    × (length (view (memory (c .before .before .before .before .args .words .now) (c .before .before .before .before .args .store .now)) .interfaces) < interfacePlaces)
+fits-objects c z =
+    let a = c .before .before .before .before .args in
+    object-fits (view (memory (a .words .now) (a .store .now))) (a .oid .0) (a .oxid .0) (a .ipid) (a .iid) (a .public) (a .no-ping)
+    (sym (c .object-number .ensures (a .store .now) (a .iid) (a .no-ping)) ∙ z)
+
+put-object-requires : tie.Need-put-object-requires
+put-object-requires c κs =
+    let a = c .before .before .before .before .before .before .args in
+    let t = c .before .before .before .before .before .before .pre in
+    let fits = fits-objects (c .before .before) (c .before .if1 .left) in
+    let l = objects-length (a .words .now) in
+    (t .words, omega arith, sound-below (a .words .now) (a .store .now) t)
+
+put-interface-requires : tie.Need-put-interface-requires
+put-interface-requires c κs =
+    let a = c .before .before .before .before .before .before .before .before .before .before .args in
+    let t = c .before .before .before .before .before .before .before .before .before .before .pre in
+    let fits = fits-objects (c .before .before .before .before .before .before) (c .before .before .before .before .before .if1 .left) in
+    let ws = c .before .before .before .put-object .last .0 in
+    let kept = ap (λ (e : Entries). length (e .interfaces)) (c .before .before .before .put-object .ensures (a .store .now)) in
+    let l = interfaces-length (a .words .now) in
+    let l′ = interfaces-length ws in
+    let size : length ws ≡ 8192 = omega arith in
+    (size, omega arith)
+
+returns-2 : tie.Need-returns-2
+unfolding acceptedReply results next
+returns-2 c =
+    let a = c .before .before .before .before .before .before .before .before .before .before .before .before .before .args in
+    let s = a .store .now in
+    let t = c .before .before .before .before .before .before .before .before .before .before .before .before .before .pre in
+    accepted-step _ (c .before .before .before .before .before .before .before .before .before .object-number .ensures s (a .iid) (a .no-ping)) (c .before .before .before .before .before .before .before .before .if1 .left) _
+    (c .before .before .put-interface .ensures s
+    ∙ ap (addInterface _) (c .before .before .before .before .before .before .put-object .ensures s))
+
+pub enter-object-step-spec : {M : Type 1} → statement M
+enter-object-step-spec =
+    tie.close
+    (tie.spec
+    object-number-requires
+    (λ c. search needs)
+    returns
+    put-object-requires
+    put-interface-requires
+    (λ c. search needs)
+    returns-2)

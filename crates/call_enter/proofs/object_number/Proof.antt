@@ -1,0 +1,131 @@
+-- `call_enter::object_number`: the rows of the refusals in turn, the first as its three tests and the last as its two.
+use Prim.Native.Nat.{ℕ}
+use mathlib.Core.Path.{_≡_, sym, _∙_}
+use mathlib.Core.Bool.{Bool, not, _||_}
+use mathlib.Core.List.{List, [], _∷_}
+use borrow.Author.Tests.{eq-eqb, ne-eqb, lt-ltb, le-ltb, le-leb, lt-leb}
+use lib.Dec.{eqb, ltb, leb}
+use lib.ListN.{length, drop}
+use Rattle.kinds.specs.Refusals.{order, _gives_}
+use Rattle.kinds.specs.declared.Guid.{Guid}
+use Rattle.lists.specs.Lists.{some}
+use Rattle.lists.specs.Guids.{nil, sameGuid}
+use Rattle.rules.specs.Entries.{Entries, ipids, objectPlaces, interfacePlaces}
+use Rattle.rules.specs.Calls.{Call, Edit}
+use Rattle.rules.specs.Rules.{refusals, number, isLiveExporter, isLiveObject}
+use Rattle.table_view.specs.View.{memory, view}
+use Rattle.table_view.proofs.LiveRows.{objects-length, interfaces-length}
+use Rattle.table_view.proofs.Steps.{row-gives, row-passes, gone-gives, live-passes, rows-end, two-rows, identifier-rows, exporter-tested, object-tested, full-tested}
+use borrow.Author.Needs.{needs}
+use Rattle.call_enter.proofs.object_number.Statement.{statement}
+use Rattle.call_enter.proofs.object_number.Tie as tie
+
+-- the live entries, with any store
+abbrev At : tie.Start → List ℕ → Entries
+At st s = view (memory (st .args .words .now) s)
+
+-- the rows that are left after the first k
+abbrev Left : ℕ → tie.Start → List ℕ → Guid → Bool → Type 0
+Left k st s iid np =
+    let a = st .args in
+    let e = At st s in
+    number (Call.editing (Edit.enterObject (a .oid .0) (a .oxid .0) (a .ipid) iid (a .public) np)) e
+    ≡ order
+    (drop k
+    (eqb (a .oid .0) 0 gives 3
+    ∷ isLiveObject e (a .oid .0) gives 3
+    ∷ (sameGuid (a .ipid) nil || some (sameGuid (a .ipid)) (ipids e)) gives 3
+    ∷ not (isLiveExporter e (a .oxid .0)) gives 4
+    ∷ eqb (a .public) 0 gives 7
+    ∷ leb objectPlaces (length (e .objects)) gives 9
+    ∷ leb interfacePlaces (length (e .interfaces)) gives 9
+    ∷ []))
+
+-- tests of the rows
+live-judged : (c : tie.After-object-count) (s : List ℕ) → isLiveObject (At (c .before .before .before .before .before) s) (c .before .before .before .before .before .args .oid .0) ≡ ltb (c .before .object-row .result) (c .object-count .result)
+live-judged c s = object-tested (c .before .before .before .before .before .args .words .now) s (c .before .before .before .before .before .args .oid .0) (c .before .object-row .ensures s) (c .object-count .ensures .0)
+
+exporter-judged : (c : tie.After-exporter-row) (s : List ℕ) → isLiveExporter (At (c .before .before .before .before .before .before .before .before .before .before) s) (c .before .before .before .before .before .before .before .before .before .before .args .oxid .0) ≡ ltb (c .exporter-row .result) (c .before .exporter-count .result)
+exporter-judged c s = exporter-tested (c .before .before .before .before .before .before .before .before .before .before .args .words .now) s (c .before .before .before .before .before .before .before .before .before .before .args .oxid .0) (c .exporter-row .ensures s) (c .before .exporter-count .ensures .0)
+
+objects-judged : (c : tie.After-object-count2) (s : List ℕ) → leb objectPlaces (length (At (c .before .before .before .before .before .before .before .before .before .before .before .before .before) s .objects)) ≡ leb objectPlaces (c .object-count2 .result)
+objects-judged c s = full-tested (At (c .before .before .before .before .before .before .before .before .before .before .before .before .before) s .objects) objectPlaces (objects-length (c .before .before .before .before .before .before .before .before .before .before .before .before .before .args .words .now)) (c .object-count2 .ensures .0)
+
+interfaces-judged : (c : tie.After-interface-count) (s : List ℕ) → leb interfacePlaces (length (At (c .before .before .before .before .before .before .before .before .before .before .before .before .before .before .before) s .interfaces)) ≡ leb interfacePlaces (c .interface-count .result)
+interfaces-judged c s = full-tested (At (c .before .before .before .before .before .before .before .before .before .before .before .before .before .before .before) s .interfaces) interfacePlaces (interfaces-length (c .before .before .before .before .before .before .before .before .before .before .before .before .before .before .before .args .words .now)) (c .interface-count .ensures .0)
+
+-- each row that does not hold
+module _ (s : List ℕ) (iid : Guid) (np : Bool) where
+  left-0 : (st : tie.Start) → Left 0 st s iid np
+  unfolding number refusals order
+  left-0 st =
+      let a = st .args in
+      let e = At st s in
+      identifier-rows (eqb (a .oid .0) 0) (isLiveObject e (a .oid .0)) (sameGuid (a .ipid) nil || some (sameGuid (a .ipid)) (ipids e)) 3
+      (drop 1 (refusals (Call.editing (Edit.enterObject (a .oid .0) (a .oxid .0) (a .ipid) iid (a .public) np)) e))
+      ∙ rw (two-rows (leb objectPlaces (length (e .objects))) (leb interfacePlaces (length (e .interfaces))) 9 [])
+
+  left-1 : (c : tie.Else1) → Left 1 (c .before .before .before) s iid np
+  left-1 c = row-passes _ _ _ (left-0 (c .before .before .before)) (ne-eqb _ 0 (c .if1 .left))
+
+  left-2 : (c : tie.Else2) → Left 2 (c .before .before .before .before .before .before) s iid np
+  left-2 c = row-passes _ _ _ (left-1 (c .before .before .before)) (live-judged (c .before) s ∙ le-ltb _ _ (c .if2 .left))
+
+  left-3 : (c : tie.Else3) → Left 3 (c .before .before .before .before .before .before .before .before) s iid np
+  left-3 c = row-passes _ _ _ (left-2 (c .before .before)) (sym (c .before .ipid-taken .ensures s) ∙ c .if3 .left)
+
+  left-4 : (c : tie.Else4) → Left 4 (c .before .before .before .before .before .before .before .before .before .before .before) s iid np
+  left-4 c = live-passes (exporter-judged (c .before) s) _ _ (left-3 (c .before .before .before)) (c .if4 .left)
+
+  left-5 : (c : tie.Else5) → Left 5 (c .before .before .before .before .before .before .before .before .before .before .before .before) s iid np
+  left-5 c = row-passes _ _ _ (left-4 (c .before)) (ne-eqb _ 0 (c .if5 .left))
+
+  left-6 : (c : tie.Else6) → Left 6 (c .before .before .before .before .before .before .before .before .before .before .before .before .before .before) s iid np
+  left-6 c = row-passes _ _ _ (left-5 (c .before .before)) (objects-judged (c .before) s ∙ lt-leb _ _ (c .if6 .left))
+
+  left-7 : (c : tie.Else7) → Left 7 (c .before .before .before .before .before .before .before .before .before .before .before .before .before .before .before .before) s iid np
+  left-7 c = row-passes _ _ _ (left-6 (c .before .before)) (interfaces-judged (c .before) s ∙ lt-leb _ _ (c .if7 .left))
+
+returns : tie.Need-returns
+returns c s iid np = row-gives _ _ _ (left-0 s iid np (c .before .before .before)) (eq-eqb _ 0 (c .if1 .taken))
+
+returns-2 : tie.Need-returns-2
+returns-2 c s iid np = row-gives _ _ _ (left-1 s iid np (c .before .before .before)) (live-judged (c .before) s ∙ lt-ltb _ _ (c .if2 .taken))
+
+returns-3 : tie.Need-returns-3
+returns-3 c s iid np = row-gives _ _ _ (left-2 s iid np (c .before .before)) (sym (c .before .ipid-taken .ensures s) ∙ c .if3 .taken)
+
+returns-4 : tie.Need-returns-4
+returns-4 c s iid np = gone-gives (exporter-judged (c .before) s) _ _ (left-3 s iid np (c .before .before .before)) (c .if4 .taken)
+
+returns-5 : tie.Need-returns-5
+returns-5 c s iid np = row-gives _ _ _ (left-4 s iid np (c .before)) (eq-eqb _ 0 (c .if5 .taken))
+
+returns-6 : tie.Need-returns-6
+returns-6 c s iid np = row-gives _ _ _ (left-5 s iid np (c .before .before)) (objects-judged (c .before) s ∙ le-leb _ _ (c .if6 .taken))
+
+returns-7 : tie.Need-returns-7
+returns-7 c s iid np = row-gives _ _ _ (left-6 s iid np (c .before .before)) (interfaces-judged (c .before) s ∙ le-leb _ _ (c .if7 .taken))
+
+returns-8 : tie.Need-returns-8
+returns-8 c s iid np = rows-end (left-7 s iid np c)
+
+pub object-number-spec : {M : Type 1} → statement M
+object-number-spec =
+    tie.close
+    (tie.spec
+    returns
+    (λ c κs. search needs)
+    (λ c κs. search needs)
+    returns-2
+    (λ c κs. search needs)
+    returns-3
+    (λ c κs. search needs)
+    (λ c κs. search needs)
+    returns-4
+    returns-5
+    (λ c κs. search needs)
+    returns-6
+    (λ c κs. search needs)
+    returns-7
+    returns-8)

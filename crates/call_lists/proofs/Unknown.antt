@@ -1,0 +1,82 @@
+-- Adds and releases enter no interface, so the marks of the IPIDs stay good; an IPID whose bucket has no mark is unknown.
+use Prim.Native.Nat.{ℕ, suc, _-_, _<_, _≤_}
+use mathlib.Core.Path.{_≡_, refl, sym, ap, _∙_}
+use mathlib.Core.Bool.{Bool, true, false}
+use mathlib.Core.List.{List, [], _∷_}
+use native.Mathlib.Omega.{arith}
+use borrow.Author.Tests.{ltb-false}
+use lib.Dec.{eqb}
+use lib.ListN.{length, getD, drop, length-map}
+use lib.Seq.{drop-length, drop-cons}
+use Rattle.kinds.specs.declared.Guid.{Guid}
+use Rattle.kinds.proofs.Refusing.{by-test}
+use Rattle.lists.specs.Lists.{every}
+use Rattle.lists.specs.Guids.{sameGuid}
+use Rattle.lists.proofs.Guids.{guid-decides}
+use Rattle.lists.proofs.Lists.{getD-map, map-unread-at}
+use Rattle.lists.proofs.First.{some-first, first-le}
+use Rattle.lists.proofs.Distinct.{sublist-keep}
+use Rattle.table_columns.specs.Buckets.{guidBucket, Marked}
+use Rattle.table_columns.proofs.buckets.Marks.{unmarked}
+use Rattle.rules.specs.Entries.{Interface, Entries, interfaceIpids, interfaceRow}
+use Rattle.rules.specs.Calls.{Counting, adding, releasing}
+use Rattle.rules.specs.Items.{Item, itemCall}
+use Rattle.rules.specs.Sound.{held}
+use Rattle.rules.specs.Rules.{noInterface, increased, decreased, counted, itemDone, number}
+use Rattle.rules.specs.Contract.{Memory}
+use Rattle.table_view.specs.View.{interfaceCount, interfacesOf, memory, view}
+use Rattle.table_view.proofs.LiveRows.{interfaces-length}
+use Rattle.call_lists.specs.Listing.{ipidsOf, ItemStepped}
+
+abbrev ipidOf : Interface → Guid
+ipidOf i = i .ipid
+
+-- ---- the IPIDs by row
+
+ipids-length : (ws : List ℕ) → length (ipidsOf ws) ≡ interfaceCount ws
+ipids-length ws = length-map (interfacesOf ws) ipidOf ∙ interfaces-length ws
+
+pub ipids-end : (ws : List ℕ) (n : ℕ) → n ≡ interfaceCount ws → drop n (ipidsOf ws) ≡ []
+ipids-end ws n e = ap (λ (k : ℕ). drop k (ipidsOf ws)) (e ∙ sym (ipids-length ws)) ∙ drop-length (ipidsOf ws)
+
+pub ipids-last : (ws : List ℕ) (n : ℕ) {g : Guid} → g ≡ getD (interfacesOf ws) (n - 1) noInterface .ipid → 0 < n → n ≤ interfaceCount ws → drop (n - 1) (ipidsOf ws) ≡ g ∷ drop n (ipidsOf ws)
+ipids-last ws n e h b =
+    let l = ipids-length ws in
+    let m = interfaces-length ws in
+    let s : suc (n - 1) ≡ n = omega arith in
+    drop-cons (ipidsOf ws) (n - 1) (ipidOf noInterface) (omega arith)
+    ∙ λ u. (getD-map ipidOf (interfacesOf ws) noInterface (ipidOf noInterface) (n - 1) (omega arith) ∙ sym e) u ∷ drop (s u) (ipidsOf ws)
+
+-- ---- an item
+
+module _ (p : Guid → Bool) (i : Guid) (a b c : ℕ) (e : Entries) (h : every p (interfaceIpids e) ≡ true) where
+  -- what every IPID passes, every one that is left passes
+  counted-kept : (w : Counting) → every p (interfaceIpids (counted w c i a b e)) ≡ true
+  counted-kept adding = ap (every p) (map-unread-at (λ (x : Interface). sameGuid i (x .ipid)) (increased c a b) ipidOf (λ x. refl) (e .interfaces)) ∙ h
+  counted-kept releasing =
+      sublist-keep ipidOf _ _ .passes p
+      (sublist-keep ipidOf held _ .passes p
+      (ap (every p) (map-unread-at (λ (x : Interface). sameGuid i (x .ipid)) (decreased c a b) ipidOf (λ x. refl) (e .interfaces)) ∙ h))
+
+ipids-kept : (p : Guid → Bool) (w : Counting) (c : ℕ) (t : Item) (e : Entries) → every p (interfaceIpids e) ≡ true → every p (interfaceIpids (itemDone w c t e)) ≡ true
+ipids-kept p w c t e h =
+    by-test (λ (f : Entries). every p (interfaceIpids f) ≡ true) (eqb (number (itemCall w c t) e) 0) (counted w c (t .ipid) (t .public) (t .private) e) e
+    (λ u. counted-kept p (t .ipid) (t .public) (t .private) c e h w) (λ u. h)
+
+pub marked-next : (w : Counting) (c : ℕ) (t : Item) {m m′ : Memory} {r : ℕ} {marks : List Bool} → ItemStepped w c t m r m′ → Marked guidBucket marks (interfaceIpids (view m)) → Marked guidBucket marks (interfaceIpids (view m′))
+marked-next w c t {m} {m′} {r} {marks} s k =
+    record {
+      size = k .size;
+      each = ap (λ (e : Entries). every (λ (g : Guid). getD marks (guidBucket g) false) (interfaceIpids e)) (s .entries)
+          ∙ ipids-kept (λ (g : Guid). getD marks (guidBucket g) false) w c t (view m) (k .each);
+    }
+
+-- an IPID whose bucket has no mark has no row
+pub unknown-row : (ws s : List ℕ) (i : Guid) {marks : List Bool} {b n : ℕ} → Marked guidBucket marks (ipidsOf ws) → (b ≡ guidBucket i) × (b < 4096) → getD marks b false ≡ false → n ≡ interfaceCount ws
+    → n ≡ interfaceRow (view (memory ws s)) i
+unknown-row ws s i {marks} {b} {n} m q f c =
+    let xs : List Guid = ipidsOf ws in
+    let past : length xs ≤ interfaceRow (view (memory ws s)) i = ltb-false _ _ (some-first (sameGuid i) xs ∙ unmarked guidBucket sameGuid guid-decides i m q f) in
+    let most : interfaceRow (view (memory ws s)) i ≤ length xs = first-le (sameGuid i) xs in
+    let l = ipids-length ws in
+    omega arith

@@ -1,0 +1,56 @@
+-- `call_lists::note_rows`: the buckets of the IPIDs from i on are marked.
+use Prim.Native.Nat.{_≤_}
+use mathlib.Core.Path.{_≡_}
+use native.Mathlib.Omega.{arith}
+use borrow.Author.Needs.{needs}
+use lib.ListN.{drop}
+use Rattle.table_columns.specs.Buckets.{guidBucket, Marked}
+use Rattle.table_columns.proofs.buckets.Marks.{marked-none, marked-one}
+use Rattle.table_view.specs.View.{interfaceCount}
+use Rattle.call_lists.specs.Listing.{ipidsOf}
+use Rattle.call_lists.proofs.Unknown.{ipids-end, ipids-last}
+use Rattle.call_lists.proofs.note_rows.Statement.{statement}
+use Rattle.call_lists.proofs.note_rows.Tie as tie
+
+abbrev Inv-loop : tie.InvT-loop
+Inv-loop words marks₀ hints₀ i₀ marks hints i = (i ≤ interfaceCount words) × Marked guidBucket marks (drop i (ipidsOf words))
+
+abbrev μ-loop : tie.MeasureT-loop
+μ-loop words marks₀ hints₀ i₀ marks hints i = i
+
+loop-holds : tie.Need-loop-holds Inv-loop μ-loop
+loop-holds c =
+    let n = c .interface-count .ensures .0 in
+    (omega arith, marked-none guidBucket _ (c .before .before .pre .1) (ipids-end (c .before .before .args .words .now) _ n))
+
+ipid-requires : tie.Need-ipid-requires Inv-loop μ-loop
+ipid-requires c κs = (search needs, omega arith)
+
+loop-again : tie.Need-loop-again Inv-loop μ-loop
+loop-again c =
+    let l = c .before .before .before .loop in
+    (search needs, marked-one guidBucket (ipids-last _ (l .i) (c .before .ipid .ensures) (search needs) (search needs)) (l .inv .1) (c .of-guid .ensures))
+
+returns : tie.Need-returns Inv-loop μ-loop
+returns c =
+    let l = c .before .loop in
+    let e : l .i ≡ 0 = omega arith in
+    rw e at (l .inv .1)
+
+pub note-rows-spec : {M : Type 1} → statement M
+note-rows-spec =
+    tie.close
+    (tie.spec
+    Inv-loop
+    μ-loop
+    (λ c κs. search needs)
+    loop-holds
+    (λ c. search needs)
+    ipid-requires
+    (λ c κs. search needs)
+    (λ c. search needs)
+    (λ c. search needs)
+    (λ c. search needs)
+    (λ c. search needs)
+    loop-again
+    returns)

@@ -1,0 +1,121 @@
+-- A section is its count and its rows; rows in rising order are the section's entries.
+use Prim.Native.Nat.{ℕ, _+_, _≤_}
+use mathlib.Core.Path.{_≡_, refl, sym, ap, _∙_}
+use mathlib.Core.Bool.{Bool, true}
+use mathlib.Core.List.{List, [], _∷_, _++_, map}
+use native.Mathlib.Omega.{arith}
+use lib.Dec.{ltb}
+use lib.ListN.{length, getD, length-map}
+use Rattle.fields.specs.Fields.{encode, written}
+use Rattle.bindings.specs.Bindings.{joined}
+use Rattle.lists.specs.Lists.{every}
+use Rattle.lists.specs.Order.{rising}
+use Rattle.lists.proofs.Order.{length-rising, rising-map}
+use Rattle.rules.specs.Entries.{Entries}
+use Rattle.rules.specs.Snapshot.{setBefore, membersInOrder, sorted, inRow, section, exporterBytes, objectBytes, interfaceBytes, setBytes, sections, snapshotBytes}
+use Rattle.table_view.specs.View.{setsOf, memory, view}
+use Rattle.table_view.proofs.LiveRows.{exporters-length, objects-length, interfaces-length, sets-length}
+use Rattle.snapshot_rows.specs.declared.Section.{Section}
+use Rattle.snapshot_rows.specs.declared.Section.the-variants.{Exporters, Objects, Interfaces, Sets}
+use Rattle.snapshot_rows.specs.Writing.{Room, Wrote}
+use Rattle.snapshot_rows.specs.Keys.{InOrder, RowsInOrder}
+use Rattle.snapshot_rows.specs.Rows.{risingOids, rowCount, rowBytes}
+use Rattle.snapshot_rows.proofs.Writing.{Left, left-all, left-same, left-step, left-none, left-room, row-map}
+use Rattle.snapshot_rows.proofs.rows.FieldByField.{wrote-number}
+use Rattle.call_save.specs.Sections.{sectionOf}
+
+-- ---- rows in rising order
+
+-- the section of images
+section-map : {A B : Type 0} (bytes : B → List ℕ) (f : A → B) (xs : List A) → section bytes (map f xs) ≡ section (λ x. bytes (f x)) xs
+section-map bytes f xs = λ u. encode 2 (length-map xs f u) ++ row-map bytes f xs u
+
+module _ {A : Type 0} {before : A → A → Bool} {d : A} {xs : List A} {rows : List ℕ} (o : InOrder before d xs rows) where
+  -- as many as the entries
+  ordered-count : length rows ≡ length xs
+  ordered-count = sym (length-map rows (λ i. getD xs i d)) ∙ ap length (o .rises) ∙ length-rising before xs
+
+  -- their section is that of the entries
+  ordered-section : (bytes : A → List ℕ) → section bytes (rising before xs) ≡ section (λ i. bytes (getD xs i d)) rows
+  ordered-section bytes = ap (section bytes) (sym (o .rises)) ∙ section-map bytes (λ i. getD xs i d) rows
+
+-- ---- by section
+
+module _ (ws store rows : List ℕ) where
+  -- each is the row of an entry
+  pub rows-live : (k : Section) → RowsInOrder k ws store rows → every (λ i. ltb i (rowCount k ws)) rows ≡ true
+  rows-live Exporters o = rw (exporters-length ws store) at (o .live)
+  rows-live Objects o = rw (objects-length ws) at (o .live)
+  rows-live Interfaces o = rw (interfaces-length ws) at (o .live)
+  rows-live Sets o = rw (sets-length ws) at (o .live)
+
+  -- two bytes hold their number
+  pub rows-few : (k : Section) → RowsInOrder k ws store rows → length rows ≤ 256
+  rows-few Exporters o = let n = ordered-count o in let m = exporters-length ws store in omega arith
+  rows-few Objects o = let n = ordered-count o in let m = objects-length ws in omega arith
+  rows-few Interfaces o = let n = ordered-count o in let m = interfaces-length ws in omega arith
+  rows-few Sets o = let n = ordered-count o in let m = sets-length ws in omega arith
+
+  -- their section is that of the table
+  section-rows : (k : Section) → RowsInOrder k ws store rows → sectionOf k (sorted (view (memory ws store))) ≡ section (rowBytes k ws store) rows
+  unfolding sorted
+  section-rows Exporters o = ordered-section o exporterBytes
+  section-rows Objects o = ordered-section o objectBytes
+  section-rows Interfaces o = ordered-section o interfaceBytes
+  section-rows Sets o =
+      let ordered = membersInOrder (risingOids ws) in
+      ap (section setBytes) (rising-map ordered setBefore (setsOf ws))
+      ∙ section-map setBytes ordered (rising setBefore (setsOf ws))
+      ∙ ordered-section o (λ s. setBytes (ordered s))
+
+  -- once the count is written, the rows are left
+  pub rows-left : (k : Section) → RowsInOrder k ws store rows → {b b₁ : List ℕ} {at : ℕ} → Room b at (sectionOf k (sorted (view (memory ws store)))) → b₁ ≡ written b at (encode 2 (length rows))
+      → Left b at (sectionOf k (sorted (view (memory ws store)))) b₁ (at + 2) (inRow (rowBytes k ws store) rows)
+  rows-left k o room e =
+      left-step (encode 2 (length rows)) (inRow (rowBytes k ws store) rows) room (left-same (section-rows k o) (left-all _ _ _)) (wrote-number 2 refl e refl)
+
+-- ---- the two numbers
+
+pub numbers-put : (t n : ℕ) {b b₁ b₂ b₃ : List ℕ} {at : ℕ} → Room b at (section (encode 8) (t ∷ n ∷ []))
+    → b₁ ≡ written b at (encode 2 2) → b₂ ≡ written b₁ (at + 2) (encode 8 t) → b₃ ≡ written b₂ (at + 10) (encode 8 n)
+    → Wrote b at (section (encode 8) (t ∷ n ∷ [])) b₃ (at + 18)
+unfolding inRow
+numbers-put t n {b} {at = at} room e₁ e₂ e₃ =
+    let a₂ : at + 10 ≡ at + 2 + 8 = omega arith in
+    let a₃ : at + 18 ≡ at + 10 + 8 = omega arith in
+    let l₁ = left-step (encode 2 2) _ room (left-all b at (section (encode 8) (t ∷ n ∷ []))) (wrote-number 2 refl e₁ refl) in
+    let l₂ = left-step (encode 8 t) _ room l₁ (wrote-number 8 refl e₂ a₂) in
+    left-none refl (left-step (encode 8 n) _ room l₂ (wrote-number 8 refl e₃ a₃))
+
+-- ---- all sections
+
+-- the numbers, and the sections of sorted entries
+abbrev pub parts : Entries → List (List ℕ)
+parts e =
+    section (encode 8) (e .clock ∷ e .next ∷ [])
+    ∷ sectionOf Exporters (sorted e)
+    ∷ sectionOf Objects (sorted e)
+    ∷ sectionOf Interfaces (sorted e)
+    ∷ sectionOf Sets (sorted e)
+    ∷ []
+
+-- nothing is written yet
+pub parts-all : (b : List ℕ) (e : Entries) → Left b 0 (snapshotBytes e) b 0 (joined (parts e))
+unfolding sections sorted
+parts-all b e = left-all b 0 (snapshotBytes e)
+
+-- the next of them
+module _ {b₀ : List ℕ} {at₀ : ℕ} {x₀ b : List ℕ} {at : ℕ} where
+  module _ (x : List ℕ) (xs : List (List ℕ)) (room : Room b₀ at₀ x₀) (l : Left b₀ at₀ x₀ b at (joined (x ∷ xs))) where
+    pub part-room : Room b at x
+    unfolding joined
+    part-room = left-room x (joined xs) room l
+
+    pub part-put : {b′ : List ℕ} {at′ : ℕ} → Wrote b at x b′ at′ → Left b₀ at₀ x₀ b′ at′ (joined xs)
+    unfolding joined
+    part-put w = left-step x (joined xs) room l w
+
+  -- none is left
+  pub parts-end : Left b₀ at₀ x₀ b at (joined []) → Wrote b₀ at₀ x₀ b at
+  unfolding joined
+  parts-end l = left-none refl l

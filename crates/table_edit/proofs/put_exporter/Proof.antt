@@ -1,0 +1,59 @@
+-- `table_edit::put_exporter`: the list goes behind the live ones, and a row of the exporters is entered.
+use native.Mathlib.Omega.{arith}
+use Prim.Native.Nat.{_+_, _≤_}
+use lib.ListN.{length}
+use Rattle.table_view.specs.View.{listStart}
+use Rattle.table_view.proofs.StoredLists.{placed, placed-list, placed-others}
+use Rattle.table_edit.proofs.ExporterLists.{exporter-pushed}
+use borrow.Author.Needs.{needs}
+use Rattle.table_edit.proofs.put_exporter.Statement.{statement}
+use Rattle.table_edit.proofs.put_exporter.Tie as tie
+
+-- the list begins, and ends, within the store
+fits : (c : tie.After-exporter-count) → listStart (c .before .before .before .before .before .args .store .now) (c .exporter-count .result) + length (c .before .before .before .before .before .args .list .now) ≤ length (c .before .before .before .before .before .args .store .now)
+fits c =
+    let start = c .before .before .before .before .before in
+    rw (c .exporter-count .ensures .0) (let h = start .pre .4 in let w = start .pre .1 in omega arith)
+
+list-start-requires : tie.Need-list-start-requires
+list-start-requires c κs = let h = fits (c .before) in (search needs, omega arith)
+
+sub-copy : tie.Need-sub-copy
+sub-copy c = let h = fits (c .before .before) in let e = c .list-start .ensures in omega arith
+
+part-copy-start : tie.Need-part-copy-start
+part-copy-start c = let h = fits (c .before .before) in let e = c .list-start .ensures in omega arith
+
+push-row-requires : tie.Need-push-row-requires
+push-row-requires c κs = rw (c .before .exporter-kind .ensures) (search needs)
+
+returns : tie.Need-returns
+returns c =
+    let p = c .before .before in
+    let f = p .before .before .before .before .before .before .before .before in
+    let k = f .before .before in
+    let start = k .before .before .before .before .before in
+    let s = start .args .store .now in
+    let l = start .args .list .now in
+    let n = k .exporter-count .result in
+    let done = start .pre .3 in
+    rw (p .before .before .before .before .before .before .copy .ensures, f .list-start .ensures)
+    (exporter-pushed _ _ n (k .exporter-count .ensures .0) s (placed s l n) _ l (omega arith) (rw (p .before .before .exporter-kind .ensures) at (p .push-row .ensures))
+    (placed-others s l n done (fits k)) (placed-list s l n done (fits k)))
+
+pub put-exporter-spec : {M : Type 1} → statement M
+put-exporter-spec =
+    tie.close
+    (tie.spec
+    (λ c κs. search needs)
+    list-start-requires
+    sub-copy
+    part-copy-start
+    (λ c. search needs)
+    (λ c κs. search needs)
+    (λ c κs. search needs)
+    (λ c. search needs)
+    push-row-requires
+    (λ c. search needs)
+    (λ c. search needs)
+    returns)

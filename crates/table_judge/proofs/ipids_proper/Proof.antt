@@ -1,0 +1,82 @@
+-- `table_judge::ipids_proper`: the interfaces' identifiers are proper, and the remote unknowns' before them.
+use Prim.Native.Nat.{ℕ}
+use mathlib.Core.Path.{_≡_, sym, ap, _∙_}
+use mathlib.Core.Bool.{false}
+use mathlib.Core.List.{List, map}
+use borrow.Author.Tests.{not-true, not-false}
+use lib.ListN.{length-replicate}
+use Rattle.kinds.specs.declared.Guid.{Guid}
+use Rattle.lists.proofs.Distinct.{distinct-none}
+use Rattle.lists.specs.Guids.{nil, sameGuid}
+use Rattle.table_columns.specs.Guids.{guids}
+use Rattle.rules.specs.Entries.{Entries, Exporter, interfaceIpids}
+use Rattle.rules.specs.Sound.{properGuids}
+use Rattle.table_view.specs.View.{memory, view}
+use Rattle.table_view.proofs.Columns.{unknowns-columns, ipids-columns, guids-read}
+use Rattle.identifiers.proofs.Guids.{twice-none, entered-alone}
+use Rattle.rules.proofs.Groups.{fine-distinct}
+use Rattle.table_judge.proofs.Clauses.{no-guids, second-not, both-proper}
+use borrow.Author.Needs.{needs}
+use Rattle.table_judge.proofs.ipids_proper.Statement.{statement}
+use Rattle.table_judge.proofs.ipids_proper.Tie as tie
+
+-- the live entries, with any store
+abbrev At : tie.After-column4 → List ℕ → Entries
+At c s = view (memory (c .before .before .before .before .before .before .before .args .words .now) s)
+
+abbrev unknowns : tie.After-column4 → List ℕ → List Guid
+unknowns c s = map (λ (x : Exporter). x .unknown) (At c s .exporters)
+
+-- two columns are the identifiers of the entries
+unknowns-read : (c : tie.After-column4) (s : List ℕ) → guids (c .before .before .before .column .result .now) (c .before .before .column2 .result .now) ≡ unknowns c s
+unknowns-read c s =
+    let ws = c .before .before .before .before .before .before .before .args .words .now in
+    guids-read ws 32 48 (c .before .before .before .column .ensures) (c .before .before .column2 .ensures) (c .before .before .before .before .before .exporter-count .ensures .0) (unknowns-columns ws (c .before .before .before .before .before .before .before .pre) s)
+
+ipids-read : (c : tie.After-column4) (s : List ℕ) → guids (c .before .column3 .result .now) (c .column4 .result .now) ≡ interfaceIpids (At c s)
+ipids-read c s =
+    let ws = c .before .before .before .before .before .before .before .args .words .now in
+    guids-read ws 768 1024 (c .before .column3 .ensures) (c .column4 .ensures) (c .before .before .before .before .interface-count .ensures .0) (ipids-columns ws (c .before .before .before .before .before .before .before .pre))
+
+-- the first outcome: the interfaces' are proper
+ipids-judged : (c : tie.After-enter-guids) (s : List ℕ) → c .enter-guids .result ≡ properGuids (interfaceIpids (At (c .before .before .before .before) s))
+ipids-judged c s = entered-alone no-guids (c .enter-guids .ensures) .0 ∙ ap properGuids (ipids-read (c .before .before .before .before) s)
+
+enter-guids-requires : tie.Need-enter-guids-requires
+enter-guids-requires c κs = (twice-none _ (length-replicate 4096 false) no-guids, rw no-guids (distinct-none sameGuid))
+
+enter-guids-requires-2 : tie.Need-enter-guids-requires-2
+enter-guids-requires-2 c κs =
+    let e = entered-alone no-guids (c .before .before .enter-guids .ensures) in
+    let t = not-false _ (c .before .if1 .left) in
+    (e .1 t, fine-distinct sameGuid nil _ (sym (e .0) ∙ t))
+
+returns : tie.Need-returns
+returns c =
+    λ s.
+    let at = c .before .before .before .before .before in
+    second-not (unknowns at s) (interfaceIpids (At at s)) (sym (ipids-judged (c .before) s) ∙ not-true _ (c .if1 .taken))
+
+returns-2 : tie.Need-returns-2
+returns-2 c =
+    λ s.
+    let at = c .before .before .before .before .before .before .before in
+    both-proper (unknowns at s) (interfaceIpids (At at s)) (sym (ipids-judged (c .before .before .before) s) ∙ not-false _ (c .before .before .if1 .left))
+    (rw (unknowns-read at s, ipids-read at s) at (c .enter-guids2 .ensures .judged))
+
+pub ipids-proper-spec : {M : Type 1} → statement M
+ipids-proper-spec =
+    tie.close
+    (tie.spec
+    (λ c κs. search needs)
+    (λ c κs. search needs)
+    (λ c κs. search needs)
+    (λ c κs. search needs)
+    (λ c κs. search needs)
+    (λ c κs. search needs)
+    (λ c. search needs)
+    (λ c. search needs)
+    enter-guids-requires
+    returns
+    enter-guids-requires-2
+    returns-2)

@@ -1,0 +1,21 @@
+-- `find::heard`: a word of the object's row.
+use mathlib.Core.Path.{sym, ap, _∙_}
+use native.Mathlib.Omega.{arith}
+use Rattle.table_columns.proofs.rows.Laws.{rowAt-getD}
+use Rattle.rules.specs.Entries.{Object}
+use Rattle.rules.specs.Rules.{noObject}
+use Rattle.table_words.specs.Kinds.{objectKind}
+use Rattle.table_view.proofs.LiveRows.{object-at}
+use borrow.Author.Needs.{needs}
+use Rattle.table_view.proofs.find.heard.Statement.{statement}
+use Rattle.table_view.proofs.find.heard.Tie as tie
+
+returns : tie.Need-returns
+returns c =
+    let start = c .before in
+    let ws = start .args .words .now in
+    let i = start .args .i in
+    sym (ap (λ (r : Object). r .heard) (object-at ws i noObject (start .pre .1)) ∙ rowAt-getD objectKind ws i 3 (omega arith))
+
+pub heard-spec : {M : Type 1} → statement M
+heard-spec = tie.close (tie.spec (λ c. search needs) (λ c. search needs) (λ c. search needs) returns)
