@@ -1,5 +1,6 @@
 //! Recorded runs and their replay (request 11): runs of the model, written down here in the form of docs/RECORDING.md, are replayed
-//! by the library and by the model's own reader, as they are and changed; and the recorder of the Rust crate writes the same bytes.
+//! by the library, by plain Rust and by the model's own reader, as they are and changed; and the recorder of the Rust crate writes the
+//! same bytes.
 
 use crate::calls::Memory;
 use crate::decode;
@@ -7,7 +8,7 @@ use crate::generate::Pools;
 use crate::model_side::Model;
 use crate::op::{Op, Reply, Side};
 use crate::random::Random;
-use crate::subject::{Library, Recorded};
+use crate::subject::{Library, Plain, Recorded, Subject};
 use crate::tally::Tally;
 use crate::Differs;
 use model::entries::{Entries, Way};
@@ -179,6 +180,19 @@ impl Replays for Library {
     }
 }
 
+impl Replays for Plain {
+    fn replay(words: &mut [u64], store: &mut [u8], recording: &[u8]) -> Result<Outcome, u32> {
+        plain::recording::replay(words, store, recording).map(|r| Outcome {
+            differs: r.differs,
+            tally: recording::Tally {
+                granted: r.tally.granted,
+                taken: r.tally.taken,
+                rundown: r.tally.rundown,
+            },
+        })
+    }
+}
+
 impl Replays for Model {
     fn replay(words: &mut [u64], store: &mut [u8], recording: &[u8]) -> Result<Outcome, u32> {
         if words.len() != 8192 || store.len() != 8192 {
@@ -191,24 +205,43 @@ impl Replays for Model {
     }
 }
 
-/// Bytes that were replayed by both sides over memory that holds anything: outcome and entries, or the number and the memory kept.
-fn replayed(memory: &mut Memory, bytes: &[u8]) -> Result<Result<Outcome, u32>, String> {
+/// What the model demands of a replay: its outcome, and the entries that it leaves.
+type Demanded = (Result<Outcome, u32>, Entries);
+
+/// Whether a side, over memory that holds anything, answers and leaves what is demanded, and keeps the memory where it refuses.
+fn held_to<S: Subject + Replays>(
+    (outcome, entries): &Demanded,
+    memory: &mut Memory,
+    bytes: &[u8],
+) -> Result<(), String> {
     let before = memory.clone();
-    let mut entries = Entries::empty(0);
-    let demanded = recording::replay(&mut entries, bytes);
     let (words, store) = memory.lent();
-    let answered = Library::replay(words, store, bytes);
-    if answered != demanded {
-        return Err(format!("answered {answered:?}, demanded {demanded:?}"));
+    let answered = S::replay(words, store, bytes);
+    let side = S::NAME;
+    if answered != *outcome {
+        return Err(format!(
+            "{side} answered {answered:?}, demanded {outcome:?}"
+        ));
     }
     if answered.is_err() && *memory != before {
-        return Err(format!("refused by {answered:?} and changed the memory"));
+        return Err(format!(
+            "{side} refused by {answered:?} and changed the memory"
+        ));
     }
     let (words, store) = memory.lent();
-    if answered.is_ok() && !decode::same(&decode::entries(words, store), &entries) {
-        return Err(format!("left other entries than {entries:?}"));
+    if answered.is_ok() && !decode::same(&decode::entries(words, store), entries) {
+        return Err(format!("{side} left other entries than {entries:?}"));
     }
-    Ok(answered)
+    Ok(())
+}
+
+/// The outcome of bytes that were replayed by all sides.
+fn replayed(memory: &mut Memory, bytes: &[u8]) -> Result<Result<Outcome, u32>, String> {
+    let mut entries = Entries::empty(0);
+    let demanded = (recording::replay(&mut entries, bytes), entries);
+    held_to::<Plain>(&demanded, &mut memory.clone(), bytes)?;
+    held_to::<Library>(&demanded, memory, bytes)?;
+    Ok(demanded.0)
 }
 
 /// A run of the model, recorded; and the recording that the recorder of the Rust crate makes of the same calls.
@@ -331,9 +364,13 @@ impl Runs {
         let before = self.memory.clone();
         for (n, m) in [(8191, 8192), (8193, 8192), (8192, 8191), (8192, 8193)] {
             let (words, store) = self.memory.all();
-            let number = Library::replay(&mut words[..n], &mut store[..m], recording);
-            if number != Err(1) || self.memory != before {
-                return Err(format!("lent {n} words and {m} bytes: {number:?}"));
+            let (words, store) = (&mut words[..n], &mut store[..m]);
+            let numbers = [
+                Library::replay(words, store, recording),
+                Plain::replay(words, store, recording),
+            ];
+            if numbers != [Err(1); 2] || self.memory != before {
+                return Err(format!("lent {n} words and {m} bytes: {numbers:?}"));
             }
         }
         self.tally.count(1);

@@ -59,6 +59,34 @@ pub(crate) struct Index {
 }
 
 impl Index {
+    /// The rows of interfaces and objects of a sound table.
+    pub(crate) fn of(words: &[u64]) -> Index {
+        let mut index = Index {
+            ipids: Rows::new(),
+            oids: Rows::new(),
+        };
+        index.again(words);
+        for (o, &id) in OBJECTS.column(words, ID).iter().enumerate() {
+            index.oids.enter(o, word(id), |_| false);
+        }
+        index
+    }
+
+    /// Enters the last object, whose OID is new.
+    pub(crate) fn last_object(&mut self, words: &[u64]) {
+        let o = OBJECTS.live(words) - 1;
+        let id = words[OBJECTS.at(ID, o)];
+        self.oids.enter(o, word(id), |_| false);
+    }
+
+    /// Enters the last interface, whose IPID is new.
+    pub(crate) fn last_interface(&mut self, words: &[u64]) {
+        let i = INTERFACES.live(words) - 1;
+        let half = |column| words[INTERFACES.at(column, i)];
+        let (low, high) = (half(IPID_LOW), half(IPID_HIGH));
+        self.ipids.enter(i, Guid { low, high }, |_| false);
+    }
+
     /// The interface with this IPID.
     pub(crate) fn ipid(&self, words: &[u64], ipid: Guid) -> Option<usize> {
         let n = INTERFACES.places;

@@ -51,6 +51,11 @@ fn rising<K: Ord + Copy>(n: usize, key: impl Fn(usize) -> K) -> impl Iterator<It
 
 pub fn write(words: &[u64], store: &[u8], buffer: &mut [u8]) -> Result<usize, u32> {
     judged(words, store)?;
+    written(words, store, buffer)
+}
+
+/// The snapshot of a sound table.
+pub(crate) fn written(words: &[u64], store: &[u8], buffer: &mut [u8]) -> Result<usize, u32> {
     let length = length(words, store);
     if buffer.len() < length {
         return Err(15);

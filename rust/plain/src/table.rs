@@ -1,4 +1,5 @@
-//! The table's calls. The live rows of a kind are its first ones; a removed row is closed up.
+//! The table's calls, each judged, and then its step, which a replay takes alone. The live rows of a kind are its first ones; a removed
+//! row is closed up.
 
 use crate::bytes::{judge_list, read_reference, stated_length, write_filtered};
 use crate::judge::{judged, Index};
@@ -10,7 +11,7 @@ pub const BYTES: usize = 8192;
 pub const LONGEST_LIST: usize = 2048;
 pub(crate) const TIMEOUT: u64 = 360;
 const CLIENTS: usize = 8;
-const ITEM: usize = 24;
+pub(crate) const ITEM: usize = 24;
 
 pub(crate) const CLOCK: usize = 0;
 pub(crate) const NEXT_SET: usize = 1;
@@ -195,6 +196,16 @@ pub fn enter_exporter(
     list: &[u8],
 ) -> Result<(), u32> {
     judged(words, store)?;
+    exporter_entered(words, store, oxid, unknown, list)
+}
+
+pub(crate) fn exporter_entered(
+    words: &mut [u64],
+    store: &mut [u8],
+    oxid: u64,
+    unknown: Guid,
+    list: &[u8],
+) -> Result<(), u32> {
     if oxid == 0 || EXPORTERS.find(words, oxid).is_some() || ipid_taken(words, unknown) {
         return Err(3);
     }
@@ -238,6 +249,10 @@ fn remove_object(words: &mut [u64], row: usize) {
 
 pub fn remove_exporter(words: &mut [u64], store: &mut [u8], oxid: u64) -> Result<(), u32> {
     judged(words, store)?;
+    exporter_removed(words, store, oxid)
+}
+
+pub(crate) fn exporter_removed(words: &mut [u64], store: &mut [u8], oxid: u64) -> Result<(), u32> {
     let row = EXPORTERS.find(words, oxid).ok_or(4u32)?;
     remove_objects(words, |w, o| w[OBJECTS.at(EXPORTER, o)] != oxid);
     let end = list_start(store, EXPORTERS.live(words));
@@ -259,6 +274,18 @@ pub fn enter_object(
     no_ping: bool,
 ) -> Result<(), u32> {
     judged(words, store)?;
+    object_entered(words, oid, oxid, ipid, iid, public, no_ping)
+}
+
+pub(crate) fn object_entered(
+    words: &mut [u64],
+    oid: u64,
+    oxid: u64,
+    ipid: Guid,
+    iid: Guid,
+    public: u32,
+    no_ping: bool,
+) -> Result<(), u32> {
     if oid == 0 || OBJECTS.find(words, oid).is_some() || ipid_taken(words, ipid) {
         return Err(3);
     }
@@ -292,6 +319,16 @@ pub fn enter_interface(
     public: u32,
 ) -> Result<(), u32> {
     judged(words, store)?;
+    interface_entered(words, oid, ipid, iid, public)
+}
+
+pub(crate) fn interface_entered(
+    words: &mut [u64],
+    oid: u64,
+    ipid: Guid,
+    iid: Guid,
+    public: u32,
+) -> Result<(), u32> {
     if ipid_taken(words, ipid) {
         return Err(3);
     }
@@ -326,8 +363,19 @@ pub fn add(
     private: u32,
 ) -> Result<(), u32> {
     let index = judged(words, store)?;
+    added(words, &index, client, ipid, public, private)
+}
+
+pub(crate) fn added(
+    words: &mut [u64],
+    index: &Index,
+    client: u32,
+    ipid: Guid,
+    public: u32,
+    private: u32,
+) -> Result<(), u32> {
     let column = private_column(client)?;
-    add_counts(words, &index, column, ipid, public, private)
+    add_counts(words, index, column, ipid, public, private)
 }
 
 fn add_counts(
@@ -356,8 +404,19 @@ pub fn release(
     private: u32,
 ) -> Result<Released, u32> {
     let index = judged(words, store)?;
+    released(words, &index, client, ipid, public, private)
+}
+
+pub(crate) fn released(
+    words: &mut [u64],
+    index: &Index,
+    client: u32,
+    ipid: Guid,
+    public: u32,
+    private: u32,
+) -> Result<Released, u32> {
     let column = private_column(client)?;
-    take_counts(words, &index, column, ipid, public, private)
+    take_counts(words, index, column, ipid, public, private)
 }
 
 fn take_counts(
@@ -394,6 +453,18 @@ pub fn count_list(
     results: &mut [u8],
 ) -> Result<(), u32> {
     let mut index = judged(words, store)?;
+    list_counted(words, &mut index, back, client, items, results).map(|_| ())
+}
+
+/// The same; answers what was added or taken in all.
+pub(crate) fn list_counted(
+    words: &mut [u64],
+    index: &mut Index,
+    back: bool,
+    client: u32,
+    items: &[u8],
+    results: &mut [u8],
+) -> Result<u64, u32> {
     let column = private_column(client)?;
     if !items.len().is_multiple_of(ITEM) {
         return Err(13);
@@ -404,23 +475,27 @@ pub fn count_list(
     if results.len() < items.len() / ITEM {
         return Err(15);
     }
+    let mut moved = 0;
     for (item, result) in items.chunks_exact(ITEM).zip(results) {
         let half = |at: usize| u64::from_le_bytes(item[at..at + 8].try_into().unwrap());
         let count = |at: usize| u32::from_le_bytes(item[at..at + 4].try_into().unwrap());
         let (low, high, public, private) = (half(0), half(8), count(16), count(20));
         let ipid = Guid { low, high };
         let done = if back {
-            take_counts(words, &index, column, ipid, public, private).map(|r| {
+            take_counts(words, index, column, ipid, public, private).map(|r| {
                 if r.interface_went {
                     index.again(words);
                 }
+                r.public as u64 + r.private as u64
             })
         } else {
-            add_counts(words, &index, column, ipid, public, private)
+            add_counts(words, index, column, ipid, public, private)
+                .map(|()| public as u64 + private as u64)
         };
+        moved += done.unwrap_or(0);
         *result = done.err().unwrap_or(0) as u8;
     }
-    Ok(())
+    Ok(moved)
 }
 
 /// Removes an interface, and its object where that has no other; whether the object went.
@@ -438,6 +513,10 @@ fn remove_interface(words: &mut [u64], row: usize) -> bool {
 
 pub fn drop_client(words: &mut [u64], store: &[u8], client: u32) -> Result<(), u32> {
     judged(words, store)?;
+    client_dropped(words, client)
+}
+
+pub(crate) fn client_dropped(words: &mut [u64], client: u32) -> Result<(), u32> {
     let column = private_column(client)?;
     for row in (0..INTERFACES.live(words)).rev() {
         words[INTERFACES.at(column, row)] = 0;
@@ -460,6 +539,10 @@ fn ping(words: &mut [u64], set: usize) {
 
 pub fn simple_ping(words: &mut [u64], store: &[u8], set: u64) -> Result<(), u32> {
     judged(words, store)?;
+    set_pinged(words, set)
+}
+
+pub(crate) fn set_pinged(words: &mut [u64], set: u64) -> Result<(), u32> {
     let row = SETS.find(words, set).ok_or(11u32)?;
     ping(words, row);
     Ok(())
@@ -474,6 +557,17 @@ pub fn complex_ping(
     deletes: &[u64],
 ) -> Result<u64, u32> {
     let index = judged(words, store)?;
+    set_changed(words, &index, set, sequence, adds, deletes)
+}
+
+pub(crate) fn set_changed(
+    words: &mut [u64],
+    index: &Index,
+    set: u64,
+    sequence: u16,
+    adds: &[u64],
+    deletes: &[u64],
+) -> Result<u64, u32> {
     if adds.len() > 65_535 || deletes.len() > 65_535 {
         return Err(10);
     }
@@ -520,6 +614,10 @@ pub fn complex_ping(
 
 pub fn clock(words: &mut [u64], store: &[u8], time: u64) -> Result<Counts, u32> {
     judged(words, store)?;
+    clock_put(words, time)
+}
+
+pub(crate) fn clock_put(words: &mut [u64], time: u64) -> Result<Counts, u32> {
     if time < words[CLOCK] {
         return Err(2);
     }
@@ -557,6 +655,15 @@ pub fn resolve(
     buffer: &mut [u8],
 ) -> Result<(usize, Guid), u32> {
     judged(words, store)?;
+    resolved(words, store, oxid, buffer)
+}
+
+pub(crate) fn resolved(
+    words: &[u64],
+    store: &[u8],
+    oxid: u64,
+    buffer: &mut [u8],
+) -> Result<(usize, Guid), u32> {
     let row = EXPORTERS.find(words, oxid).ok_or(4u32)?;
     let list = list_of(store, row);
     if buffer.len() < list.len() {
@@ -575,6 +682,16 @@ pub fn resolve_filtered(
     buffer: &mut [u8],
 ) -> Result<(usize, Guid), u32> {
     judged(words, store)?;
+    resolved_filtered(words, store, oxid, protocols, buffer)
+}
+
+pub(crate) fn resolved_filtered(
+    words: &[u64],
+    store: &[u8],
+    oxid: u64,
+    protocols: &[u16],
+    buffer: &mut [u8],
+) -> Result<(usize, Guid), u32> {
     if protocols.len() > 65_535 {
         return Err(10);
     }
@@ -583,7 +700,7 @@ pub fn resolve_filtered(
     Ok((length, unknown(words, row)))
 }
 
-fn counts(words: &[u64]) -> Counts {
+pub(crate) fn counts(words: &[u64]) -> Counts {
     Counts {
         exporters: EXPORTERS.live(words),
         objects: OBJECTS.live(words),
@@ -599,12 +716,20 @@ pub fn census(words: &[u64], store: &[u8]) -> Result<Counts, u32> {
 
 pub fn member_count(words: &[u64], store: &[u8], set: u64) -> Result<usize, u32> {
     judged(words, store)?;
+    members_counted(words, set)
+}
+
+pub(crate) fn members_counted(words: &[u64], set: u64) -> Result<usize, u32> {
     let row = SETS.find(words, set).ok_or(11u32)?;
     Ok(members(words, row).count_ones() as usize)
 }
 
 pub fn next_stop(words: &[u64], store: &[u8], reference: &[u8]) -> Result<Stop, u32> {
     judged(words, store)?;
+    stop_found(words, store, reference)
+}
+
+pub(crate) fn stop_found(words: &[u64], store: &[u8], reference: &[u8]) -> Result<Stop, u32> {
     let (r, tail) = read_reference(reference)?;
     if r.flags == 4 {
         return Err(14);

@@ -24,7 +24,7 @@ use crate::decode;
 use crate::model_side::Model;
 use crate::op::Op;
 use crate::recordings::{bytes, Record, Replays};
-use crate::subject::Library;
+use crate::subject::{Library, Plain};
 use model::recording::{held, Outcome};
 use std::fmt::Write;
 
@@ -61,6 +61,9 @@ impl Lines {
         let (words, store) = &mut self.lent;
         let outcome = S::replay(&mut words[..n], &mut store[..m], recording);
         assert!(outcome.is_ok() || self.lent == before, "kept");
+        let (mut words, mut store) = before;
+        let plain = Plain::replay(&mut words[..n], &mut store[..m], recording);
+        assert_eq!(plain, outcome, "plain Rust");
         self.seen.insert((b'p', outcome.err().unwrap_or(0)));
         outcome
     }
