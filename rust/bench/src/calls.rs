@@ -1,4 +1,4 @@
-//! Rows of the judgement and of single calls on a full table.
+//! Rows of the judgement, of single calls on a full table, and of a replay.
 
 use crate::data::{
     addresses, empty_table, full_table, full_table_by, guid, ipid, one_binding, one_bucket,
@@ -6,7 +6,8 @@ use crate::data::{
 };
 use crate::measure::{Bench, State};
 use plain::table as pt;
-use rimonakh::{Oid, Oxid, SetId, LONGEST_SNAPSHOT};
+use rimonakh::limits::MOST_RECORDS;
+use rimonakh::{Oid, Oxid, Recorder, SetId, Table, LONGEST_SNAPSHOT};
 
 pub fn judging(bench: &mut Bench) {
     bench.group("Judging a table (census)");
@@ -169,4 +170,32 @@ pub fn snapshots(bench: &mut Bench) {
             |s| plain::snapshot::load(&mut s.words, &mut s.store, &snapshot),
         );
     }
+}
+
+/// The load of a full table's snapshot, and adds to all of its interfaces in turn.
+pub fn replays(bench: &mut Bench) {
+    bench.group("A record of a replay");
+    let State { words, store, .. } = full_table(&one_binding(20));
+    let mut recorder = Recorder::over(Table::over(words, store)).unwrap();
+    for k in 1..MOST_RECORDS {
+        recorder
+            .add(k as u32 % 8, guid(ipid(k % 256)), 2, 1)
+            .unwrap();
+    }
+    let (_, recording) = recorder.finish();
+    let agreed = |differs: u32| if differs == 0 { Ok(()) } else { Err(differs) };
+    bench
+        .row("replay 16,384 records, adds on a full table")
+        .each(MOST_RECORDS as usize)
+        .run(
+            &empty_table(),
+            |s| {
+                let outcome = s.table().replay(&recording);
+                agreed(outcome.map_err(|e| e.number())?.differs.unwrap_or(0))
+            },
+            |s| {
+                let outcome = plain::recording::replay(&mut s.words, &mut s.store, &recording);
+                agreed(outcome?.differs)
+            },
+        );
 }

@@ -40,6 +40,7 @@ fn main() -> ExitCode {
     calls::pings(&mut bench);
     calls::resolving(&mut bench);
     calls::snapshots(&mut bench);
+    calls::replays(&mut bench);
     bytes::references(&mut bench);
     bytes::nests(&mut bench);
     bytes::contexts(&mut bench);
