@@ -16,6 +16,7 @@ ghost use lib.Dec.{eqb, ltb};
 ghost use Rattle.kinds.specs.declared.Guid.{Guid};
 ghost use Rattle.fields.specs.Fields.{field};
 ghost use Rattle.rules.specs.Contract.{Whole};
+ghost use Rattle.table_columns.specs.Members.{hasMember, MemberPut};
 ghost use Rattle.table_view.specs.View.{memory, view, oidsOf, objectCount, Holds};
 ghost use Rattle.table_edit.specs.Edits.{addExporter};
 ghost use Rattle.snapshot_rows.specs.declared.Section.the-variants.{Exporters, Objects, Interfaces, Sets};
@@ -149,6 +150,17 @@ fn counted(k: usize, more: bool) -> usize
     if more { k + 1 } else { k }
 }
 
+// Row j, which is no member, is made one where a test holds.
+fn with_member(members: Members, j: usize, member: bool) -> Members
+    requires { ⌜ hasMember members j ≡ false ⌝ }
+    ensures { λ r. ⌜ MemberPut j «member» members r ⌝ }
+{
+    if member {
+        return members.put(j, true);
+    }
+    members
+}
+
 // The rows of the n members of a set's row, which stand in the order of the objects.
 fn find_members<'a>(words: &'a [u64], s: &'a [u8], n: usize) -> Found
     requires { ⌜ Whole (now words) × (n < 65536) ⌝ }
@@ -160,7 +172,7 @@ fn find_members<'a>(words: &'a [u64], s: &'a [u8], n: usize) -> Found
     let mut j = 0;
     while j < count {
         let member = is_member(words, j, s, k, n);
-        members = members.put(j, member);
+        members = with_member(members, j, member);
         k = counted(k, member);
         j += 1;
     }

@@ -15,7 +15,7 @@ use Rattle.kinds.proofs.Refusing.{true-false, same-test, by-test}
 use Rattle.lists.specs.Lists.{keep, tabulate}
 use Rattle.lists.proofs.Tests.{true-or-false, below-or-not, and-left, and-right}
 use Rattle.lists.proofs.Lists.{keep-ext-on, every-tabulate, map-append, length-tabulate, getD-tabulate}
-use Rattle.table_columns.specs.Members.{hasMember, MemberPut}
+use Rattle.table_columns.specs.Members.{hasMember, InWords, MemberPut}
 use Rattle.table_columns.specs.declared.members.Members.{Members}
 use Rattle.table_columns.proofs.members.Bits.{keep-next, below-holds, members-below}
 use Rattle.table_columns.proofs.members.Making.{zero-member}
@@ -43,6 +43,17 @@ kept-in-order p (o ∷ os) =
     (true-or-false (p o))
 
 -- ---- the walk
+
+-- a row that is no member is made none
+pub put-again : (j : ℕ) (m : Members) → InWords m → hasMember m j ≡ false → MemberPut j false m m
+put-again j m w h =
+    record {
+      words = w;
+      rows = λ i.
+          by-test (λ (b : Bool). hasMember m i ≡ b) (ltb j 128 && eqb i j) false (hasMember m i)
+          (λ t. ap (hasMember m) (eqb-true i j (and-right (ltb j 128) (eqb i j) t)) ∙ h)
+          (λ t. refl);
+    }
 
 -- the members below k are found at rows below j
 pub record Walked (ids ms : List ℕ) (j k : ℕ) (m : Members) : Type 0 where

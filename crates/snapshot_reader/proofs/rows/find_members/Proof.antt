@@ -24,6 +24,9 @@ loop-holds c =
     let a = c .before .before .before .args in
     (omega arith, walk-begun (oidsOf (a .words .now)) (membersIn (a .s .now) (a .n)) _ refl refl)
 
+with-member-requires : tie.Need-with-member-requires Inv-loop μ-loop
+with-member-requires c κs = let l = c .before .before .loop in l .inv .1 .none (l .j) (omega arith)
+
 counted-requires : tie.Need-counted-requires Inv-loop μ-loop
 counted-requires c κs =
     let w = c .before .before .before .loop .inv .1 .place in
@@ -42,8 +45,8 @@ loop-again c =
     let m = c .before .before .is-member in (
       omega arith,
       rw (c .counted .ensures)
-          (walk-step (oidsOf ws) (membersIn s (st .args .n)) (l .j) (l .k) (l .members) (c .before .put .result) (m .result) (omega arith) (omega arith) (l .inv .1)
-          (m .ensures ∙ member-tested s (st .args .n) (l .k) (getD (oidsOf ws) (l .j) 0)) (c .before .put .ensures)),
+          (walk-step (oidsOf ws) (membersIn s (st .args .n)) (l .j) (l .k) (l .members) (c .before .with-member .result) (m .result) (omega arith) (omega arith) (l .inv .1)
+          (m .ensures ∙ member-tested s (st .args .n) (l .k) (getD (oidsOf ws) (l .j) 0)) (c .before .with-member .ensures)),
     )
 
 returns : tie.Need-returns Inv-loop μ-loop
@@ -67,7 +70,7 @@ find-members-spec =
     (λ c κs. search needs)
     loop-holds
     (λ c κs. search needs)
-    (λ c κs. search needs)
+    with-member-requires
     counted-requires
     (λ c. omega arith)
     (λ c. omega arith)
