@@ -5,7 +5,7 @@ ghost use mathlib.Core.Path.{_≡_};
 ghost use Prim.Native.Nat.{_+_, _*_, _<_, _≤_};
 ghost use lib.ListN.{length};
 ghost use Rattle.bindings.specs.Bindings.{PartOf};
-ghost use Rattle.extensions.specs.Extensions.{pairs, paddingAnswer, pointersAnswer, extentAnswer, extentsAnswer, startOf, countAt, extentsStart, countedAnswer, pointedAnswer, frontAnswer, arrayAnswer, arrayEnd, walkedTo, walk, readExtensions, extensionAt, extensionFrom, noExtension, placeOf};
+ghost use Rattle.extensions.specs.Extensions.{pairs, paddingAnswer, pointersAnswer, extentAnswer, extentsAnswer, startOf, countAt, extentsStart, countedAnswer, pointedAnswer, frontAnswer, arrayAnswer, extensionsAnswer, arrayEnd, walkedTo, walk, readExtensions, extensionAt, extensionFrom, noExtension, placeOf};
 
 // What a header says of its extensions: its pointer to the array, the array's pointer, and their number.
 #[repr(C)]
@@ -215,18 +215,11 @@ pub fn judge(s: &[u8], at: usize) -> Walked
     array(s, at)
 }
 
-// What a header says of its extensions; zeros where they are refused.
-pub fn read(s: &[u8], at: usize) -> Extensions
+// What an accepted header says of its extensions.
+pub fn stated(s: &[u8], at: usize) -> Extensions
+    requires { ⌜ extensionsAnswer (now s) at ≡ 0 ⌝ }
     ensures { λ r. ⌜ r ≡ readExtensions (now (s .entry)) at ⌝ }
 {
-    let x = judge(s, at);
-    if x.answer != answer::DONE {
-        return Extensions {
-            pointer: 0,
-            array: 0,
-            count: 0,
-        };
-    }
     let pointer = fields::read_u32(s, at);
     if pointer == 0 {
         return Extensions {

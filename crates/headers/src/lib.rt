@@ -97,7 +97,7 @@ impl OrpcThis {
         ReadThis {
             answer: answer::DONE,
             header: OrpcThis::new(fields::read_u16(s, 2), fields::read_u32(s, 4), causality),
-            extensions: extensions::read(s, 28),
+            extensions: extensions::stated(s, 28),
             length: x.to,
         }
     }
@@ -232,7 +232,7 @@ impl OrpcThat {
         ReadThat {
             answer: answer::DONE,
             header: OrpcThat::new(fields::read_u32(s, 0)),
-            extensions: extensions::read(s, 4),
+            extensions: extensions::stated(s, 4),
             length: x.to,
         }
     }
