@@ -10,7 +10,7 @@ use lib.ListN.{length, take, drop, length-append, length-drop, drop-of-length-le
 use lib.Seq.{take-all, length-take-le}
 use Rattle.fields.specs.Fields.{field}
 use Rattle.kinds.proofs.Refusing.{by-test, same-test}
-use Rattle.bindings.specs.Bindings.{words, throughZero, TextPasses, headWords, firstBinding, bindingsUpTo, bindingsOf, joined, sameWords, isPart, refusal, place}
+use Rattle.bindings.specs.Bindings.{words, throughZero, NoZero, headWords, firstBinding, bindingsUpTo, bindingsOf, joined, sameWords, isPart, refusal, place}
 use Rattle.bindings.specs.declared.Part.{Part}
 use Rattle.bindings.specs.declared.Part.the-variants.{Strings, Security}
 
@@ -58,22 +58,21 @@ pub text-more : (s : List ℕ) (at to n m : ℕ) → to ≡ at + 2 → n ≡ suc
 unfolding throughZero
 text-more s at to n m d e z = rw (words-more s at n m e, ne-eqb _ 0 z, d)
 
--- words that end no text: none, or one more
-pub passes-none : (s : List ℕ) (at : ℕ) → TextPasses s at 0
-passes-none s at m =
+-- words before the first zero word, and the text that they leave
+pub text-passed : (s : List ℕ) (k at n : ℕ) → k ≤ n → NoZero s at k → k + length (throughZero (words s (at + 2 * k) (n - k))) ≡ length (throughZero (words s at n))
+text-passed s zero at n h z =
     let a : at + 2 * 0 ≡ at = omega arith in
-    let b : 0 + m ≡ m = omega arith in
+    let b : n - 0 ≡ n = omega arith in
     rw (a, b) (omega arith)
-
-pub passes-more : (s : List ℕ) (at j : ℕ) → TextPasses s at j → (field s (at + 2 * j) 2 ≡ 0 → ⊥) → TextPasses s at (j + 1)
-passes-more s at j p z m =
-    let b : j + 1 + m ≡ j + suc m = omega arith in
-    let e = p (suc m) in
-    let t = text-more s (at + 2 * j) (at + 2 * (j + 1)) (suc m) m (omega arith) refl z in
-    rw b (omega arith)
-
-pub passes-on : (s : List ℕ) (at to n m : ℕ) → TextPasses s at 8 → to ≡ at + 16 → n ≡ 8 + m → length (throughZero (words s at n)) ≡ 8 + length (throughZero (words s to m))
-passes-on s at to n m p d e = rw (d, e) (p m)
+text-passed s (suc k) at n h z =
+    let a : at + 2 * suc k ≡ at + 2 + 2 * k = omega arith in
+    let b : n - suc k ≡ n - 1 - k = omega arith in
+    let d : at + 2 * 0 ≡ at = omega arith in
+    let first : field s at 2 ≡ 0 → ⊥ = rw d at (z 0 (omega arith)) in
+    let more : NoZero s (at + 2) k = λ j l. let e : at + 2 * suc j ≡ at + 2 + 2 * j = omega arith in rw e at (z (suc j) (omega arith)) in
+    let rest = text-passed s k (at + 2) (n - 1) (omega arith) more in
+    let one = text-more s at (at + 2) n (n - 1) refl (omega arith) first in
+    rw (a, b) (omega arith)
 
 -- a text is the front of the words
 through-front : (ws : List ℕ) → throughZero ws ++ drop (length (throughZero ws)) ws ≡ ws

@@ -1,6 +1,6 @@
 -- The binding list, DUALSTRINGARRAY (document 01, "Reference bytes"; 000, section 2.2.19): N and S, then N words, of which the first S
 -- are the string part and the others the security part.
-use Prim.Native.Nat.{ℕ, suc, zero, _+_, _*_, _-_}
+use Prim.Native.Nat.{ℕ, suc, zero, _+_, _*_, _-_, _<_}
 use mathlib.Core.Path.{_≡_}
 use mathlib.Core.Bool.{Bool, true, false, cond, not, _&&_, _||_}
 use mathlib.Core.List.{List, [], _∷_, _++_}
@@ -24,9 +24,9 @@ unfoldable pub throughZero : List ℕ → List ℕ
 throughZero [] = []
 throughZero (w ∷ ws) = w ∷ cond (eqb w 0) [] (throughZero ws)
 
--- none of the k words from at ends a text
-abbrev pub TextPasses : List ℕ → ℕ → ℕ → Type 0
-TextPasses s at k = (m : ℕ) → length (throughZero (words s at (k + m))) ≡ k + length (throughZero (words s (at + 2 * k) m))
+-- none of the k words from at is zero
+abbrev pub NoZero : List ℕ → ℕ → ℕ → Type 0
+NoZero s at k = (j : ℕ) → j < k → field s (at + 2 * j) 2 ≡ 0 → ⊥
 
 -- the words of a binding before its address or name: a tower word; a service word and one word of any content
 abbrev pub headWords : Part → ℕ

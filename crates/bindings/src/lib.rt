@@ -7,7 +7,7 @@ ghost use mathlib.Core.Bool.{true, cond};
 ghost use Prim.Native.Nat.{_+_, _*_, _-_, _<_, _≤_};
 ghost use lib.Dec.{eqb};
 ghost use lib.ListN.{length};
-ghost use Rattle.bindings.specs.Bindings.{words, throughZero, TextPasses, headWords, firstBinding, bindingsOf, isPart, twoParts, listLength, frontAnswer, listAnswer, refusal, place, bindingAt, bindingFrom, PartOf};
+ghost use Rattle.bindings.specs.Bindings.{words, throughZero, NoZero, headWords, firstBinding, bindingsOf, isPart, twoParts, listLength, frontAnswer, listAnswer, refusal, place, bindingAt, bindingFrom, PartOf};
 
 // The two parts of a list.
 pub enum Part {
@@ -38,7 +38,7 @@ impl Place {
 // Whether none of the eight words from at is zero. All are looked at, so that they can be tested side by side.
 fn is_text_block(s: &[u8], at: usize) -> bool
     requires { ⌜ at + 16 ≤ length (now s) ⌝ }
-    ensures { λ r. ⌜ (r ≡ true → TextPasses (now (s .entry)) at 8) ⌝ }
+    ensures { λ r. ⌜ (r ≡ true → NoZero (now (s .entry)) at 8) ⌝ }
 {
     let mut all = true;
     let mut j = 0;
@@ -52,10 +52,9 @@ fn is_text_block(s: &[u8], at: usize) -> bool
 }
 
 // How many of the n words from at are in blocks before the first zero word.
-fn block_words(s: &[u8], at: usize, n: usize) -> usize
+pub fn block_words(s: &[u8], at: usize, n: usize) -> usize
     requires { ⌜ at + 2 * n ≤ length (now s) ⌝ }
-    ensures { λ r. ⌜
-        (r ≤ n) × (r + length (throughZero (words (now (s .entry)) (at + 2 * r) (n - r))) ≡ length (throughZero (words (now (s .entry)) at n))) ⌝ }
+    ensures { λ r. ⌜ (r ≤ n) × NoZero (now (s .entry)) at r ⌝ }
 {
     let mut i = 0;
     while 8 <= n - i {

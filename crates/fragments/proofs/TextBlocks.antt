@@ -10,10 +10,10 @@ use lib.Dec.{eqb, leb}
 use lib.ListN.{length, getD, drop, length-drop}
 use lib.Seq.{drop-cons}
 use Rattle.fields.specs.Fields.{field}
-use Rattle.bindings.specs.Bindings.{words}
+use Rattle.bindings.specs.Bindings.{words, NoZero}
 use Rattle.bindings.proofs.Parts.{words-more, words-none}
 use Rattle.bindings.proofs.ListBytes.{by-bool}
-use Rattle.fragments.specs.Walk.{wordStep, listStep, walkList, TextBlock, TextPassed}
+use Rattle.fragments.specs.Walk.{wordStep, listStep, walkList, TextPassed}
 use Rattle.fragments.specs.Fragments.{limit, nextMode, nextSeen}
 use Rattle.fragments.specs.Rest.{modeAfter}
 use Rattle.fragments.proofs.Bytewise.{pair}
@@ -53,10 +53,8 @@ passed-none s v k m at w h =
     let d : w - 0 ≡ w = omega arith in
     (h, rw (a, b, d))
 
-pub passed-more : (s : List ℕ) (v k m at w i : ℕ) → m ≡ 2 → TextPassed v k m s at w i → TextBlock v (k + i) s (at + 2 * i) → 8 < w - i → TextPassed v k m s at w (i + 8)
-passed-more s v k m at w i e p t h =
-    let g = text-words s v 8 (k + i) (at + 2 * i) (w - i) (k + (i + 8)) (at + 2 * (i + 8)) (w - (i + 8)) t (omega arith) (omega arith) (omega arith) in
-    (omega arith, (rw e g) ∙ p .1)
+pub passed-text : (s : List ℕ) (v k m at w r : ℕ) → m ≡ 2 → r < w → NoZero s at r → ((j : ℕ) → j < r → k + j ≡ v → ⊥) → TextPassed v k m s at w r
+passed-text s v k m at w r e h z p = (h, rw e (text-words s v r k at w (k + r) (at + 2 * r) (w - r) (λ j l. (z j l, p j l)) refl refl (omega arith)))
 
 -- words of a text, and one more
 pub turn-walked : (s : List ℕ) (v k m at w i r p m′ whole : ℕ) → i < w → TextPassed v (k + i) m s (at + 2 * i) (w - i) r → p ≡ i + r

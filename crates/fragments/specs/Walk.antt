@@ -4,7 +4,6 @@ use mathlib.Core.Path.{_≡_}
 use mathlib.Core.Bool.{Bool, cond, _&&_, _||_}
 use mathlib.Core.List.{List, [], _∷_}
 use lib.Dec.{eqb, ltb}
-use Rattle.fields.specs.Fields.{field}
 use Rattle.bindings.specs.Bindings.{words, count, split, twoParts}
 use Rattle.bindings.specs.declared.Part.{Part}
 use Rattle.bindings.specs.declared.Part.the-variants.{Strings, Security}
@@ -65,14 +64,6 @@ abbrev pub PartsWalk : Type 0
 PartsWalk = (s : List ℕ) → twoParts s ≡ bothClosed (count s) (split s) (walkList (split s) 0 0 (words s 4 (count s)))
 
 -- ---- texts passed in blocks
-
--- none of the c words from byte at is zero
-abbrev pub NoZero : List ℕ → ℕ → ℕ → Type 0
-NoZero s at c = (j : ℕ) → j < c → field s (at + 2 * j) 2 ≡ 0 → ⊥
-
--- none of the eight words from word k, at byte at, is zero or begins the security part
-abbrev pub TextBlock : ℕ → ℕ → List ℕ → ℕ → Type 0
-TextBlock v k s at = (j : ℕ) → j < 8 → (field s (at + 2 * j) 2 ≡ 0 → ⊥) × (k + j ≡ v → ⊥)
 
 -- r of the w words from word k leave the walk where it stands, and there are more
 abbrev pub TextPassed : ℕ → ℕ → ℕ → List ℕ → ℕ → ℕ → ℕ → Type 0

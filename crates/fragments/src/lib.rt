@@ -10,8 +10,8 @@ ghost use lib.ListN.{length, set};
 ghost use Rattle.fields.specs.Fields.{field};
 ghost use Rattle.references.specs.References.{isCustom, fixedSize};
 ghost use Rattle.bindings.specs.Bindings.{words};
-ghost use Rattle.fragments.specs.Walk.{wordStep, listStep, walkList, NoZero, TextBlock, TextPassed, bothClosed};
-ghost use Rattle.fragments.specs.Rest.{seenAfter, lowAfter, modeAfter, keptAfter, overAfter, waitingAfter, walkAfter, restAfter};
+ghost use Rattle.fragments.specs.Walk.{wordStep, listStep, walkList, TextPassed, bothClosed};
+ghost use Rattle.fragments.specs.Rest.{seenAfter, lowAfter, modeAfter, keptAfter, overAfter, waitingAfter, walkAfter};
 ghost use Rattle.fragments.specs.Fragments.{isPlain, isNilReference, none, formOf, inTail, nextMode, nextSeen, stepHead, step, pushed, listEnd, readEnd, endAnswer, finished, finalAfter};
 
 // What is kept between fragments.
@@ -185,7 +185,10 @@ fn keep(waiting: &mut [u8], inside: bool, kept: usize, b: u8)
 
 // The walk after one byte more of any kind.
 fn walked(head: &[u8], form: u32, seen: u32, low: u8, mode: u8, b: u8) -> u8
-    ensures { λ r. ⌜ r ≡ cond (inTail form seen && not (isCustom form)) (nextMode (field (now (head .entry)) (fixedSize form) 2) (field (now (head .entry)) (fixedSize form + 2) 2) (seen - fixedSize form) low mode b) mode ⌝ }
+    ensures { λ r. ⌜
+        r ≡ cond (inTail form seen && not (isCustom form))
+        (nextMode (field (now (head .entry)) (fixedSize form) 2) (field (now (head .entry)) (fixedSize form + 2) 2) (seen - fixedSize form) low mode b)
+        mode ⌝ }
 {
     if !in_tail(form, seen) {
         return mode;
@@ -222,7 +225,9 @@ impl Fragments {
 
     // One byte more.
     fn step(self, waiting: &mut [u8], b: u8) -> Fragments
-        ensures { λ r. ⌜ (r ≡ (step (record { state = self; waiting = now (waiting .entry) }) b) .state) × (now (waiting .exit) ≡ (step (record { state = self; waiting = now (waiting .entry) }) b) .waiting) ⌝ }
+        ensures { λ r. ⌜
+            (r ≡ (step (record { state = self; waiting = now (waiting .entry) }) b) .state)
+            × (now (waiting .exit) ≡ (step (record { state = self; waiting = now (waiting .entry) }) b) .waiting) ⌝ }
     {
         let head = self.head;
         let form = form_of(&head, self.seen);
@@ -243,7 +248,9 @@ impl Fragments {
 
     // A fragment more, byte by byte.
     fn push_each(self, waiting: &mut [u8], fragment: &[u8]) -> Fragments
-        ensures { λ r. ⌜ (r ≡ (pushed (record { state = self; waiting = now (waiting .entry) }) (now (fragment .entry))) .state) × (now (waiting .exit) ≡ (pushed (record { state = self; waiting = now (waiting .entry) }) (now (fragment .entry))) .waiting) ⌝ }
+        ensures { λ r. ⌜
+            (r ≡ (pushed (record { state = self; waiting = now (waiting .entry) }) (now (fragment .entry))) .state)
+            × (now (waiting .exit) ≡ (pushed (record { state = self; waiting = now (waiting .entry) }) (now (fragment .entry))) .waiting) ⌝ }
     {
         let mut state = self;
         let mut i = 0;
@@ -326,45 +333,18 @@ fn keep_all(waiting: &mut [u8], inside: bool, kept: usize, bytes: &[u8])
     }
 }
 
-// Whether none of the eight words from at is zero. All are looked at, so that they can be tested side by side.
-fn is_text_block(s: &[u8], at: usize) -> bool
-    requires { ⌜ at + 16 ≤ length (now s) ⌝ }
-    ensures { λ r. ⌜ (r ≡ true → NoZero (now (s .entry)) at 8) ⌝ }
-{
-    let mut all = true;
-    let mut j = 0;
-    while j < 8 {
-        if fields::word(s, at + 2 * j) == 0 {
-            all = false;
-        }
-        j += 1;
-    }
-    all
-}
-
-// Whether the security part, which begins at word v, begins at one of the eight words from word k.
-fn is_split(v: u16, k: usize) -> bool
-    ensures { λ r. ⌜ (r ≡ false → ((j : ℕ) → j < 8 → k + j ≡ v → ⊥)) ⌝ }
+// How many of the w words from word k stand before the security part, which begins at word v, or in it.
+fn part_words(v: u16, k: usize, w: usize) -> usize
+    ensures { λ r. ⌜ (r ≤ w) × ((j : ℕ) → j < r → k + j ≡ v → ⊥) ⌝ }
 {
     if (v as usize) < k {
-        return false;
+        return w;
     }
-    (v as usize) - k < 8
-}
-
-// Whether a walk that stands in a text before word k, at byte at, stands in it after eight words more.
-fn is_in_text(v: u16, k: usize, s: &[u8], at: usize) -> bool
-    requires { ⌜ at + 16 ≤ length (now s) ⌝ }
-    ensures { λ r. ⌜ (r ≡ true → TextBlock v k (now (s .entry)) at) ⌝ }
-{
-    if is_split(v, k) {
-        return false;
-    }
-    is_text_block(s, at)
+    least((v as usize) - k, w)
 }
 
 // How many of the w words from word k, at byte at, are passed in blocks of a text; not all of them. Two words are tested by themselves
-// first, for which a short text is too short.
+// first: a short text has no block.
 fn text_run(v: u16, k: usize, mode: u8, s: &[u8], at: usize, w: usize) -> usize
     requires { ⌜ (0 < w) × (at + 2 * w ≤ length (now s)) × (k + w ≤ 65535) ⌝ }
     ensures { λ r. ⌜ TextPassed v k mode (now (s .entry)) at w r ⌝ }
@@ -381,14 +361,7 @@ fn text_run(v: u16, k: usize, mode: u8, s: &[u8], at: usize, w: usize) -> usize
     if fields::word(s, at + 2) == 0 {
         return 0;
     }
-    let mut i = 0;
-    while 8 < w - i {
-        if !is_in_text(v, k + i, s, at + 2 * i) {
-            return i;
-        }
-        i += 8;
-    }
-    i
+    bindings::block_words(s, at, part_words(v, k, w - 1))
 }
 
 // The walk over w words from word k, at byte at.
@@ -486,20 +459,13 @@ fn walk_after(head: &[u8], form: u32, seen: u32, low: u8, mode: u8, bytes: &[u8]
     mode_after(n, v, start as u32, seen, low, mode, bytes)
 }
 
-// How many bytes of a fragment belong to the first 84.
-fn early(seen: u32, n: usize) -> usize
-    ensures { λ r. ⌜ r ≤ n ⌝ }
-{
-    if 84 <= seen {
-        return 0;
-    }
-    least((84 - seen) as usize, n)
-}
-
 impl Fragments {
+    // A fragment more behind the first 84 bytes.
     fn push_rest(self, waiting: &mut [u8], bytes: &[u8]) -> Fragments
         requires { ⌜ 84 ≤ self .seen ⌝ }
-        ensures { λ r. ⌜ (r ≡ (restAfter (record { state = self; waiting = now (waiting .entry) }) (now (bytes .entry))) .state) × (now (waiting .exit) ≡ (restAfter (record { state = self; waiting = now (waiting .entry) }) (now (bytes .entry))) .waiting) ⌝ }
+        ensures { λ r. ⌜
+            (r ≡ (pushed (record { state = self; waiting = now (waiting .entry) }) (now (bytes .entry))) .state)
+            × (now (waiting .exit) ≡ (pushed (record { state = self; waiting = now (waiting .entry) }) (now (bytes .entry))) .waiting) ⌝ }
     {
         let head = self.head;
         let form = form_of(&head, self.seen);
@@ -519,7 +485,9 @@ impl Fragments {
     }
 
     fn push_late(self, waiting: &mut [u8], bytes: &[u8]) -> Fragments
-        ensures { λ r. ⌜ (r ≡ (pushed (record { state = self; waiting = now (waiting .entry) }) (now (bytes .entry))) .state) × (now (waiting .exit) ≡ (pushed (record { state = self; waiting = now (waiting .entry) }) (now (bytes .entry))) .waiting) ⌝ }
+        ensures { λ r. ⌜
+            (r ≡ (pushed (record { state = self; waiting = now (waiting .entry) }) (now (bytes .entry))) .state)
+            × (now (waiting .exit) ≡ (pushed (record { state = self; waiting = now (waiting .entry) }) (now (bytes .entry))) .waiting) ⌝ }
     {
         if self.seen < 84 {
             return self.push_each(waiting, bytes);
@@ -529,9 +497,14 @@ impl Fragments {
 
     // A fragment more. What belongs to the list or the object data is kept in the waiting buffer as far as there is room.
     pub fn push(self, waiting: &mut [u8], fragment: &[u8]) -> Fragments
-        ensures { λ r. ⌜ (r ≡ (pushed (record { state = self; waiting = now (waiting .entry) }) (now (fragment .entry))) .state) × (now (waiting .exit) ≡ (pushed (record { state = self; waiting = now (waiting .entry) }) (now (fragment .entry))) .waiting) ⌝ }
+        ensures { λ r. ⌜
+            (r ≡ (pushed (record { state = self; waiting = now (waiting .entry) }) (now (fragment .entry))) .state)
+            × (now (waiting .exit) ≡ (pushed (record { state = self; waiting = now (waiting .entry) }) (now (fragment .entry))) .waiting) ⌝ }
     {
-        let m = early(self.seen, fragment.len());
+        if 84 <= self.seen {
+            return self.push_rest(waiting, fragment);
+        }
+        let m = least((84 - self.seen) as usize, fragment.len());
         let state = self.push_each(waiting, &fragment[0..m]);
         state.push_late(waiting, &fragment[m..])
     }

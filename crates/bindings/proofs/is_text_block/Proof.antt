@@ -1,34 +1,30 @@
--- `bindings::is_text_block`: where no zero word was seen, none of the words so far ends a text.
-use Prim.Native.Nat.{_+_, _*_, _-_, _≤_}
+-- `bindings::is_text_block`: where no zero word was seen, none of the words so far is zero.
+use Prim.Native.Nat.{_-_, _≤_}
 use mathlib.Core.Path.{_≡_, sym, _∙_}
 use mathlib.Core.Bool.{true}
 use mathlib.Core.Logic.{⊎-elim}
 use native.Mathlib.Omega.{arith}
+use borrow.Author.Count.{below-more}
 use Rattle.kinds.proofs.Refusing.{true-false}
-use Rattle.bindings.specs.Bindings.{TextPasses}
-use Rattle.bindings.proofs.Parts.{passes-none, passes-more}
+use Rattle.bindings.specs.Bindings.{NoZero}
 use Rattle.bindings.proofs.is_text_block.Statement.{statement}
 use Rattle.bindings.proofs.is_text_block.Tie as tie
 
 abbrev Inv-loop : tie.InvT-loop
-Inv-loop s at all₀ j₀ all j = (j ≤ 8) × (all ≡ true → TextPasses s at j)
+Inv-loop s at all₀ j₀ all j = (j ≤ 8) × (all ≡ true → NoZero s at j)
 
 abbrev μ-loop : tie.MeasureT-loop
 μ-loop s at all₀ j₀ all j = 8 - j
 
-loop-holds : tie.Need-loop-holds Inv-loop μ-loop
-loop-holds c = (omega arith, λ h. passes-none (c .before .args .s .now) (c .before .args .at))
-
 loop-again : tie.Need-loop-again Inv-loop μ-loop
 loop-again c =
-    let a = c .before .before .before .before .before .args in
     let l = c .before .before .before .loop in
     let r = c .before .word .ensures in (
       omega arith,
       λ h.
           ⊎-elim
           (λ w. absurd (true-false (sym h ∙ w .1)))
-          (λ w. passes-more (a .s .now) (a .at) (l .j) (l .inv .1 (sym (w .1) ∙ h)) (λ z. w .0 .left (r ∙ z)))
+          (λ w. below-more _ _ (l .inv .1 (sym (w .1) ∙ h)) (λ z. w .0 .left (r ∙ z)))
           (c .if1 .came),
     )
 
@@ -44,7 +40,7 @@ is-text-block-spec =
     (tie.spec
     Inv-loop
     μ-loop
-    loop-holds
+    (λ c. (omega arith, λ h j l. absurd (omega arith)))
     (λ c. omega arith)
     (λ c. omega arith)
     (λ c κs. omega arith)

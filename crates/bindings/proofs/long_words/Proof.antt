@@ -5,7 +5,7 @@ use native.Mathlib.Omega.{arith}
 use borrow.Author.Needs.{needs}
 use lib.ListN.{length}
 use Rattle.bindings.specs.Bindings.{words, throughZero}
-use Rattle.bindings.proofs.Parts.{text-none, text-end, text-more}
+use Rattle.bindings.proofs.Parts.{text-none, text-end, text-more, text-passed}
 use Rattle.bindings.proofs.long_words.Statement.{statement}
 use Rattle.bindings.proofs.long_words.Tie as tie
 
@@ -16,7 +16,7 @@ abbrev μ-loop : tie.MeasureT-loop
 μ-loop s at n i₀ i = n - i
 
 loop-holds : tie.Need-loop-holds Inv-loop μ-loop
-loop-holds c = c .block-words .ensures
+loop-holds c = let e = c .block-words .ensures in (e .0, text-passed _ _ _ _ (e .0) (e .1))
 
 returns : tie.Need-returns Inv-loop μ-loop
 returns c =

@@ -1,4 +1,4 @@
--- `Fragments::push`: the first 84 bytes one by one, the others at once.
+-- `Fragments::push`: the first 84 bytes, and the others at once.
 use mathlib.Core.Path.{ap, _∙_}
 use native.Mathlib.Nat.{sub-zero}
 use Rattle.fields.proofs.Fields.{take-rest}
@@ -8,15 +8,17 @@ use borrow.Author.Needs.{needs}
 use Rattle.fragments.proofs.Fragments.push.Statement.{statement}
 use Rattle.fragments.proofs.Fragments.push.Tie as tie
 
-returns : tie.Need-returns
-returns c =
-    let a = c .before .before .before .before .before .before .before .before .before .before .before .before .before .args in
+returns-2 : tie.Need-returns-2
+returns-2 c =
+    let each = c .before .before .before .before .before .before .before in
+    let l = each .before .before .before in
+    let a = l .before .before .before .before .before .before .args in
     let s = a .fragment .now in
+    let m = l .least .result in
     let r : Reading = record { state = a .self; waiting = a .waiting .now } in
-    let m = c .before .before .before .before .before .before .before .before .before .before .early .result in
-    let each = rw (sub-zero m) at (c .before .before .before .before .before .before .before .push-each .ensures) in
+    let first = rw (sub-zero m) at (each .push-each .ensures) in
     let late = rw (take-rest s m) at (c .before .before .push-late .ensures) in
-    let e = push-parts r s m _ _ (each .0) (each .1) in
+    let e = push-parts r s m _ _ (first .0) (first .1) in
     (late .0 ∙ ap (λ (x : Reading). x .state) e, late .1 ∙ ap (λ (x : Reading). x .waiting) e)
 
 pub push-spec : {M : Type 1} → statement M
@@ -27,10 +29,15 @@ push-spec =
     (λ c. search needs)
     (λ c. search needs)
     (λ c. search needs)
+    (λ c. search needs)
+    (λ c κs. search needs)
+    (λ c. search needs)
+    (λ c. search needs)
+    (λ c. search needs)
     (λ c κs. search needs)
     (λ c. search needs)
     (λ c. search needs)
     (λ c. search needs)
     (λ c κs. search needs)
     (λ c. search needs)
-    returns)
+    returns-2)
