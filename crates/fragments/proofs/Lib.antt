@@ -1,6 +1,7 @@
 pub mod Walks
 pub mod Bytewise
 pub mod Following
+pub mod Before
 pub mod Rest
 pub mod TextBlocks
 pub mod Ending

@@ -82,7 +82,7 @@ seen-more seen m =
 seen-none : (seen : ℕ) → seen ≡ seenAfter seen 0
 seen-none seen = by-test (λ (n : ℕ). seen ≡ n) (ltb seen limit) (min (seen + 0) limit) seen (λ e. let l = ltb-true seen limit e in omega arith) (λ e. refl)
 
-low-more : (low b : ℕ) (bs : List ℕ) → lowAfter b bs ≡ lowAfter low (b ∷ bs)
+pub low-more : (low b : ℕ) (bs : List ℕ) → lowAfter b bs ≡ lowAfter low (b ∷ bs)
 low-more low b [] = refl
 low-more low b (c ∷ bs) =
     let p : suc (length bs) - 1 ≡ length bs = omega arith in

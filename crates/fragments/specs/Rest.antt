@@ -1,6 +1,6 @@
--- A fragment at once, where the first 84 bytes have come: each part of the state by itself. The code goes by it; it does what `pushed` does
--- (`rest-pushed`).
-use Prim.Native.Nat.{ℕ, _+_, _-_, min}
+-- A fragment at once: where the first 84 bytes have come, each part of the state by itself; before the list or the object data, the head. The
+-- code goes by it; it does what `pushed` does (`rest-pushed`, `quiet-then`).
+use Prim.Native.Nat.{ℕ, _+_, _-_, _<_, _≤_, min}
 use mathlib.Core.Bool.{Bool, cond, not, _&&_, _||_}
 use mathlib.Core.List.{List, [], _∷_}
 use lib.ListN.{length, getD, take}
@@ -9,6 +9,7 @@ use Rattle.kinds.specs.Refusals.{differ}
 use Rattle.fields.specs.Fields.{field, written}
 use Rattle.references.specs.References.{isCustom, fixedSize}
 use Rattle.fragments.specs.Fragments.{limit, Reading, formOf, nextMode, nextSeen}
+use Rattle.fragments.specs.declared.Fragments.{Fragments}
 
 -- the count, the last byte
 abbrev pub seenAfter : ℕ → ℕ → ℕ
@@ -55,3 +56,24 @@ restIn f r bs =
 
 unfoldable pub restAfter : Reading → List ℕ → Reading
 restAfter r bs = restIn (formOf (r .state .head) (r .state .seen)) r bs
+
+-- ---- bytes before the list or the object data
+
+-- up to here bytes change the head, the count and the last byte alone
+unfoldable pub quietEnd : List ℕ → ℕ → ℕ
+quietEnd h seen = cond (ltb seen 24) 24 (fixedSize (formOf h seen))
+
+-- so do n bytes from byte number seen on
+abbrev pub Quiet : List ℕ → ℕ → ℕ → Type 0
+Quiet h seen n = 0 < n → seen + n ≤ quietEnd h seen
+
+unfoldable pub quietAfter : Fragments → List ℕ → Fragments
+quietAfter f bs =
+    record {
+      head = written (f .head) (f .seen) bs;
+      kept = f .kept;
+      seen = f .seen + length bs;
+      low = lowAfter (f .low) bs;
+      mode = f .mode;
+      over = f .over;
+    }

@@ -11,7 +11,7 @@ ghost use Rattle.fields.specs.Fields.{field};
 ghost use Rattle.references.specs.References.{isCustom, fixedSize};
 ghost use Rattle.bindings.specs.Bindings.{words};
 ghost use Rattle.fragments.specs.Walk.{wordStep, listStep, walkList, TextPassed, bothClosed};
-ghost use Rattle.fragments.specs.Rest.{seenAfter, lowAfter, modeAfter, keptAfter, overAfter, waitingAfter, walkAfter};
+ghost use Rattle.fragments.specs.Rest.{seenAfter, lowAfter, modeAfter, keptAfter, overAfter, waitingAfter, walkAfter, quietEnd, Quiet, quietAfter};
 ghost use Rattle.fragments.specs.Fragments.{isPlain, isNilReference, none, formOf, inTail, nextMode, nextSeen, stepHead, step, pushed, listEnd, readEnd, endAnswer, finished, finalAfter};
 
 // What is kept between fragments.
@@ -459,6 +459,57 @@ fn walk_after(head: &[u8], form: u32, seen: u32, low: u8, mode: u8, bytes: &[u8]
     mode_after(n, v, start as u32, seen, low, mode, bytes)
 }
 
+// ---- the first 84 bytes
+
+// How many of n bytes belong to them.
+fn early(seen: u32, n: usize) -> usize
+    ensures { λ r. ⌜ r ≤ n ⌝ }
+{
+    if 84 <= seen {
+        return 0;
+    }
+    least((84 - seen) as usize, n)
+}
+
+// Up to this byte, bytes from number seen on change the head, the count and the last byte alone.
+fn quiet_end(head: &[u8], seen: u32) -> usize
+    ensures { λ r. ⌜ r ≡ quietEnd (now (head .entry)) seen ⌝ }
+{
+    if seen < 24 {
+        return 24;
+    }
+    references::fixed_size(form_of(head, seen))
+}
+
+// How many of n bytes they are.
+fn quiet(head: &[u8], seen: u32, n: usize) -> usize
+    ensures { λ r. ⌜ (r ≤ n) × Quiet (now (head .entry)) seen r ⌝ }
+{
+    let end = quiet_end(head, seen);
+    if end <= seen as usize {
+        return 0;
+    }
+    least(end - seen as usize, n)
+}
+
+impl Fragments {
+    fn push_quiet(self, bytes: &[u8]) -> Fragments
+        requires { ⌜ Quiet (self .head) (self .seen) (length (now bytes)) ⌝ }
+        ensures { λ r. ⌜ r ≡ quietAfter self (now (bytes .entry)) ⌝ }
+    {
+        let mut head = self.head;
+        fields::copy(&mut head, self.seen as usize, bytes);
+        Fragments {
+            head: head,
+            kept: self.kept,
+            seen: self.seen + bytes.len() as u32,
+            low: low_after(self.low, bytes),
+            mode: self.mode,
+            over: self.over,
+        }
+    }
+}
+
 impl Fragments {
     // A fragment more behind the first 84 bytes.
     fn push_rest(self, waiting: &mut [u8], bytes: &[u8]) -> Fragments
@@ -495,6 +546,41 @@ impl Fragments {
         self.push_rest(waiting, bytes)
     }
 
+    // What is left of a fragment once the fixed fields have come: byte by byte up to the first 84, then at once.
+    fn push_tail(self, waiting: &mut [u8], bytes: &[u8]) -> Fragments
+        ensures { λ r. ⌜
+            (r ≡ (pushed (record { state = self; waiting = now (waiting .entry) }) (now (bytes .entry))) .state)
+            × (now (waiting .exit) ≡ (pushed (record { state = self; waiting = now (waiting .entry) }) (now (bytes .entry))) .waiting) ⌝ }
+    {
+        let m = early(self.seen, bytes.len());
+        let state = self.push_each(waiting, &bytes[0..m]);
+        state.push_late(waiting, &bytes[m..])
+    }
+
+    // The fixed fields behind the header, where it has come, and what follows.
+    fn push_fields(self, waiting: &mut [u8], bytes: &[u8]) -> Fragments
+        ensures { λ r. ⌜
+            (r ≡ (pushed (record { state = self; waiting = now (waiting .entry) }) (now (bytes .entry))) .state)
+            × (now (waiting .exit) ≡ (pushed (record { state = self; waiting = now (waiting .entry) }) (now (bytes .entry))) .waiting) ⌝ }
+    {
+        let head = self.head;
+        let m = quiet(&head, self.seen, bytes.len());
+        let state = self.push_quiet(&bytes[0..m]);
+        state.push_tail(waiting, &bytes[m..])
+    }
+
+    // The header, and what follows.
+    fn push_first(self, waiting: &mut [u8], bytes: &[u8]) -> Fragments
+        ensures { λ r. ⌜
+            (r ≡ (pushed (record { state = self; waiting = now (waiting .entry) }) (now (bytes .entry))) .state)
+            × (now (waiting .exit) ≡ (pushed (record { state = self; waiting = now (waiting .entry) }) (now (bytes .entry))) .waiting) ⌝ }
+    {
+        let head = self.head;
+        let m = quiet(&head, self.seen, bytes.len());
+        let state = self.push_quiet(&bytes[0..m]);
+        state.push_fields(waiting, &bytes[m..])
+    }
+
     // A fragment more. What belongs to the list or the object data is kept in the waiting buffer as far as there is room.
     pub fn push(self, waiting: &mut [u8], fragment: &[u8]) -> Fragments
         ensures { λ r. ⌜
@@ -504,9 +590,7 @@ impl Fragments {
         if 84 <= self.seen {
             return self.push_rest(waiting, fragment);
         }
-        let m = least((84 - self.seen) as usize, fragment.len());
-        let state = self.push_each(waiting, &fragment[0..m]);
-        state.push_late(waiting, &fragment[m..])
+        self.push_first(waiting, fragment)
     }
 }
 

@@ -1,0 +1,125 @@
+-- Bytes before the list or the object data at once do what they do one by one.
+use Prim.Native.Nat.{ℕ, suc, zero, _+_, _-_, _<_, _≤_}
+use mathlib.Core.Path.{_≡_, refl, sym, ap, _∙_}
+use mathlib.Core.Logic.{_⊎_, inl, inr}
+use mathlib.Core.Bool.{false, and-false, or-false}
+use mathlib.Core.List.{List, [], _∷_, _++_}
+use native.Mathlib.Omega.{arith}
+use native.Mathlib.Nat.{add-zero, sub-zero}
+use borrow.Author.Tests.{lt-ltb, le-ltb, ltb-true, ltb-false, le-leb, lt-leb}
+use lib.Dec.{ltb}
+use lib.ListN.{length, take, drop, set, length-set, take-append-drop}
+use lib.Seq.{set-split, length-take-le}
+use Rattle.kinds.specs.Refusals.{differ}
+use Rattle.kinds.proofs.Refusing.{by-test}
+use Rattle.fields.specs.Fields.{field}
+use Rattle.fields.proofs.Fields.{field-front, written-more, written-none, take-rest}
+use Rattle.bindings.proofs.ListBytes.{by-bool}
+use Rattle.references.specs.References.{fixedSize}
+use Rattle.references.proofs.Forms.{size-most}
+use Rattle.fragments.specs.Fragments.{limit, Reading, formOf, inTail, step, stepIn, stepHead, pushed}
+use Rattle.fragments.specs.declared.Fragments.{Fragments}
+use Rattle.fragments.specs.Rest.{quietEnd, Quiet, quietAfter}
+use Rattle.fragments.proofs.Rest.{low-more, push-parts}
+
+-- a byte behind a field leaves it
+field-set : (l : List ℕ) (i b at w : ℕ) → i < length l → at + w ≤ i → field (set l i b) at w ≡ field l at w
+field-set l i b at w h f =
+    let t : length (take i l) ≡ i = length-take-le i l (omega arith) in
+    let g : at + w ≤ length (take i l) = omega arith in
+    let front : (rest : List ℕ) → field (take i l ++ rest) at w ≡ field (take i l) at w = λ rest. field-front (take i l) rest at w g in
+    ap (λ (x : List ℕ). field x at w) (set-split l i b h) ∙ front (b ∷ drop (suc i) l)
+    ∙ sym (ap (λ (x : List ℕ). field x at w) (sym (take-append-drop i l)) ∙ front (drop i l))
+
+end-most : (h : List ℕ) (seen : ℕ) → quietEnd h seen ≤ 80
+unfolding quietEnd
+end-most h seen = by-test (λ (n : ℕ). n ≤ 80) (ltb seen 24) 24 _ (λ _. omega arith) (λ _. size-most (formOf h seen))
+
+module _ (h : List ℕ) (seen n : ℕ) (q : Quiet h seen (suc n)) where
+  below : seen + suc n ≤ 80
+  below = let e = q (omega arith) in let m = end-most h seen in omega arith
+
+  outside : inTail (formOf h seen) seen ≡ false
+  unfolding inTail formOf quietEnd
+  outside =
+      by-bool (ltb seen 24)
+      (λ e. let l = ltb-true seen 24 e in rw (lt-leb _ _ l))
+      (λ e.
+      let g : seen + suc n ≤ fixedSize (formOf h seen) = rw e at (q (omega arith)) in
+      let l : seen < fixedSize (formOf h seen) = omega arith in
+      rw (lt-leb _ _ l) (and-false (differ (formOf h seen) 0)))
+
+  module _ (b : ℕ) (size : length h ≡ 84) where
+    form-set : 24 ≤ seen → formOf (set h seen b) (seen + 1) ≡ formOf h seen
+    unfolding formOf
+    form-set l =
+        let m = below in
+        let p : 24 ≤ seen + 1 = omega arith in
+        rw (field-set h seen b 0 4 (omega arith) (omega arith), field-set h seen b 4 4 (omega arith) (omega arith), le-leb _ _ l, le-leb _ _ p)
+
+    quiet-next : Quiet (set h seen b) (seen + 1) n
+    unfolding quietEnd
+    quiet-next p =
+        by-bool (ltb seen 24)
+        (λ e.
+        let g : seen + suc n ≤ 24 = rw e at (q (omega arith)) in
+        let l : seen + 1 < 24 = omega arith in
+        rw (lt-ltb _ _ l) (omega arith))
+        (λ e.
+        let k = ltb-false seen 24 e in
+        let g : seen + suc n ≤ fixedSize (formOf h seen) = rw e at (q (omega arith)) in
+        let l : 24 ≤ seen + 1 = omega arith in
+        rw (le-ltb (seen + 1) 24 l, form-set k) (omega arith))
+
+pub quiet-count : (h : List ℕ) (seen n : ℕ) → Quiet h seen n → (n ≡ 0) ⊎ (seen + n ≤ 80)
+quiet-count h seen zero q = inl refl
+quiet-count h seen (suc n) q = inr (below h seen n q)
+
+-- one byte
+abbrev quietStep : Reading → ℕ → Reading
+quietStep r b =
+    let f = r .state in
+    record {
+      state = record { head = set (f .head) (f .seen) b; kept = f .kept; seen = f .seen + 1; low = b; mode = f .mode; over = f .over };
+      waiting = r .waiting;
+    }
+
+quiet-step : (r : Reading) (b n : ℕ) → Quiet (r .state .head) (r .state .seen) (suc n) → step r b ≡ quietStep r b
+unfolding step stepIn stepHead
+quiet-step r b n q =
+    let m = below (r .state .head) (r .state .seen) n q in
+    let k : r .state .seen < 84 = omega arith in
+    let l : r .state .seen < limit = omega arith in
+    rw (outside (r .state .head) (r .state .seen) n q, lt-ltb _ _ k, lt-ltb _ _ l, or-false (r .state .over))
+
+quiet-pushed : (bs : List ℕ) (r : Reading) → length (r .state .head) ≡ 84 → Quiet (r .state .head) (r .state .seen) (length bs)
+    → pushed r bs ≡ record { state = quietAfter (r .state) bs; waiting = r .waiting }
+unfolding pushed quietAfter
+quiet-pushed [] r size q = rw (written-none (r .state .head) (r .state .seen), add-zero (r .state .seen))
+quiet-pushed (b ∷ bs) r size q =
+    let h = r .state .head in
+    let seen = r .state .seen in
+    let m = below h seen (length bs) q in
+    let room : seen + 0 + suc (length bs) ≤ length h = omega arith in
+    let p : seen + (0 + 1) ≡ seen + 1 = omega arith in
+    let head = rw (add-zero seen, p) at (written-more h seen 0 b bs room) in
+    let count : seen + 1 + length bs ≡ seen + suc (length bs) = omega arith in
+    rw (quiet-step r b (length bs) q)
+    (quiet-pushed bs (quietStep r b) (length-set h seen b ∙ size) (quiet-next h seen (length bs) q b size)
+    ∙ (rw (head, count, low-more (r .state .low) b bs)))
+
+-- such bytes, and the others
+quiet-parts : (f : Fragments) (w bs : List ℕ) (m : ℕ) → length (f .head) ≡ 84 → Quiet (f .head) (f .seen) (length (take m bs))
+    → pushed (record { state = quietAfter f (take m bs); waiting = w }) (drop m bs) ≡ pushed (record { state = f; waiting = w }) bs
+quiet-parts f w bs m size q =
+    let p = sym (quiet-pushed (take m bs) (record { state = f; waiting = w }) size q) in
+    push-parts _ bs m _ w (ap (λ (x : Reading). x .state) p) (ap (λ (x : Reading). x .waiting) p)
+
+-- the same for the code, which takes the m bytes as a part
+pub quiet-then : (f g h : Fragments) (w w′ bs : List ℕ) (m : ℕ) → length (f .head) ≡ 84 → (m ≤ length bs) × Quiet (f .head) (f .seen) m → g ≡ quietAfter f (take (m - 0) bs)
+    → (h ≡ (pushed (record { state = g; waiting = w }) (take (length bs - m) (drop m bs))) .state)
+    × (w′ ≡ (pushed (record { state = g; waiting = w }) (take (length bs - m) (drop m bs))) .waiting)
+    → (h ≡ (pushed (record { state = f; waiting = w }) bs) .state) × (w′ ≡ (pushed (record { state = f; waiting = w }) bs) .waiting)
+quiet-then f g h w w′ bs m size q e late =
+    let p = quiet-parts f w bs m size (rw (length-take-le m bs (q .0)) (q .1)) in
+    rw (e, sub-zero, take-rest bs m, p) at late
