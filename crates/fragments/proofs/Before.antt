@@ -17,7 +17,8 @@ use Rattle.fields.proofs.Fields.{field-front, written-more, written-none, take-
 use Rattle.bindings.proofs.ListBytes.{by-bool}
 use Rattle.references.specs.References.{fixedSize}
 use Rattle.references.proofs.Forms.{size-most}
-use Rattle.fragments.specs.Fragments.{limit, Reading, formOf, inTail, step, stepIn, stepHead, pushed}
+use Rattle.list_walk.specs.Walk.{limit}
+use Rattle.fragments.specs.Fragments.{Reading, formOf, inTail, step, stepIn, stepHead, pushed}
 use Rattle.fragments.specs.declared.Fragments.{Fragments}
 use Rattle.fragments.specs.Rest.{quietEnd, Quiet, quietAfter}
 use Rattle.fragments.proofs.Rest.{low-more, push-parts}

@@ -4,11 +4,10 @@ use mathlib.Core.Path.{_≡_, refl, sym, ap, _∙_}
 use mathlib.Core.Bool.{Bool, true, false, cond, not, _&&_, and-true, and-eq-true-iff}
 use mathlib.Core.List.{List, [], _∷_, _++_}
 use native.Mathlib.Omega.{arith}
-use native.Mathlib.Numerals.{add-one}
 use borrow.Author.Tests.{eq-eqb, ne-eqb, eqb-true, eqb-false, ltb-true, ltb-false, le-leb, lt-leb, leb-true, leb-false, not-true}
 use lib.Dec.{eqb, ltb, leb}
 use lib.ListN.{length, getD, take, drop, length-append, length-drop, List·getD-append, List·getD-eq-default}
-use lib.Seq.{drop-cons, getD-drop, getD-take, ext-getD, length-take-le, drop-append-le, getD-append-seam}
+use lib.Seq.{getD-drop, getD-take, ext-getD, length-take-le, drop-append-le, getD-append-seam}
 use Rattle.kinds.proofs.Refusing.{by-test, true-false, ne-differ, eq-differ}
 use Rattle.fields.specs.Fields.{bytesNumber, field, Bytes}
 use Rattle.fields.proofs.Fields.{field-in, field-front}
@@ -19,9 +18,10 @@ use Rattle.bindings.proofs.ListBytes.{by-bool}
 use Rattle.elements.specs.Elements.{signature}
 use Rattle.references.specs.References.{isForm, isExtended, fixedSize}
 use Rattle.references.proofs.Forms.{by-form}
-use Rattle.fragments.specs.Walk.{listStep, walkList}
+use Rattle.list_walk.specs.Walk.{listStep, walkList}
 use Rattle.fragments.specs.Fragments.{isPlain, formOf, inTail}
-use Rattle.fragments.proofs.Walks.{walk-append}
+use Rattle.list_walk.proofs.Walks.{walk-append}
+use Rattle.list_walk.proofs.TextBlocks.{pair}
 
 -- ---- lists of bytes
 
@@ -33,14 +33,6 @@ front-bytes s t h i =
 
 pub length-more : (s : List ℕ) (b : ℕ) → length (s ++ (b ∷ [])) ≡ length s + 1
 length-more s b = length-append s (b ∷ [])
-
--- two bytes make a word
-pub pair : (s : List ℕ) (at : ℕ) → at + 2 ≤ length s → field s at 2 ≡ getD s at 0 + 256 * getD s (at + 1) 0
-unfolding bytesNumber
-pair s at h =
-    let a : at < length s = omega arith in
-    let b : suc at < length s = omega arith in
-    field-in s at 2 h ∙ (rw (drop-cons s at 0 a, drop-cons s (suc at) 0 b, add-one at) (omega arith))
 
 -- bytes that agree have the same fields
 pub field-agree : (h s : List ℕ) (m at w : ℕ) → ((i : ℕ) → i < m → getD h i 0 ≡ getD s i 0) → m ≤ length h → m ≤ length s → at + w ≤ m → field h at w ≡ field s at w

@@ -18,10 +18,10 @@ use Rattle.contexts.specs.Contexts.{isMarshaler}
 use Rattle.elements.specs.Elements.{signature}
 use Rattle.references.specs.References.{isForm, isCustom, isExtended, fixedSize, referenceAt, headAnswer, objectAnswer, plainAnswer, formAnswer, layoutBy, layoutAnswer, namesNil, referenceAnswer, tailOf}
 use Rattle.references.proofs.Forms.{size-most, Headed, headed, accepted, tail-start, tail-end}
-use Rattle.fragments.specs.Walk.{bothClosed}
+use Rattle.list_walk.specs.Walk.{bothClosed}
 use Rattle.fragments.specs.Fragments.{AnyCuts, AsRead, Reading, isPlain, isNilReference, plainReference, plainTail, wholeAnswer, finishedBy, listEnd, readEnd, endAnswer, finished, finalAfter}
 use Rattle.fragments.specs.declared.Fragments.{Fragments}
-use Rattle.fragments.proofs.Walks.{parts-walk}
+use Rattle.list_walk.proofs.Walks.{parts-walk}
 use Rattle.fragments.proofs.Bytewise.{by-plain, plain-form, form, form-made, nonzero-form, tail, tailLength, tail-in, come, walkOf}
 use Rattle.fragments.proofs.Following.{Follows, at-first, follows-all, head-field}
 

@@ -16,7 +16,8 @@ use Rattle.bindings.specs.Bindings.{joined, count, split}
 use Rattle.bindings.proofs.ListBytes.{by-bool, field-bound}
 use Rattle.references.specs.References.{isCustom}
 use Rattle.references.proofs.Forms.{size-most}
-use Rattle.fragments.specs.Fragments.{limit, Reading, none, formOf, inTail, nextMode, stepHead, step, stepIn, pushed, pushedAll}
+use Rattle.list_walk.specs.Walk.{limit, nextMode}
+use Rattle.fragments.specs.Fragments.{Reading, none, formOf, inTail, stepHead, step, stepIn, pushed, pushedAll}
 use Rattle.fragments.specs.declared.Fragments.{Fragments}
 use Rattle.fragments.proofs.Bytewise.{front-bytes, length-more, field-agree, form, form-short, start, tail, tailLength, Within, within, tail-in, same-form, tail-more, tail-length-more, outside, come, walkOf, walk-early, same-count, walk-same, walk-word}
 

@@ -1,7 +1,5 @@
-pub mod Walks
 pub mod Bytewise
 pub mod Following
 pub mod Before
 pub mod Rest
-pub mod TextBlocks
 pub mod Ending

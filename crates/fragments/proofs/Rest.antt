@@ -16,9 +16,10 @@ use Rattle.fields.proofs.Fields.{written-more, written-none}
 use Rattle.bindings.proofs.ListBytes.{by-bool}
 use Rattle.references.specs.References.{isCustom, fixedSize}
 use Rattle.references.proofs.Forms.{size-most}
-use Rattle.fragments.specs.Fragments.{limit, Reading, formOf, inTail, nextMode, nextSeen, stepHead, step, stepIn, pushed}
+use Rattle.list_walk.specs.Walk.{limit, nextMode, nextSeen, modeAfter}
+use Rattle.fragments.specs.Fragments.{Reading, formOf, inTail, stepHead, step, stepIn, pushed}
 use Rattle.fragments.specs.declared.Fragments.{Fragments}
-use Rattle.fragments.specs.Rest.{seenAfter, lowAfter, modeAfter, keptAfter, overAfter, waitingAfter, walkAfter, restIn, restAfter}
+use Rattle.fragments.specs.Rest.{seenAfter, lowAfter, keptAfter, overAfter, waitingAfter, walkAfter, restIn, restAfter}
 use Rattle.fragments.proofs.Following.{waiting-length}
 
 abbrev formIn : Reading → ℕ
@@ -234,14 +235,6 @@ take-least k bs =
     let m : min k (length bs) ≡ length bs = omega arith in
     let n : length bs ≤ length bs = omega arith in
     rw m (take-all (length bs) bs n ∙ sym (take-all k bs l)))
-
-pub seen-grows : (seen : ℕ) → seen ≤ nextSeen seen
-seen-grows seen = by-test (λ (n : ℕ). seen ≤ n) (ltb seen limit) (seen + 1) seen (λ _. omega arith) (λ _. omega arith)
-
-pub mode-again : (n v k seen low m b seen′ m′ : ℕ) (bs : List ℕ) → seen′ ≡ nextSeen seen → m′ ≡ nextMode n v (seen - k) low m b
-    → modeAfter n v k seen′ b m′ bs ≡ modeAfter n v k seen low m (b ∷ bs)
-unfolding modeAfter
-mode-again n v k seen low m b seen′ m′ bs p q = rw (p, q)
 
 pub push-parts : (r : Reading) (bs : List ℕ) (m : ℕ) (st : Fragments) (w : List ℕ) → st ≡ (pushed r (take m bs)) .state → w ≡ (pushed r (take m bs)) .waiting
     → pushed (record { state = st; waiting = w }) (drop m bs) ≡ pushed r bs

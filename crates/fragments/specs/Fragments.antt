@@ -1,5 +1,5 @@
 -- References that come in over several packets (document 02, request 8): standard, handler and custom.
-use Prim.Native.Nat.{ℕ, _+_, _-_, _*_, _/_, _%_, min}
+use Prim.Native.Nat.{ℕ, _+_, _-_, _*_, min}
 use mathlib.Core.Path.{_≡_}
 use mathlib.Core.Bool.{Bool, false, cond, not, _&&_, _||_}
 use mathlib.Core.List.{List, [], _∷_}
@@ -12,17 +12,13 @@ use Rattle.contexts.specs.Contexts.{isMarshaler}
 use Rattle.elements.specs.Elements.{signature}
 use Rattle.references.specs.References.{isForm, isCustom, isExtended, fixedSize, referenceAt, noReference, hasNil, headAnswer, referenceAnswer, tailOf}
 use Rattle.references.specs.declared.Reference.{Reference}
-use Rattle.fragments.specs.Walk.{listStep, bothClosed, due}
+use Rattle.list_walk.specs.Walk.{bothClosed, due, nextMode, nextSeen}
 use Rattle.fragments.specs.declared.Fragments.{Fragments}
 use Rattle.fragments.specs.declared.Finished.{Finished}
 
 -- the bytes that are kept of every reference: the fixed fields of each form, and N and S of its list
 abbrev pub headSize : ℕ
 headSize = 84
-
--- bytes are counted up to here: past the end of every list
-abbrev pub limit : ℕ
-limit = 131155
 
 -- ---- the whole
 
@@ -65,14 +61,6 @@ formOf h i = cond (leb 24 i && (eqb (field h 0 4) signature && isPlain (field h 
 -- byte number i belongs to the list or the object data, where f is the form so far
 unfoldable pub inTail : ℕ → ℕ → Bool
 inTail f i = differ f 0 && leb (fixedSize f) i
-
--- byte number j of a list with N = n and S = v completes word number (j - 5) / 2 with the byte before it
-unfoldable pub nextMode : ℕ → ℕ → ℕ → ℕ → ℕ → ℕ → ℕ
-nextMode n v j low m b =
-    cond (leb 5 j && (eqb (j % 2) 1 && ltb ((j - 5) / 2) n)) (listStep v ((j - 5) / 2) m (low + 256 * b)) m
-
-abbrev pub nextSeen : ℕ → ℕ
-nextSeen seen = cond (ltb seen limit) (seen + 1) seen
 
 unfoldable pub stepHead : List ℕ → ℕ → ℕ → List ℕ
 stepHead h i b = cond (ltb i headSize) (set h i b) h

@@ -2,13 +2,14 @@
 -- code goes by it; it does what `pushed` does (`rest-pushed`, `quiet-then`).
 use Prim.Native.Nat.{ℕ, _+_, _-_, _<_, _≤_, min}
 use mathlib.Core.Bool.{Bool, cond, not, _&&_, _||_}
-use mathlib.Core.List.{List, [], _∷_}
+use mathlib.Core.List.{List}
 use lib.ListN.{length, getD, take}
 use lib.Dec.{eqb, ltb}
 use Rattle.kinds.specs.Refusals.{differ}
 use Rattle.fields.specs.Fields.{field, written}
 use Rattle.references.specs.References.{isCustom, fixedSize}
-use Rattle.fragments.specs.Fragments.{limit, Reading, formOf, nextMode, nextSeen}
+use Rattle.list_walk.specs.Walk.{limit, modeAfter}
+use Rattle.fragments.specs.Fragments.{Reading, formOf}
 use Rattle.fragments.specs.declared.Fragments.{Fragments}
 
 -- the count, the last byte
@@ -17,11 +18,6 @@ seenAfter seen m = cond (ltb seen limit) (min (seen + m) limit) seen
 
 abbrev pub lowAfter : ℕ → List ℕ → ℕ
 lowAfter low bs = cond (eqb (length bs) 0) low (getD bs (length bs - 1) 0)
-
--- the walk over the words of a list with N = n and S = v that begins at byte start
-unfoldable pub modeAfter : ℕ → ℕ → ℕ → ℕ → ℕ → ℕ → List ℕ → ℕ
-modeAfter n v start seen low m [] = m
-modeAfter n v start seen low m (b ∷ bs) = modeAfter n v start (nextSeen seen) b (nextMode n v (seen - start) low m b) bs
 
 -- the bytes that find room in the waiting buffer, of size bytes
 abbrev pub keptAfter : Bool → ℕ → ℕ → ℕ → ℕ

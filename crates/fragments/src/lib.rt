@@ -1,5 +1,4 @@
 // References that come in over several packets: standard, handler and custom.
-use bindings::Part;
 use kinds::answer;
 use references::Reference;
 ghost use mathlib.Core.Path.{_≡_};
@@ -9,10 +8,9 @@ ghost use lib.Dec.{ltb, leb};
 ghost use lib.ListN.{length, set};
 ghost use Rattle.fields.specs.Fields.{field};
 ghost use Rattle.references.specs.References.{isCustom, fixedSize};
-ghost use Rattle.bindings.specs.Bindings.{words};
-ghost use Rattle.fragments.specs.Walk.{wordStep, listStep, walkList, TextPassed, bothClosed};
-ghost use Rattle.fragments.specs.Rest.{seenAfter, lowAfter, modeAfter, keptAfter, overAfter, waitingAfter, walkAfter, quietEnd, Quiet, quietAfter};
-ghost use Rattle.fragments.specs.Fragments.{isPlain, isNilReference, none, formOf, inTail, nextMode, nextSeen, stepHead, step, pushed, listEnd, readEnd, endAnswer, finished, finalAfter};
+ghost use Rattle.list_walk.specs.Walk.{nextMode, bothClosed};
+ghost use Rattle.fragments.specs.Rest.{seenAfter, lowAfter, keptAfter, overAfter, waitingAfter, walkAfter, quietEnd, Quiet, quietAfter};
+ghost use Rattle.fragments.specs.Fragments.{isPlain, isNilReference, none, formOf, inTail, stepHead, step, pushed, listEnd, readEnd, endAnswer, finished, finalAfter};
 
 // What is kept between fragments.
 #[repr(C)]
@@ -37,51 +35,6 @@ pub struct Finished {
     pub answer: u32,
     pub reference: Reference,
     pub length: usize,
-}
-
-// One word more of a part.
-fn word_step(p: Part, mode: u8, word: u32) -> u8
-    ensures { λ r. ⌜ r ≡ wordStep p mode word ⌝ }
-{
-    if mode == 0 {
-        if word == 0 {
-            return 3;
-        }
-        match p {
-            Part::Strings => {
-                return 2;
-            }
-            Part::Security => {
-                return 1;
-            }
-        }
-    }
-    if mode == 1 {
-        return 2;
-    }
-    if mode == 2 {
-        if word == 0 {
-            return 0;
-        }
-        return 2;
-    }
-    4
-}
-
-// Word k of a list whose security part begins at word v.
-fn list_step(v: u16, k: u32, mode: u8, word: u32) -> u8
-    ensures { λ r. ⌜ r ≡ listStep v k mode word ⌝ }
-{
-    if k < v as u32 {
-        return word_step(Part::Strings, mode, word);
-    }
-    if k != v as u32 {
-        return word_step(Part::Security, mode, word);
-    }
-    if mode == 3 {
-        return word_step(Part::Security, 0, word);
-    }
-    word_step(Part::Security, 4, word)
 }
 
 // Whether the flags name a form that is read here.
@@ -118,23 +71,6 @@ fn in_tail(form: u32, seen: u32) -> bool
     references::fixed_size(form) <= seen as usize
 }
 
-// The walk after byte number j of a list with N = n and S = v.
-fn next_mode(n: u16, v: u16, j: u32, low: u8, mode: u8, b: u8) -> u8
-    ensures { λ r. ⌜ r ≡ nextMode n v j low mode b ⌝ }
-{
-    if j < 5 {
-        return mode;
-    }
-    if j % 2 != 1 {
-        return mode;
-    }
-    let k = (j - 5) / 2;
-    if n as u32 <= k {
-        return mode;
-    }
-    list_step(v, k, mode, low as u32 + 256 * (b as u32))
-}
-
 fn next_head(head: [u8; 84], seen: u32, b: u8) -> [u8; 84]
     ensures { λ r. ⌜ r ≡ stepHead head seen b ⌝ }
 {
@@ -143,12 +79,6 @@ fn next_head(head: [u8; 84], seen: u32, b: u8) -> [u8; 84]
         next[seen as usize] = b;
     }
     next
-}
-
-fn next_seen(seen: u32) -> u32
-    ensures { λ r. ⌜ r ≡ nextSeen seen ⌝ }
-{
-    if seen < 131155 { seen + 1 } else { seen }
 }
 
 fn next_kept(inside: bool, kept: usize, n: usize) -> usize
@@ -198,7 +128,7 @@ fn walked(head: &[u8], form: u32, seen: u32, low: u8, mode: u8, b: u8) -> u8
     }
     let start = references::fixed_size(form);
     let n = fields::read_u16(head, start);
-    next_mode(
+    list_walk::next_mode(
         n,
         fields::read_u16(head, start + 2),
         seen - start as u32,
@@ -239,7 +169,7 @@ impl Fragments {
         Fragments {
             head: next,
             kept: next_kept(inside, self.kept, n),
-            seen: next_seen(self.seen),
+            seen: list_walk::next_seen(self.seen),
             low: b,
             mode: mode,
             over: next_over(self.over, inside, self.kept, n),
@@ -314,12 +244,6 @@ fn over_after(over: bool, inside: bool, kept: usize, size: usize, m: usize) -> b
     size - kept < m
 }
 
-fn least(a: usize, b: usize) -> usize
-    ensures { λ r. ⌜ r ≡ min a b ⌝ }
-{
-    if a < b { a } else { b }
-}
-
 // Stores bytes of the list or the object data as far as there is room.
 fn keep_all(waiting: &mut [u8], inside: bool, kept: usize, bytes: &[u8])
     ensures { λ _. ⌜ now (waiting .exit) ≡ waitingAfter inside (now (waiting .entry)) kept (now (bytes .entry)) ⌝ }
@@ -327,119 +251,10 @@ fn keep_all(waiting: &mut [u8], inside: bool, kept: usize, bytes: &[u8])
     if inside {
         let size = waiting.len();
         if kept < size {
-            let m = least(size - kept, bytes.len());
+            let m = list_walk::least(size - kept, bytes.len());
             fields::copy(waiting, kept, &bytes[0..m]);
         }
     }
-}
-
-// How many of the w words from word k stand before the security part, which begins at word v, or in it.
-fn part_words(v: u16, k: usize, w: usize) -> usize
-    ensures { λ r. ⌜ (r ≤ w) × ((j : ℕ) → j < r → k + j ≡ v → ⊥) ⌝ }
-{
-    if (v as usize) < k {
-        return w;
-    }
-    least((v as usize) - k, w)
-}
-
-// How many of the w words from word k, at byte at, are passed in blocks of a text; not all of them. Two words are tested by themselves
-// first: a short text has no block.
-fn text_run(v: u16, k: usize, mode: u8, s: &[u8], at: usize, w: usize) -> usize
-    requires { ⌜ (0 < w) × (at + 2 * w ≤ length (now s)) × (k + w ≤ 65535) ⌝ }
-    ensures { λ r. ⌜ TextPassed v k mode (now (s .entry)) at w r ⌝ }
-{
-    if mode != 2 {
-        return 0;
-    }
-    if w < 9 {
-        return 0;
-    }
-    if fields::word(s, at) == 0 {
-        return 0;
-    }
-    if fields::word(s, at + 2) == 0 {
-        return 0;
-    }
-    bindings::block_words(s, at, part_words(v, k, w - 1))
-}
-
-// The walk over w words from word k, at byte at.
-fn walk_words(v: u16, k: usize, mode: u8, s: &[u8], at: usize, w: usize) -> u8
-    requires { ⌜ (at + 2 * w ≤ length (now s)) × (k + w ≤ 65535) ⌝ }
-    ensures { λ r. ⌜ r ≡ walkList v k mode (words (now (s .entry)) at w) ⌝ }
-{
-    let mut m = mode;
-    let mut i = 0;
-    while i < w {
-        let p = i + text_run(v, k + i, m, s, at + 2 * i, w - i);
-        m = list_step(v, (k + p) as u32, m, fields::word(s, at + 2 * p) as u32);
-        i = p + 1;
-    }
-    m
-}
-
-// The walk over the bytes from at, where word k of a list of n words begins.
-fn even_after(n: u16, v: u16, k: usize, mode: u8, s: &[u8], at: usize) -> u8
-    requires { ⌜ at ≤ length (now s) ⌝ }
-    ensures { λ r. ⌜ r ≡ walkList v k mode (words (now (s .entry)) at (min (n - k) ((length (now (s .entry)) - at) / 2))) ⌝ }
-{
-    if n as usize <= k {
-        return mode;
-    }
-    let w = least(n as usize - k, (s.len() - at) / 2);
-    walk_words(v, k, mode, s, at, w)
-}
-
-// The walk over the words of a list that begins at byte start, byte by byte.
-fn mode_each(n: u16, v: u16, start: u32, seen: u32, low: u8, mode: u8, bytes: &[u8]) -> u8
-    requires { ⌜ start ≤ seen ⌝ }
-    ensures { λ r. ⌜ r ≡ modeAfter n v start seen low mode (now (bytes .entry)) ⌝ }
-{
-    let mut at = seen;
-    let mut last = low;
-    let mut m = mode;
-    let mut i = 0;
-    while i < bytes.len() {
-        m = next_mode(n, v, at - start, last, m, bytes[i]);
-        at = next_seen(at);
-        last = bytes[i];
-        i += 1;
-    }
-    m
-}
-
-// Whether m bytes from byte number seen on are several, all counted, and behind N and S of a list that begins at byte start.
-fn is_counted(start: u32, seen: u32, m: usize) -> bool
-    requires { ⌜ start ≤ seen ⌝ }
-    ensures { λ r. ⌜ (r ≡ true → (2 ≤ m) × (start + 4 ≤ seen) × (seen + m ≤ 131155)) ⌝ }
-{
-    if m < 2 {
-        return false;
-    }
-    if seen - start < 4 {
-        return false;
-    }
-    if 131155 <= seen {
-        return false;
-    }
-    m <= (131155 - seen) as usize
-}
-
-// The walk over the words of a list that begins at byte start: by words, but for a first byte that ends one.
-fn mode_after(n: u16, v: u16, start: u32, seen: u32, low: u8, mode: u8, bytes: &[u8]) -> u8
-    requires { ⌜ start ≤ seen ⌝ }
-    ensures { λ r. ⌜ r ≡ modeAfter n v start seen low mode (now (bytes .entry)) ⌝ }
-{
-    if !is_counted(start, seen, bytes.len()) {
-        return mode_each(n, v, start, seen, low, mode, bytes);
-    }
-    let j = seen - start;
-    if j % 2 == 0 {
-        return even_after(n, v, ((j - 4) / 2) as usize, mode, bytes, 0);
-    }
-    let m = next_mode(n, v, j, low, mode, bytes[0]);
-    even_after(n, v, ((j - 3) / 2) as usize, m, bytes, 1)
 }
 
 // The walk of a form with a list.
@@ -456,7 +271,7 @@ fn walk_after(head: &[u8], form: u32, seen: u32, low: u8, mode: u8, bytes: &[u8]
     let start = references::fixed_size(form);
     let n = fields::read_u16(head, start);
     let v = fields::read_u16(head, start + 2);
-    mode_after(n, v, start as u32, seen, low, mode, bytes)
+    list_walk::mode_after(n, v, start as u32, seen, low, mode, bytes)
 }
 
 // ---- the first 84 bytes
@@ -468,7 +283,7 @@ fn early(seen: u32, n: usize) -> usize
     if 84 <= seen {
         return 0;
     }
-    least((84 - seen) as usize, n)
+    list_walk::least((84 - seen) as usize, n)
 }
 
 // Up to this byte, bytes from number seen on change the head, the count and the last byte alone.
@@ -489,7 +304,7 @@ fn quiet(head: &[u8], seen: u32, n: usize) -> usize
     if end <= seen as usize {
         return 0;
     }
-    least(end - seen as usize, n)
+    list_walk::least(end - seen as usize, n)
 }
 
 impl Fragments {

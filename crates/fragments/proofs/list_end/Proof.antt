@@ -6,7 +6,7 @@ use native.Mathlib.Omega.{arith}
 use borrow.Author.Tests.{not-true, not-false, lt-ltb, le-ltb}
 use Rattle.kinds.specs.Refusals.{order}
 use Rattle.fields.specs.Fields.{field}
-use Rattle.fragments.specs.Walk.{bothClosed}
+use Rattle.list_walk.specs.Walk.{bothClosed}
 use Rattle.fragments.specs.Fragments.{listEnd}
 use borrow.Author.Needs.{needs}
 use Rattle.fragments.proofs.list_end.Statement.{statement}

@@ -1,13 +1,13 @@
--- `fragments::walk_words`: the words that are left, walked on, give what all of them give.
+-- `list_walk::walk_words`: the words that are left, walked on, give what all of them give.
 use Prim.Native.Nat.{_+_, _*_, _-_, _≤_}
 use mathlib.Core.Path.{_≡_, refl, sym, _∙_}
 use native.Mathlib.Omega.{arith}
 use Rattle.bindings.specs.Bindings.{words}
-use Rattle.fragments.specs.Walk.{walkList}
-use Rattle.fragments.proofs.TextBlocks.{walk-done, turn-walked}
+use Rattle.list_walk.specs.Walk.{walkList}
+use Rattle.list_walk.proofs.TextBlocks.{walk-done, turn-walked}
 use borrow.Author.Needs.{needs}
-use Rattle.fragments.proofs.walk_words.Statement.{statement}
-use Rattle.fragments.proofs.walk_words.Tie as tie
+use Rattle.list_walk.proofs.walk_words.Statement.{statement}
+use Rattle.list_walk.proofs.walk_words.Tie as tie
 
 abbrev Inv-loop : tie.InvT-loop
 Inv-loop v k mode s at w m₀ i₀ m i = (i ≤ w) × (walkList v (k + i) m (words s (at + 2 * i) (w - i)) ≡ walkList v k mode (words s at w))

@@ -1,9 +1,9 @@
--- `fragments::text_run`: the words passed leave the walk in the text where it stood.
+-- `list_walk::text_run`: the words passed leave the walk in the text where it stood.
 use native.Mathlib.Omega.{arith}
-use Rattle.fragments.proofs.TextBlocks.{passed-none, passed-text}
+use Rattle.list_walk.proofs.TextBlocks.{passed-none, passed-text}
 use borrow.Author.Needs.{needs}
-use Rattle.fragments.proofs.text_run.Statement.{statement}
-use Rattle.fragments.proofs.text_run.Tie as tie
+use Rattle.list_walk.proofs.text_run.Statement.{statement}
+use Rattle.list_walk.proofs.text_run.Tie as tie
 
 returns : tie.Need-returns
 returns c = passed-none _ _ _ _ _ _ (omega arith)

@@ -1,9 +1,9 @@
 -- A walk over the words of a binding list, one word after the other, that says at the end whether they are two parts.
-use Prim.Native.Nat.{ℕ, suc, _+_, _*_, _-_, _<_}
+use Prim.Native.Nat.{ℕ, suc, _+_, _*_, _-_, _/_, _%_, _<_}
 use mathlib.Core.Path.{_≡_}
 use mathlib.Core.Bool.{Bool, cond, _&&_, _||_}
 use mathlib.Core.List.{List, [], _∷_}
-use lib.Dec.{eqb, ltb}
+use lib.Dec.{eqb, ltb, leb}
 use Rattle.bindings.specs.Bindings.{words, count, split, twoParts}
 use Rattle.bindings.specs.declared.Part.{Part}
 use Rattle.bindings.specs.declared.Part.the-variants.{Strings, Security}
@@ -68,3 +68,22 @@ PartsWalk = (s : List ℕ) → twoParts s ≡ bothClosed (count s) (split s) (wa
 -- r of the w words from word k leave the walk where it stands, and there are more
 abbrev pub TextPassed : ℕ → ℕ → ℕ → List ℕ → ℕ → ℕ → ℕ → Type 0
 TextPassed v k m s at w r = (r < w) × (walkList v (k + r) m (words s (at + 2 * r) (w - r)) ≡ walkList v k m (words s at w))
+
+-- ---- a list whose bytes come one after the other
+
+-- bytes are counted up to here: past the end of every list
+abbrev pub limit : ℕ
+limit = 131155
+
+-- byte number j of a list with N = n and S = v completes word number (j - 5) / 2 with the byte before it
+unfoldable pub nextMode : ℕ → ℕ → ℕ → ℕ → ℕ → ℕ → ℕ
+nextMode n v j low m b =
+    cond (leb 5 j && (eqb (j % 2) 1 && ltb ((j - 5) / 2) n)) (listStep v ((j - 5) / 2) m (low + 256 * b)) m
+
+abbrev pub nextSeen : ℕ → ℕ
+nextSeen seen = cond (ltb seen limit) (seen + 1) seen
+
+-- the walk over the words of a list with N = n and S = v that begins at byte start
+unfoldable pub modeAfter : ℕ → ℕ → ℕ → ℕ → ℕ → ℕ → List ℕ → ℕ
+modeAfter n v start seen low m [] = m
+modeAfter n v start seen low m (b ∷ bs) = modeAfter n v start (nextSeen seen) b (nextMode n v (seen - start) low m b) bs

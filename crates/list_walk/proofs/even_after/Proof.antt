@@ -1,10 +1,10 @@
--- `fragments::even_after`: the words that are there and belong to the list.
+-- `list_walk::even_after`: the words that are there and belong to the list.
 use mathlib.Core.Path.{sym}
 use native.Mathlib.Omega.{arith}
-use Rattle.fragments.proofs.TextBlocks.{walk-done}
+use Rattle.list_walk.proofs.TextBlocks.{walk-done}
 use borrow.Author.Needs.{needs}
-use Rattle.fragments.proofs.even_after.Statement.{statement}
-use Rattle.fragments.proofs.even_after.Tie as tie
+use Rattle.list_walk.proofs.even_after.Statement.{statement}
+use Rattle.list_walk.proofs.even_after.Tie as tie
 
 returns : tie.Need-returns
 returns c = sym (walk-done _ _ _ _ _ _ (omega arith))

@@ -1,4 +1,4 @@
--- `fragments::mode_each`: the bytes that are left, walked on, give what all of them give.
+-- `list_walk::mode_each`: the bytes that are left, walked on, give what all of them give.
 use Prim.Native.Nat.{_+_, _-_, _≤_}
 use mathlib.Core.Path.{_≡_, refl, _∙_}
 use mathlib.Core.List.{_∷_}
@@ -6,11 +6,11 @@ use native.Mathlib.Omega.{arith}
 use native.Mathlib.Numerals.{add-one}
 use lib.ListN.{length, drop, getD, drop-of-length-le}
 use lib.Seq.{drop-cons}
-use Rattle.fragments.specs.Rest.{modeAfter}
-use Rattle.fragments.proofs.Rest.{seen-grows, mode-again}
+use Rattle.list_walk.specs.Walk.{modeAfter}
+use Rattle.list_walk.proofs.TextBlocks.{seen-grows, mode-again}
 use borrow.Author.Needs.{needs}
-use Rattle.fragments.proofs.mode_each.Statement.{statement}
-use Rattle.fragments.proofs.mode_each.Tie as tie
+use Rattle.list_walk.proofs.mode_each.Statement.{statement}
+use Rattle.list_walk.proofs.mode_each.Tie as tie
 
 abbrev Inv-loop : tie.InvT-loop
 Inv-loop n v start seen low mode bytes at₀ last₀ m₀ i₀ at last m i =

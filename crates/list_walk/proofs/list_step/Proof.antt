@@ -1,12 +1,12 @@
--- `fragments::list_step`: the part of word k, and whether it begins the security part.
+-- `list_walk::list_step`: the part of word k, and whether it begins the security part.
 use Prim.Native.Nat.{_<_, _≤_}
 use mathlib.Core.Path.{_≡_}
 use native.Mathlib.Omega.{arith}
 use borrow.Author.Tests.{lt-ltb, le-ltb, eq-eqb, ne-eqb}
-use Rattle.fragments.specs.Walk.{listStep}
+use Rattle.list_walk.specs.Walk.{listStep}
 use borrow.Author.Needs.{needs}
-use Rattle.fragments.proofs.list_step.Statement.{statement}
-use Rattle.fragments.proofs.list_step.Tie as tie
+use Rattle.list_walk.proofs.list_step.Statement.{statement}
+use Rattle.list_walk.proofs.list_step.Tie as tie
 
 returns : tie.Need-returns
 unfolding listStep

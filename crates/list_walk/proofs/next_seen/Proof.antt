@@ -1,8 +1,8 @@
--- `fragments::next_seen`.
+-- `list_walk::next_seen`.
 use borrow.Author.Tests.{lt-ltb, le-ltb}
 use borrow.Author.Needs.{needs}
-use Rattle.fragments.proofs.next_seen.Statement.{statement}
-use Rattle.fragments.proofs.next_seen.Tie as tie
+use Rattle.list_walk.proofs.next_seen.Statement.{statement}
+use Rattle.list_walk.proofs.next_seen.Tie as tie
 
 returns : tie.Need-returns
 returns c = rw (lt-ltb _ _ (c .if1 .taken))

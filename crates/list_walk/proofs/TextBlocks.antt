@@ -6,18 +6,16 @@ use mathlib.Core.List.{List, [], _∷_}
 use native.Mathlib.Omega.{arith}
 use native.Mathlib.Numerals.{add-one}
 use borrow.Author.Tests.{lt-ltb, le-ltb, le-leb, leb-true, leb-false, eq-eqb, ne-eqb, eqb-true}
-use lib.Dec.{eqb, leb}
+use lib.Dec.{eqb, ltb, leb}
 use lib.ListN.{length, getD, drop, length-drop}
 use lib.Seq.{drop-cons}
-use Rattle.fields.specs.Fields.{field}
+use Rattle.kinds.proofs.Refusing.{by-test}
+use Rattle.fields.specs.Fields.{bytesNumber, field}
+use Rattle.fields.proofs.Fields.{field-in}
 use Rattle.bindings.specs.Bindings.{words, NoZero}
 use Rattle.bindings.proofs.Parts.{words-more, words-none}
 use Rattle.bindings.proofs.ListBytes.{by-bool}
-use Rattle.fragments.specs.Walk.{wordStep, listStep, walkList, TextPassed}
-use Rattle.fragments.specs.Fragments.{limit, nextMode, nextSeen}
-use Rattle.fragments.specs.Rest.{modeAfter}
-use Rattle.fragments.proofs.Bytewise.{pair}
-use Rattle.fragments.proofs.Rest.{seen-grows, mode-again}
+use Rattle.list_walk.specs.Walk.{wordStep, listStep, walkList, TextPassed, limit, nextMode, nextSeen, modeAfter}
 
 -- ---- in a text
 
@@ -76,6 +74,22 @@ unfolding walkList
 walk-done s v k m at w z = rw (words-none s at w z)
 
 -- ---- from bytes to words
+
+-- two bytes make a word
+pub pair : (s : List ℕ) (at : ℕ) → at + 2 ≤ length s → field s at 2 ≡ getD s at 0 + 256 * getD s (at + 1) 0
+unfolding bytesNumber
+pair s at h =
+    let a : at < length s = omega arith in
+    let b : suc at < length s = omega arith in
+    field-in s at 2 h ∙ (rw (drop-cons s at 0 a, drop-cons s (suc at) 0 b, add-one at) (omega arith))
+
+pub seen-grows : (seen : ℕ) → seen ≤ nextSeen seen
+seen-grows seen = by-test (λ (n : ℕ). seen ≤ n) (ltb seen limit) (seen + 1) seen (λ _. omega arith) (λ _. omega arith)
+
+pub mode-again : (n v k seen low m b seen′ m′ : ℕ) (bs : List ℕ) → seen′ ≡ nextSeen seen → m′ ≡ nextMode n v (seen - k) low m b
+    → modeAfter n v k seen′ b m′ bs ≡ modeAfter n v k seen low m (b ∷ bs)
+unfolding modeAfter
+mode-again n v k seen low m b seen′ m′ bs p q = rw (p, q)
 
 module _ (n v start : ℕ) where
   -- the first byte of a word changes nothing

@@ -1,8 +1,8 @@
--- `fragments::part_words`: word v stands before word k, or behind those that are counted.
+-- `list_walk::part_words`: word v stands before word k, or behind those that are counted.
 use native.Mathlib.Omega.{arith}
 use borrow.Author.Needs.{needs}
-use Rattle.fragments.proofs.part_words.Statement.{statement}
-use Rattle.fragments.proofs.part_words.Tie as tie
+use Rattle.list_walk.proofs.part_words.Statement.{statement}
+use Rattle.list_walk.proofs.part_words.Tie as tie
 
 returns : tie.Need-returns
 returns c = (omega arith, λ j l e. omega arith)

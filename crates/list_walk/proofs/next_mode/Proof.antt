@@ -1,9 +1,9 @@
--- `fragments::next_mode`: a byte that completes no word of the list, or one.
+-- `list_walk::next_mode`: a byte that completes no word of the list, or one.
 use borrow.Author.Tests.{lt-leb, le-leb, lt-ltb, le-ltb, eq-eqb, ne-eqb}
-use Rattle.fragments.specs.Fragments.{nextMode}
+use Rattle.list_walk.specs.Walk.{nextMode}
 use borrow.Author.Needs.{needs}
-use Rattle.fragments.proofs.next_mode.Statement.{statement}
-use Rattle.fragments.proofs.next_mode.Tie as tie
+use Rattle.list_walk.proofs.next_mode.Statement.{statement}
+use Rattle.list_walk.proofs.next_mode.Tie as tie
 
 returns : tie.Need-returns
 unfolding nextMode

@@ -1,9 +1,9 @@
--- `fragments::word_step`: a case of `wordStep` for each place of the walk.
+-- `list_walk::word_step`: a case of `wordStep` for each place of the walk.
 use borrow.Author.Tests.{ne-eqb}
-use Rattle.fragments.specs.Walk.{wordStep}
+use Rattle.list_walk.specs.Walk.{wordStep}
 use borrow.Author.Needs.{needs}
-use Rattle.fragments.proofs.word_step.Statement.{statement}
-use Rattle.fragments.proofs.word_step.Tie as tie
+use Rattle.list_walk.proofs.word_step.Statement.{statement}
+use Rattle.list_walk.proofs.word_step.Tie as tie
 
 returns : tie.Need-returns
 unfolding wordStep

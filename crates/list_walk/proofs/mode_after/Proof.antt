@@ -1,12 +1,12 @@
--- `fragments::mode_after`: byte by byte, or by words from one that begins or ends here.
+-- `list_walk::mode_after`: byte by byte, or by words from one that begins or ends here.
 use Prim.Native.Nat.{_-_, _/_}
 use mathlib.Core.Path.{sym, _∙_}
 use native.Mathlib.Omega.{arith}
 use borrow.Author.Tests.{not-false}
-use Rattle.fragments.proofs.TextBlocks.{even-walk, odd-walk}
+use Rattle.list_walk.proofs.TextBlocks.{even-walk, odd-walk}
 use borrow.Author.Needs.{needs}
-use Rattle.fragments.proofs.mode_after.Statement.{statement}
-use Rattle.fragments.proofs.mode_after.Tie as tie
+use Rattle.list_walk.proofs.mode_after.Statement.{statement}
+use Rattle.list_walk.proofs.mode_after.Tie as tie
 
 sub-even-after : tie.Need-sub-even-after
 sub-even-after c = let k = c .before .before .is-counted .ensures (not-false _ (c .before .if1 .left)) in omega arith

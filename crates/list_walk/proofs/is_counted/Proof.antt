@@ -1,11 +1,11 @@
--- `fragments::is_counted`: each test in turn.
+-- `list_walk::is_counted`: each test in turn.
 use mathlib.Core.Path.{sym}
 use native.Mathlib.Omega.{arith}
 use borrow.Author.Tests.{leb-true}
 use Rattle.kinds.proofs.Refusing.{true-false}
 use borrow.Author.Needs.{needs}
-use Rattle.fragments.proofs.is_counted.Statement.{statement}
-use Rattle.fragments.proofs.is_counted.Tie as tie
+use Rattle.list_walk.proofs.is_counted.Statement.{statement}
+use Rattle.list_walk.proofs.is_counted.Tie as tie
 
 returns-4 : tie.Need-returns-4
 returns-4 c h = (omega arith, omega arith, omega (arith, leb-true))

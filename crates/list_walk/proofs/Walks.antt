@@ -12,7 +12,7 @@ use Rattle.bindings.specs.declared.Part.{Part}
 use Rattle.bindings.specs.declared.Part.the-variants.{Strings, Security}
 use Rattle.bindings.proofs.ListBytes.{by-bool}
 use Rattle.bindings.proofs.Parts.{after, after-shorter, part-none, part-end, part-more, length-words, drop-words}
-use Rattle.fragments.specs.Walk.{wordStep, walkPart, listStep, walkList, PartsWalk}
+use Rattle.list_walk.specs.Walk.{wordStep, walkPart, listStep, walkList, PartsWalk}
 
 -- ---- one part
 
