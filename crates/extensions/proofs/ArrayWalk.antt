@@ -11,7 +11,9 @@ use Rattle.kinds.specs.Refusals.{differ, order}
 use Rattle.kinds.proofs.Refusing.{true-false, by-test, differ-false, passed, passed-on, last-row}
 use Rattle.lists.proofs.Tests.{and-left, and-right}
 use Rattle.fields.specs.Fields.{field, allZero, rounded}
-use Rattle.extensions.specs.Extensions.{pairs, paddingAnswer, pointersAnswer, sizeAt, extentAnswer, nextAt, extentsAnswer, startOf, countAt, arrayAt, extentsStart, countedAnswer, pointedAnswer, frontAnswer, arrayAnswer, extensionsAnswer, arrayEnd, extensionsEnd, walkedTo, walk, extensionFrom, extensionAt, extensionsCount, noExtension}
+use Rattle.extensions.specs.Extensions.{pairs, paddingAnswer, pointersAnswer, sizeAt, extentAnswer, nextAt, extentsAnswer, startOf}
+use Rattle.extensions.specs.Extensions.{countAt, arrayAt, extentsStart, countedAnswer, extensionsCount, noExtension, pointedAnswer, frontAnswer}
+use Rattle.extensions.specs.Extensions.{arrayAnswer, extensionsAnswer, arrayEnd, extensionsEnd, walkedTo, walk, extensionFrom, extensionAt}
 use Rattle.extensions.specs.declared.Extension.{Extension}
 use Rattle.extensions.specs.declared.Walked.{Walked}
 

@@ -12,7 +12,8 @@ use Rattle.kinds.proofs.Refusing.{by-test}
 use Rattle.fields.specs.Fields.{field, encode, guidAt, guidBytes, Bytes, allZero, rounded, zeros}
 use Rattle.fields.proofs.Fields.{field-next, guid-then, zero-zeros}
 use Rattle.bindings.proofs.ListBytes.{by-bool}
-use Rattle.extensions.specs.Extensions.{pairs, Extent, extentBytes, extentsBytes, pointersBytes, pointedBytes, arrayBytes, sizeAt, nextAt, extentsAnswer, startOf, countAt, arrayAt, extentsStart, arrayEnd, extensionsAnswer, extensionsEnd, extensionsCount, extentsAt, extensionsAt, extensionFrom, extensionAt}
+use Rattle.extensions.specs.Extensions.{pairs, Extent, extentBytes, extentsBytes, pointersBytes, pointedBytes, arrayBytes, sizeAt, nextAt, extentsAnswer, startOf}
+use Rattle.extensions.specs.Extensions.{countAt, arrayAt, extentsStart, arrayEnd, extensionsAnswer, extensionsEnd, extensionsCount, extentsAt, extensionsAt, extensionFrom, extensionAt}
 use Rattle.extensions.specs.Statements.{BytesBack, OneForm, Shows, ExtensionK}
 use Rattle.extensions.proofs.ArrayWalk.{Held, held, Accepted, accepted, extents-first}
 
@@ -90,9 +91,11 @@ module _ (s : List ℕ) (at : ℕ) (b : Bytes s) (done : extensionsAnswer s at �
       let i : at + 16 + 4 ≡ at + 20 = omega arith in
       let last : drop (extentsStart s at) s ≡ extentsBytes es ++ end = extents-back s (at + 20) (extentsStart s at) n b (ok .extents z y) in
       let clear = rw i at (c .clear) in
-      let pad : drop (at + 20 + 4 * n) s ≡ zeros (4 * (pairs n - n)) ++ (extentsBytes es ++ end) = zeros-then s (at + 20 + 4 * n) (4 * (pairs n - n)) (extentsStart s at) (omega arith) (omega arith) clear ∙ (rw last) in
+      let pad : drop (at + 20 + 4 * n) s ≡ zeros (4 * (pairs n - n)) ++ (extentsBytes es ++ end) =
+      zeros-then s (at + 20 + 4 * n) (4 * (pairs n - n)) (extentsStart s at) (omega arith) (omega arith) clear ∙ (rw last) in
       let ps : drop (at + 20) s ≡ pointersBytes es ++ (zeros (4 * (pairs n - n)) ++ (extentsBytes es ++ end)) = pointers-back s (at + 20) (extentsStart s at) n b (omega arith) ∙ (rw pad) in
-      let whole : drop (at + 16) s ≡ encode 4 (field s (at + 16) 4) ++ (pointersBytes es ++ (zeros (4 * (pairs n - n)) ++ (extentsBytes es ++ end))) = field-next s (at + 16) 4 (at + 20) _ b i (omega arith) ps in
+      let whole : drop (at + 16) s ≡ encode 4 (field s (at + 16) 4) ++ (pointersBytes es ++ (zeros (4 * (pairs n - n)) ++ (extentsBytes es ++ end))) =
+      field-next s (at + 16) 4 (at + 20) _ b i (omega arith) ps in
       rw len (rw (c .same) at whole ∙ simp append-assoc)
 
   -- the array's own fields before what its pointer points to

@@ -5,7 +5,8 @@ ghost use mathlib.Core.Path.{_≡_};
 ghost use Prim.Native.Nat.{_+_, _*_, _<_, _≤_};
 ghost use lib.ListN.{length};
 ghost use Rattle.bindings.specs.Bindings.{PartOf};
-ghost use Rattle.extensions.specs.Extensions.{pairs, paddingAnswer, pointersAnswer, extentAnswer, extentsAnswer, startOf, countAt, extentsStart, countedAnswer, pointedAnswer, frontAnswer, arrayAnswer, extensionsAnswer, arrayEnd, walkedTo, walk, readExtensions, extensionAt, extensionFrom, noExtension, placeOf};
+ghost use Rattle.extensions.specs.Extensions.{pairs, paddingAnswer, pointersAnswer, extentAnswer, extentsAnswer, startOf, countAt, extentsStart, countedAnswer, pointedAnswer, frontAnswer};
+ghost use Rattle.extensions.specs.Extensions.{arrayAnswer, extensionsAnswer, arrayEnd, walkedTo, walk, readExtensions, extensionAt, extensionFrom, noExtension, placeOf};
 
 // What a header says of its extensions: its pointer to the array, the array's pointer, and their number.
 #[repr(C)]

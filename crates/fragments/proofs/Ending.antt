@@ -16,7 +16,8 @@ use Rattle.bindings.specs.Bindings.{joined, count, split, twoParts, listLength,
 use Rattle.bindings.proofs.ListBytes.{by-bool, field-bound}
 use Rattle.contexts.specs.Contexts.{isMarshaler}
 use Rattle.elements.specs.Elements.{signature}
-use Rattle.references.specs.References.{isForm, isCustom, isExtended, fixedSize, referenceAt, headAnswer, objectAnswer, plainAnswer, formAnswer, layoutBy, layoutAnswer, namesNil, referenceAnswer, tailOf}
+use Rattle.references.specs.References.{isForm, isCustom, isExtended, fixedSize, referenceAt, headAnswer, objectAnswer}
+use Rattle.references.specs.References.{plainAnswer, formAnswer, layoutBy, layoutAnswer, namesNil, referenceAnswer, tailOf}
 use Rattle.references.proofs.Forms.{size-most, Headed, headed, accepted, tail-start, tail-end}
 use Rattle.list_walk.specs.Walk.{bothClosed}
 use Rattle.fragments.specs.Fragments.{AnyCuts, AsRead, Reading, isPlain, isNilReference, plainReference, plainTail, wholeAnswer, finishedBy, listEnd, readEnd, endAnswer, finished, finalAfter}
@@ -98,7 +99,9 @@ module _ (l : ℕ) (s : List ℕ) (r : Reading) (f : Follows l s r) (bytes : Byt
       (λ t. let u = ltb-true m (r .state .seen - fixedSize (field s 4 4)) t in lt-ltb m (length (drop (fixedSize (field s 4 4)) s)) (omega arith))
       (λ t. let u = ltb-true m (length (drop (fixedSize (field s 4 4)) s)) t in lt-ltb m (r .state .seen - fixedSize (field s 4 4)) (omega arith))
 
-  head-count : 4 ≤ length (drop (fixedSize (field s 4 4)) s) → (field (r .state .head) (fixedSize (field s 4 4)) 2 ≡ count (drop (fixedSize (field s 4 4)) s)) × (field (r .state .head) (fixedSize (field s 4 4) + 2) 2 ≡ split (drop (fixedSize (field s 4 4)) s))
+  head-count : 4 ≤ length (drop (fixedSize (field s 4 4)) s)
+      → (field (r .state .head) (fixedSize (field s 4 4)) 2 ≡ count (drop (fixedSize (field s 4 4)) s))
+      × (field (r .state .head) (fixedSize (field s 4 4) + 2) 2 ≡ split (drop (fixedSize (field s 4 4)) s))
   head-count h =
       let z = size-most (field s 4 4) in
       let q = length-drop (fixedSize (field s 4 4)) s in
@@ -147,13 +150,46 @@ module _ (l : ℕ) (s : List ℕ) (r : Reading) (f : Follows l s r) (bytes : Byt
       by-plain (field s 4 4) named
       (λ e.
       let n : 64 ≤ length s = rw e at enough in
-      rw (a, e, i, j, head-field l s r f 24 4 (omega arith) (omega arith), head-field l s r f 28 4 (omega arith) (omega arith), head-field l s r f 32 8 (omega arith) (omega arith), head-field l s r f 40 8 (omega arith) (omega arith), head-field l s r f 48 8 (omega arith) (omega arith), head-field l s r f 56 8 (omega arith) (omega arith)))
+      rw (
+        a,
+        e,
+        i,
+        j,
+        head-field l s r f 24 4 (omega arith) (omega arith),
+        head-field l s r f 28 4 (omega arith) (omega arith),
+        head-field l s r f 32 8 (omega arith) (omega arith),
+        head-field l s r f 40 8 (omega arith) (omega arith),
+        head-field l s r f 48 8 (omega arith) (omega arith),
+        head-field l s r f 56 8 (omega arith) (omega arith),
+      ))
       (λ e.
       let n : 80 ≤ length s = rw e at enough in
-      rw (a, e, i, j, head-field l s r f 24 4 (omega arith) (omega arith), head-field l s r f 28 4 (omega arith) (omega arith), head-field l s r f 32 8 (omega arith) (omega arith), head-field l s r f 40 8 (omega arith) (omega arith), head-field l s r f 48 8 (omega arith) (omega arith), head-field l s r f 56 8 (omega arith) (omega arith), head-field l s r f 64 8 (omega arith) (omega arith), head-field l s r f 72 8 (omega arith) (omega arith)))
+      rw (
+        a,
+        e,
+        i,
+        j,
+        head-field l s r f 24 4 (omega arith) (omega arith),
+        head-field l s r f 28 4 (omega arith) (omega arith),
+        head-field l s r f 32 8 (omega arith) (omega arith),
+        head-field l s r f 40 8 (omega arith) (omega arith),
+        head-field l s r f 48 8 (omega arith) (omega arith),
+        head-field l s r f 56 8 (omega arith) (omega arith),
+        head-field l s r f 64 8 (omega arith) (omega arith),
+        head-field l s r f 72 8 (omega arith) (omega arith),
+      ))
       (λ e.
       let n : 48 ≤ length s = rw e at enough in
-      rw (a, e, i, j, head-field l s r f 24 8 (omega arith) (omega arith), head-field l s r f 32 8 (omega arith) (omega arith), head-field l s r f 40 4 (omega arith) (omega arith), head-field l s r f 44 4 (omega arith) (omega arith)))
+      rw (
+        a,
+        e,
+        i,
+        j,
+        head-field l s r f 24 8 (omega arith) (omega arith),
+        head-field l s r f 32 8 (omega arith) (omega arith),
+        head-field l s r f 40 4 (omega arith) (omega arith),
+        head-field l s r f 44 4 (omega arith) (omega arith),
+      ))
 
   -- room
   pub no-room : (n : ℕ) → (r .state .over || ltb (min l n) (r .state .kept)) ≡ ltb (min l n) (length (drop (fixedSize (field s 4 4)) s))

@@ -19,7 +19,8 @@ use Rattle.references.proofs.Forms.{size-most}
 use Rattle.list_walk.specs.Walk.{limit, nextMode}
 use Rattle.fragments.specs.Fragments.{Reading, none, formOf, inTail, stepHead, step, stepIn, pushed, pushedAll}
 use Rattle.fragments.specs.declared.Fragments.{Fragments}
-use Rattle.fragments.proofs.Bytewise.{front-bytes, length-more, field-agree, form, form-short, start, tail, tailLength, Within, within, tail-in, same-form, tail-more, tail-length-more, outside, come, walkOf, walk-early, same-count, walk-same, walk-word}
+use Rattle.fragments.proofs.Bytewise.{front-bytes, length-more, field-agree, form, form-short, start, tail, tailLength, Within, within, tail-in}
+use Rattle.fragments.proofs.Bytewise.{same-form, tail-more, tail-length-more, outside, come, walkOf, walk-early, same-count, walk-same, walk-word}
 
 -- where the walk over the list's words stands; 0 where there is no list
 abbrev pub modeOf : List ℕ → ℕ
@@ -67,7 +68,8 @@ module _ (l : ℕ) (s : List ℕ) (r : Reading) (f : Follows l s r) where
       let n = f .seen in
       let m = size-most (form s) in
       let e : leb (start s) (r .state .seen) ≡ leb (start s) (length s) =
-      same-test _ _ (λ t. let q = leb-true (start s) (r .state .seen) t in le-leb (start s) (length s) (omega arith)) (λ t. let q = leb-true (start s) (length s) t in le-leb (start s) (r .state .seen) (omega arith)) in
+      same-test _ _ (λ t. let q = leb-true (start s) (r .state .seen) t in le-leb (start s) (length s) (omega arith))
+      (λ t. let q = leb-true (start s) (length s) t in le-leb (start s) (r .state .seen) (omega arith)) in
       rw (head-form, e)
 
 -- ---- before the first byte
@@ -335,7 +337,10 @@ module _ (l : ℕ) (s : List ℕ) (r : Reading) (b : ℕ) (f : Follows l s r) wh
         let d : length (tail s ++ (b ∷ [])) ≤ 5 = omega arith in
         rw (lt-leb _ _ five, walk-early (tail s) a, walk-early (tail s ++ (b ∷ [])) d))
 
-    in-mode : Bytes (tail s) → cond (not (isCustom (form s))) (nextMode (field (r .state .head) (start s) 2) (field (r .state .head) (start s + 2) 2) (r .state .seen - start s) (r .state .low) (r .state .mode) b) (r .state .mode) ≡ modeOf (s ++ (b ∷ []))
+    in-mode : Bytes (tail s)
+        → let h = r .state .head in
+        cond (not (isCustom (form s))) (nextMode (field h (start s) 2) (field h (start s + 2) 2) (r .state .seen - start s) (r .state .low) (r .state .mode) b) (r .state .mode)
+        ≡ modeOf (s ++ (b ∷ []))
     in-mode bytes =
         let n = ne-eqb _ _ (w .some) in
         let e : modeOf (s ++ (b ∷ [])) ≡ cond (isCustom (form s)) 0 (walkOf (tail s ++ (b ∷ []))) = rw (tail-more s b w, same-form s b w, n) in

@@ -51,7 +51,12 @@ module _ (r : Reading) (b : ℕ) (late : 84 ≤ r .state .seen) where
       let l : fixedSize (formIn r) ≤ r .state .seen = omega arith in
       rw (le-leb _ _ l) (and-true (differ (formIn r) 0))
 
-  step-mode : (step r b) .state .mode ≡ cond (differ (formIn r) 0 && not (isCustom (formIn r))) (nextMode (field (r .state .head) (fixedSize (formIn r)) 2) (field (r .state .head) (fixedSize (formIn r) + 2) 2) (r .state .seen - fixedSize (formIn r)) (r .state .low) (r .state .mode) b) (r .state .mode)
+  step-mode : let f = formIn r in
+      let h = r .state .head in
+      (step r b) .state .mode
+      ≡ cond (differ f 0 && not (isCustom f))
+      (nextMode (field h (fixedSize f) 2) (field h (fixedSize f + 2) 2) (r .state .seen - fixedSize f) (r .state .low) (r .state .mode) b)
+      (r .state .mode)
   unfolding step stepIn
   step-mode = rw in-late
 
@@ -97,7 +102,8 @@ kept-more true kept size m =
     (λ e. let l = ltb-true kept size e in omega arith)
     (λ e. let l = ltb-false kept size e in omega arith)
 
-over-more : (over inside : Bool) (kept size m : ℕ) → overAfter (over || (inside && leb size kept)) inside (cond (inside && ltb kept size) (kept + 1) kept) size m ≡ overAfter over inside kept size (suc m)
+over-more : (over inside : Bool) (kept size m : ℕ)
+    → overAfter (over || (inside && leb size kept)) inside (cond (inside && ltb kept size) (kept + 1) kept) size m ≡ overAfter over inside kept size (suc m)
 over-more true inside kept size m = refl
 over-more false false kept size m = refl
 over-more false true kept size m =
@@ -117,7 +123,8 @@ take-none : (n : ℕ) → take {A = ℕ} n [] ≡ []
 take-none zero = refl
 take-none (suc n) = refl
 
-waiting-more : (inside : Bool) (w : List ℕ) (kept b : ℕ) (bs : List ℕ) → waitingAfter inside (cond (inside && ltb kept (length w)) (set w kept b) w) (cond (inside && ltb kept (length w)) (kept + 1) kept) bs ≡ waitingAfter inside w kept (b ∷ bs)
+waiting-more : (inside : Bool) (w : List ℕ) (kept b : ℕ) (bs : List ℕ)
+    → waitingAfter inside (cond (inside && ltb kept (length w)) (set w kept b) w) (cond (inside && ltb kept (length w)) (kept + 1) kept) bs ≡ waitingAfter inside w kept (b ∷ bs)
 waiting-more false w kept b bs = refl
 waiting-more true w kept b bs =
     by-bool (ltb kept (length w))
@@ -148,7 +155,9 @@ mode-none : (r : Reading) → r .state .mode ≡ walkAfter (r .state .head) (for
 unfolding modeAfter
 mode-none r = by-test (λ (n : ℕ). r .state .mode ≡ n) (differ (formIn r) 0 && not (isCustom (formIn r))) _ _ (λ _. refl) (λ _. refl)
 
-mode-more : (r : Reading) (b : ℕ) (bs : List ℕ) → Late r → walkAfter ((step r b) .state .head) (formIn (step r b)) ((step r b) .state .seen) ((step r b) .state .low) ((step r b) .state .mode) bs ≡ walkAfter (r .state .head) (formIn r) (r .state .seen) (r .state .low) (r .state .mode) (b ∷ bs)
+mode-more : (r : Reading) (b : ℕ) (bs : List ℕ) → Late r
+    → walkAfter ((step r b) .state .head) (formIn (step r b)) ((step r b) .state .seen) ((step r b) .state .low) ((step r b) .state .mode) bs
+    ≡ walkAfter (r .state .head) (formIn r) (r .state .seen) (r .state .low) (r .state .mode) (b ∷ bs)
 unfolding step stepIn modeAfter
 mode-more r b bs l =
     rw (form-kept r b l, head-kept r b l, step-mode r b l)

@@ -62,7 +62,8 @@ unfolding walk
 that-end s r e z = ap (λ (x : Walked). x .to) e ∙ walked-to _ _ z
 
 -- what an answer 0 of the writer says
-pub able : (header pointer : ℕ) (ws d : List ℕ) (at n : ℕ) → writeAnswer header pointer ws d at n ≡ 0 → (writable (given header pointer ws d) ≡ true) × (at + length (arrayBytes (given header pointer ws d)) ≤ n)
+pub able : (header pointer : ℕ) (ws d : List ℕ) (at n : ℕ) → writeAnswer header pointer ws d at n ≡ 0
+    → (writable (given header pointer ws d) ≡ true) × (at + length (arrayBytes (given header pointer ws d)) ≤ n)
 unfolding writeAnswer takes
 able header pointer ws d at n w =
     let a = passed (not (agree ws d && writable (given header pointer ws d))) 14 _ (omega arith) w in

@@ -76,5 +76,6 @@ that-read-then-write s b h n header pointer ws d bytes r same room =
     let size : n ≡ 4 + length (arrayBytes a) = sym (r .size) ∙ end-length s 4 bytes (r .answer) ∙ ap (λ (x : Array). 4 + length (arrayBytes x)) (r .extensions) in
     let fit : 4 + length (arrayBytes a) ≤ length b = omega arith in
     let long : length (thatBytes h a) ≡ n = length-that h a ∙ sym size in
-    let front : take n s ≡ thatBytes h a = ap (take n) (that-bytes-back s h a n bytes r) ∙ ap (λ (j : ℕ). take j (thatBytes h a ++ drop n s)) (sym long) ∙ take-append-seam (thatBytes h a) (drop n s) in
+    let front : take n s ≡ thatBytes h a =
+    ap (take n) (that-bytes-back s h a n bytes r) ∙ ap (λ (j : ℕ). take j (thatBytes h a ++ drop n s)) (sym long) ∙ take-append-seam (thatBytes h a) (drop n s) in
     (rw (same, w, le-ltb _ _ fit), written-front b (thatBytes h a) (omega arith) ∙ (rw (long, front)))

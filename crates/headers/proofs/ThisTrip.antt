@@ -100,7 +100,8 @@ zeroed : (r : ℕ) (h : OrpcThis) (a : Array) → written (thisBytes r h a) 8 (e
 unfolding thisBytes thisFront encode
 zeroed r h a = written-in (thisBytes r h a) 8 (encode 4 0) (omega arith)
 
-accepts : (h : OrpcThis) (header pointer : ℕ) (ws d : List ℕ) (n : ℕ) → h .minor ≤ 7 → agree ws d ≡ true → writable (given header pointer ws d) ≡ true → 28 + length (arrayBytes (given header pointer ws d)) ≤ n
+accepts : (h : OrpcThis) (header pointer : ℕ) (ws d : List ℕ) (n : ℕ) → h .minor ≤ 7 → agree ws d ≡ true → writable (given header pointer ws d) ≡ true
+    → 28 + length (arrayBytes (given header pointer ws d)) ≤ n
     → thisWritten h header pointer ws d n ≡ 0
 unfolding thisWritten writeAnswer takes order
 accepts h header pointer ws d n k same w fit = rw (le-ltb _ _ k, same, w, le-ltb _ _ fit)
@@ -119,5 +120,6 @@ this-read-then-write s b h n header pointer ws d bytes r same room =
     let fit : 28 + length (arrayBytes a) ≤ length b = omega arith in
     let long : length (thisBytes q h a) ≡ n = length-this q h a ∙ sym size in
     let plain : length (thisBytes 0 h a) ≡ n = length-this 0 h a ∙ sym size in
-    let front : take n s ≡ thisBytes q h a = ap (take n) (this-bytes-back s h a n bytes r) ∙ ap (λ (j : ℕ). take j (thisBytes q h a ++ drop n s)) (sym long) ∙ take-append-seam (thisBytes q h a) (drop n s) in
+    let front : take n s ≡ thisBytes q h a =
+    ap (take n) (this-bytes-back s h a n bytes r) ∙ ap (λ (j : ℕ). take j (thisBytes q h a ++ drop n s)) (sym long) ∙ take-append-seam (thisBytes q h a) (drop n s) in
     (accepts h header pointer ws d (length b) k same w fit, written-front b (thisBytes 0 h a) (omega arith) ∙ (rw (plain, front, zeroed q h a)))

@@ -25,7 +25,7 @@ fits c = leb-true _ _ (room c)
 returns-2 : tie.Need-returns-2
 returns-2 c = sym (counted-differ _ _ _ (room (c .before .before .before)) (λ z. c .if2 .taken (c .before .read-u32 .ensures ∙ z ∙ sym (c .before .before .paired .ensures))))
 
-same : (c : tie.Else2) → field (c .before .before .before .before .before .before .args .s .now) (c .before .before .before .before .before .before .args .at) 4 ≡ pairs (c .before .before .before .before .before .before .args .n)
+same : (c : tie.Else2) → let a = c .before .before .before .before .before .before .args in field (a .s .now) (a .at) 4 ≡ pairs (a .n)
 same c = sym (c .before .read-u32 .ensures) ∙ c .if2 .left ∙ c .before .before .paired .ensures
 
 add-pointers-answer : tie.Need-add-pointers-answer
@@ -36,10 +36,10 @@ returns-3 c =
     let e = c .before .pointers-answer .ensures in
     e ∙ sym (counted-pointers _ _ _ (room (c .before .before .before .before .before)) (same (c .before .before)) (λ z. c .if3 .taken (e ∙ z)))
 
-all : (c : tie.Else3) → pointersAnswer (c .before .before .before .before .before .before .before .before .args .s .now) (c .before .before .before .before .before .before .before .before .args .at + 4) (c .before .before .before .before .before .before .before .before .args .n) ≡ 0
+all : (c : tie.Else3) → let a = c .before .before .before .before .before .before .before .before .args in pointersAnswer (a .s .now) (a .at + 4) (a .n) ≡ 0
 all c = sym (c .before .pointers-answer .ensures) ∙ c .if3 .left
 
-past : (c : tie.Else3) → c .before .before .before .before .before .before .before .before .args .at + 4 + 4 * c .before .before .before .before .before .before .before .before .args .n ≤ length (c .before .before .before .before .before .before .before .before .args .s .now)
+past : (c : tie.Else3) → let a = c .before .before .before .before .before .before .before .before .args in a .at + 4 + 4 * a .n ≤ length (a .s .now)
 past c = pointers-room _ _ _ (fits (c .before .before .before .before .before)) (all c)
 
 add-padding-answer : tie.Need-add-padding-answer

@@ -30,9 +30,10 @@ whole c = c .rounded .ensures ∙ ap rounded (c .before .read-u32 .ensures)
 
 returns-2 : tie.Need-returns-2
 returns-2 c =
-    sym (extent-sizes (c .before .before .before .before .before .before .before .args .s .now) (c .before .before .before .before .before .before .before .args .at) (fixed (c .before .before .before .before)) (λ z. c .if2 .taken (c .before .read-u322 .ensures ∙ z ∙ sym (whole (c .before .before)))))
+    let a = c .before .before .before .before .before .before .before .args in
+    sym (extent-sizes (a .s .now) (a .at) (fixed (c .before .before .before .before)) (λ z. c .if2 .taken (c .before .read-u322 .ensures ∙ z ∙ sym (whole (c .before .before)))))
 
-sizes : (c : tie.Else2) → field (c .before .before .before .before .before .before .before .args .s .now) (c .before .before .before .before .before .before .before .args .at) 4 ≡ rounded (sizeAt (c .before .before .before .before .before .before .before .args .s .now) (c .before .before .before .before .before .before .before .args .at))
+sizes : (c : tie.Else2) → let a = c .before .before .before .before .before .before .before .args in field (a .s .now) (a .at) 4 ≡ rounded (sizeAt (a .s .now) (a .at))
 sizes c = sym (c .before .read-u322 .ensures) ∙ c .if2 .left ∙ whole (c .before .before)
 
 add-inside : tie.Need-add-inside
@@ -44,7 +45,7 @@ returns-3 c =
     let e = rw (c .before .before .before .before .before .read-u32 .ensures) at (c .before .inside2 .ensures) in
     sym (extent-cut (a .s .now) (a .at) (fixed (c .before .before .before .before .before .before)) (sizes (c .before .before)) (sym e ∙ not-true _ (c .if3 .taken)))
 
-content : (c : tie.Else3) → leb (c .before .before .before .before .before .before .before .before .before .args .at + 24 + sizeAt (c .before .before .before .before .before .before .before .before .before .args .s .now) (c .before .before .before .before .before .before .before .before .before .args .at)) (length (c .before .before .before .before .before .before .before .before .before .args .s .now)) ≡ true
+content : (c : tie.Else3) → let a = c .before .before .before .before .before .before .before .before .before .args in leb (a .at + 24 + sizeAt (a .s .now) (a .at)) (length (a .s .now)) ≡ true
 content c =
     let e = rw (c .before .before .before .before .before .read-u32 .ensures) at (c .before .inside2 .ensures) in
     sym e ∙ not-false _ (c .if3 .left)

@@ -23,7 +23,8 @@ returns c =
     let a = c .before .before .before .before .before .args in
     let l = c .before .before .before .loop in
     let e = c .before .extent-answer .ensures in
-    let same : c .before .extent-answer .result ≡ extentsAnswer (a .s .now) (a .at) (a .n) = e ∙ sym (extents-stop (a .s .now) (l .i) (l .left) (omega arith) (λ z. c .if1 .taken (e ∙ z))) ∙ l .inv .0 in
+    let same : c .before .extent-answer .result ≡ extentsAnswer (a .s .now) (a .at) (a .n) =
+    e ∙ sym (extents-stop (a .s .now) (l .i) (l .left) (omega arith) (λ z. c .if1 .taken (e ∙ z))) ∙ l .inv .0 in
     walked-stop _ _ same (c .if1 .taken)
 
 one : (c : tie.Else1 Inv-loop μ-loop) → extentAnswer (c .before .before .before .before .before .args .s .now) (c .before .before .before .loop .i) ≡ 0
@@ -35,9 +36,12 @@ whole c = held _ _ (one c)
 add-read-u32 : tie.Need-add-read-u32 Inv-loop μ-loop
 add-read-u32 c = let h = whole c in omega (arith, h .fixed)
 
-next : (c : tie.After-rounded Inv-loop μ-loop) → c .before .before .before .before .before .loop .i + (24 + c .rounded .result) ≡ nextAt (c .before .before .before .before .before .before .before .args .s .now) (c .before .before .before .before .before .loop .i)
+next : (c : tie.After-rounded Inv-loop μ-loop)
+    → let a = c .before .before .before .before .before .before .before .args in let l = c .before .before .before .before .before .loop in l .i + (24 + c .rounded .result) ≡ nextAt (a .s .now) (l .i)
 next c =
-    let e : c .rounded .result ≡ rounded (sizeAt (c .before .before .before .before .before .before .before .args .s .now) (c .before .before .before .before .before .loop .i)) = c .rounded .ensures ∙ ap rounded (c .before .read-u32 .ensures) in
+    let a = c .before .before .before .before .before .before .before .args in
+    let l = c .before .before .before .before .before .loop in
+    let e : c .rounded .result ≡ rounded (sizeAt (a .s .now) (l .i)) = c .rounded .ensures ∙ ap rounded (c .before .read-u32 .ensures) in
     omega arith
 
 add-i : tie.Need-add-i Inv-loop μ-loop

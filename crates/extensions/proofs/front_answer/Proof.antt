@@ -41,7 +41,7 @@ two : (c : tie.Else3) → leb (c .before .before .before .before .before .before
 two c = sym (c .before .inside2 .ensures) ∙ not-false _ (c .if3 .left)
 
 add-read-u32-2 : tie.Need-add-read-u32-2
-add-read-u32-2 c = let h : c .before .before .before .before .before .before .before .args .at + 12 ≤ length (c .before .before .before .before .before .before .before .args .s .now) = leb-true _ _ (two c) in omega arith
+add-read-u32-2 c = let a = c .before .before .before .before .before .before .before .args in let h : a .at + 12 ≤ length (a .s .now) = leb-true _ _ (two c) in omega arith
 
 returns-4 : tie.Need-returns-4
 unfolding frontAnswer order
@@ -49,38 +49,70 @@ returns-4 c =
     let e = c .before .read-u322 .ensures in
     simp (one (c .before .before .before .before .before .before), le-ltb _ _ (few (c .before .before .before .before)), two (c .before .before), ne-eqb _ _ (λ z. c .if4 .taken (e ∙ z)))
 
-clear : (c : tie.Else4) → field (c .before .before .before .before .before .before .before .before .before .args .s .now) (c .before .before .before .before .before .before .before .before .before .args .at + 8) 4 ≡ 0
+clear : (c : tie.Else4) → let a = c .before .before .before .before .before .before .before .before .before .args in field (a .s .now) (a .at + 8) 4 ≡ 0
 clear c = sym (c .before .read-u322 .ensures) ∙ c .if4 .left
 
 returns-5 : tie.Need-returns-5
 unfolding frontAnswer order
-returns-5 c = simp (one (c .before .before .before .before .before .before .before .before), le-ltb _ _ (few (c .before .before .before .before .before .before)), two (c .before .before .before .before), clear (c .before .before), sym (c .before .inside3 .ensures) ∙ not-true _ (c .if5 .taken))
+returns-5 c =
+    simp (
+      one (c .before .before .before .before .before .before .before .before),
+      le-ltb _ _ (few (c .before .before .before .before .before .before)),
+      two (c .before .before .before .before),
+      clear (c .before .before),
+      sym (c .before .inside3 .ensures) ∙ not-true _ (c .if5 .taken),
+    )
 
-three : (c : tie.Else5) → leb (c .before .before .before .before .before .before .before .before .before .before .before .args .at + 16) (length (c .before .before .before .before .before .before .before .before .before .before .before .args .s .now)) ≡ true
+three : (c : tie.Else5) → let a = c .before .before .before .before .before .before .before .before .before .before .before .args in leb (a .at + 16) (length (a .s .now)) ≡ true
 three c = sym (c .before .inside3 .ensures) ∙ not-false _ (c .if5 .left)
 
 add-read-u32-3 : tie.Need-add-read-u32-3
-add-read-u32-3 c = let h : c .before .before .before .before .before .before .before .before .before .before .before .args .at + 16 ≤ length (c .before .before .before .before .before .before .before .before .before .before .before .args .s .now) = leb-true _ _ (three c) in omega arith
+add-read-u32-3 c =
+    let a = c .before .before .before .before .before .before .before .before .before .before .before .args in
+    let h : a .at + 16 ≤ length (a .s .now) = leb-true _ _ (three c) in omega arith
 
 returns-6 : tie.Need-returns-6
 unfolding frontAnswer order
 returns-6 c =
     let e = c .before .read-u323 .ensures in
-    simp (one (c .before .before .before .before .before .before .before .before .before .before), le-ltb _ _ (few (c .before .before .before .before .before .before .before .before)), two (c .before .before .before .before .before .before), clear (c .before .before .before .before), three (c .before .before), ne-eqb _ _ (λ z. c .if6 .taken (e ∙ z)))
+    simp (
+      one (c .before .before .before .before .before .before .before .before .before .before),
+      le-ltb _ _ (few (c .before .before .before .before .before .before .before .before)),
+      two (c .before .before .before .before .before .before),
+      clear (c .before .before .before .before),
+      three (c .before .before),
+      ne-eqb _ _ (λ z. c .if6 .taken (e ∙ z)),
+    )
 
 returns-7 : tie.Need-returns-7
 unfolding frontAnswer order
 returns-7 c =
     let e = sym (c .before .before .read-u323 .ensures) ∙ c .before .if6 .left in
     let n = sym (c .before .before .before .before .before .before .before .before .before .before .read-u32 .ensures) ∙ c .if7 .taken in
-    simp (one (c .before .before .before .before .before .before .before .before .before .before .before), le-ltb _ _ (few (c .before .before .before .before .before .before .before .before .before)), two (c .before .before .before .before .before .before .before), clear (c .before .before .before .before .before), three (c .before .before .before), e, eq-eqb _ _ n)
+    simp (
+      one (c .before .before .before .before .before .before .before .before .before .before .before),
+      le-ltb _ _ (few (c .before .before .before .before .before .before .before .before .before)),
+      two (c .before .before .before .before .before .before .before),
+      clear (c .before .before .before .before .before),
+      three (c .before .before .before),
+      e,
+      eq-eqb _ _ n,
+    )
 
 returns-8 : tie.Need-returns-8
 unfolding frontAnswer order
 returns-8 c =
     let e = sym (c .before .before .read-u323 .ensures) ∙ c .before .if6 .left in
     let n = c .before .before .before .before .before .before .before .before .before .before .read-u32 .ensures in
-    simp (one (c .before .before .before .before .before .before .before .before .before .before .before), le-ltb _ _ (few (c .before .before .before .before .before .before .before .before .before)), two (c .before .before .before .before .before .before .before), clear (c .before .before .before .before .before), three (c .before .before .before), e, ne-eqb _ _ (λ z. c .if7 .left (n ∙ z)))
+    simp (
+      one (c .before .before .before .before .before .before .before .before .before .before .before),
+      le-ltb _ _ (few (c .before .before .before .before .before .before .before .before .before)),
+      two (c .before .before .before .before .before .before .before),
+      clear (c .before .before .before .before .before),
+      three (c .before .before .before),
+      e,
+      ne-eqb _ _ (λ z. c .if7 .left (n ∙ z)),
+    )
 
 pub front-answer-spec : {M : Type 1} → statement M
 front-answer-spec =

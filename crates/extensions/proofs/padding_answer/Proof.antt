@@ -20,7 +20,7 @@ returns c = simp (sym (c .before .inside .ensures) ∙ not-true _ (c .if1 .taken
 inner : (c : tie.Else1) → leb (c .before .before .before .args .at + c .before .before .before .args .n) (length (c .before .before .before .args .s .now)) ≡ true
 inner c = sym (c .before .inside .ensures) ∙ not-false _ (c .if1 .left)
 
-same : (c : tie.After-is-zero) → c .is-zero .result ≡ allZero (take (c .before .before .before .before .args .n) (drop (c .before .before .before .before .args .at) (c .before .before .before .before .args .s .now)))
+same : (c : tie.After-is-zero) → let a = c .before .before .before .before .args in c .is-zero .result ≡ allZero (take (a .n) (drop (a .at) (a .s .now)))
 same c = c .is-zero .ensures ∙ zero-field _ _ _ (leb-true _ _ (inner (c .before)))
 
 returns-2 : tie.Need-returns-2

@@ -7,7 +7,7 @@ use borrow.Author.Needs.{needs}
 use Rattle.extensions.proofs.pointed.Statement.{statement}
 use Rattle.extensions.proofs.pointed.Tie as tie
 
-same : (c : tie.After-counted-answer) → c .counted-answer .result ≡ countedAnswer (c .before .before .before .args .s .now) (c .before .before .before .args .at + 16) (countAt (c .before .before .before .args .s .now) (c .before .before .before .args .at))
+same : (c : tie.After-counted-answer) → let a = c .before .before .before .args in c .counted-answer .result ≡ countedAnswer (a .s .now) (a .at + 16) (countAt (a .s .now) (a .at))
 same c = rw (c .before .read-u32 .ensures) at (c .counted-answer .ensures)
 
 returns : tie.Need-returns

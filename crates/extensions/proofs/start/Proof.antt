@@ -18,7 +18,8 @@ abbrev μ-loop : tie.MeasureT-loop
 loop-holds : tie.Need-loop-holds Inv-loop μ-loop
 loop-holds c = (c .before .pre .1, c .before .pre .0, refl)
 
-both : (c : tie.In-loop Inv-loop μ-loop) → (extentAnswer (c .before .before .before .args .s .now) (c .before .loop .i) ≡ 0) × (extentsAnswer (c .before .before .before .args .s .now) (nextAt (c .before .before .before .args .s .now) (c .before .loop .i)) (c .before .loop .left - 1) ≡ 0)
+both : (c : tie.In-loop Inv-loop μ-loop)
+    → let a = c .before .before .before .args in let l = c .before .loop in (extentAnswer (a .s .now) (l .i) ≡ 0) × (extentsAnswer (a .s .now) (nextAt (a .s .now) (l .i)) (l .left - 1) ≡ 0)
 both c = extents-first _ _ _ (omega arith) (c .before .loop .inv .1)
 
 whole : (c : tie.In-loop Inv-loop μ-loop) → Held (c .before .before .before .args .s .now) (c .before .loop .i)
@@ -27,9 +28,12 @@ whole c = held _ _ (both c .0)
 add-read-u32 : tie.Need-add-read-u32 Inv-loop μ-loop
 add-read-u32 c = let h = whole c in omega (arith, h .fixed)
 
-next : (c : tie.After-rounded Inv-loop μ-loop) → c .before .before .before .loop .i + (24 + c .rounded .result) ≡ nextAt (c .before .before .before .before .before .args .s .now) (c .before .before .before .loop .i)
+next : (c : tie.After-rounded Inv-loop μ-loop)
+    → let a = c .before .before .before .before .before .args in let l = c .before .before .before .loop in l .i + (24 + c .rounded .result) ≡ nextAt (a .s .now) (l .i)
 next c =
-    let e : c .rounded .result ≡ rounded (sizeAt (c .before .before .before .before .before .args .s .now) (c .before .before .before .loop .i)) = c .rounded .ensures ∙ ap rounded (c .before .read-u32 .ensures) in
+    let a = c .before .before .before .before .before .args in
+    let l = c .before .before .before .loop in
+    let e : c .rounded .result ≡ rounded (sizeAt (a .s .now) (l .i)) = c .rounded .ensures ∙ ap rounded (c .before .read-u32 .ensures) in
     omega arith
 
 add-i : tie.Need-add-i Inv-loop μ-loop

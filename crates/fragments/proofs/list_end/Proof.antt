@@ -33,10 +33,12 @@ returns-3 c =
     let a = c .before .before .before .before .before .before .before .args in
     let n = c .before .before .before .before .read-u16 .ensures in
     let v = c .before .before .read-u162 .ensures in
-    let unclosed : bothClosed (field (a .head .now) (a .start) 2) (field (a .head .now) (a .start + 2) 2) (a .mode) ≡ false = rw (← n, ← v) (sym (c .before .both-closed .ensures) ∙ not-true _ (c .if3 .taken)) in
+    let unclosed : bothClosed (field (a .head .now) (a .start) 2) (field (a .head .now) (a .start + 2) 2) (a .mode) ≡ false =
+    rw (← n, ← v) (sym (c .before .both-closed .ensures) ∙ not-true _ (c .if3 .taken)) in
     rw (le-ltb _ _ (c .before .before .before .before .before .if1 .left), le-ltb _ _ (long (c .before .before .before)), unclosed)
 
-closed : (c : tie.Else3) → bothClosed (field (c .before .before .before .before .before .before .before .args .head .now) (c .before .before .before .before .before .before .before .args .start) 2) (field (c .before .before .before .before .before .before .before .args .head .now) (c .before .before .before .before .before .before .before .args .start + 2) 2) (c .before .before .before .before .before .before .before .args .mode) ≡ true
+closed : (c : tie.Else3)
+    → let a = c .before .before .before .before .before .before .before .args in bothClosed (field (a .head .now) (a .start) 2) (field (a .head .now) (a .start + 2) 2) (a .mode) ≡ true
 closed c =
     let n = c .before .before .before .before .read-u16 .ensures in
     let v = c .before .before .read-u162 .ensures in

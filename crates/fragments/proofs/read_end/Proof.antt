@@ -30,7 +30,8 @@ signed c = sym (c .before .read-u32 .ensures) ∙ c .if2 .left
 returns-3 : tie.Need-returns-3
 unfolding readEnd order
 returns-3 c =
-    let form : isPlain (field (c .before .before .before .before .before .before .before .args .head .now) 4 4) ≡ false = ap isPlain (sym (c .before .before .read-u322 .ensures)) ∙ sym (c .before .is-plain .ensures) ∙ not-true _ (c .if3 .taken) in
+    let form : isPlain (field (c .before .before .before .before .before .before .before .args .head .now) 4 4) ≡ false =
+    ap isPlain (sym (c .before .before .read-u322 .ensures)) ∙ sym (c .before .is-plain .ensures) ∙ not-true _ (c .if3 .taken) in
     simp (le-ltb _ _ (c .before .before .before .before .before .if1 .left), eq-eqb _ _ (signed (c .before .before .before)), form)
 
 form : (c : tie.Else3) → isPlain (field (c .before .before .before .before .before .before .before .args .head .now) 4 4) ≡ true
@@ -45,7 +46,8 @@ returns-4 c =
     let a = c .before .before .before .before .before .before .before .before .before .args in
     let e = size (c .before) in
     let short : a .seen < fixedSize (field (a .head .now) 4 4) = omega arith in
-    simp (le-ltb _ _ (c .before .before .before .before .before .before .before .if1 .left), eq-eqb _ _ (signed (c .before .before .before .before .before)), form (c .before .before), lt-ltb _ _ short)
+    simp
+    (le-ltb _ _ (c .before .before .before .before .before .before .before .if1 .left), eq-eqb _ _ (signed (c .before .before .before .before .before)), form (c .before .before), lt-ltb _ _ short)
 
 tail-end-requires : tie.Need-tail-end-requires
 tail-end-requires c κs =
@@ -60,7 +62,13 @@ returns-5 c =
     let e = size (c .before .before) in
     let long : fixedSize (field (a .head .now) 4 4) ≤ a .seen = omega arith in
     let t = rw (c .before .before .before .before .before .read-u322 .ensures) at (c .tail-end .ensures) in
-    simp (le-ltb _ _ (c .before .before .before .before .before .before .before .before .if1 .left), eq-eqb _ _ (signed (c .before .before .before .before .before .before)), form (c .before .before .before), le-ltb _ _ long) (t ∙ sym (last-row _))
+    simp (
+      le-ltb _ _ (c .before .before .before .before .before .before .before .before .if1 .left),
+      eq-eqb _ _ (signed (c .before .before .before .before .before .before)),
+      form (c .before .before .before),
+      le-ltb _ _ long,
+    )
+    (t ∙ sym (last-row _))
 
 pub read-end-spec : {M : Type 1} → statement M
 read-end-spec =

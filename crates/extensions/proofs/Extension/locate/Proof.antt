@@ -39,7 +39,9 @@ returns-3 c =
     let a = c .before .before .before .before .before .before .before .before .before .args in
     let n = c .before .before .read-u322 .ensures in
     let past : countAt (a .s .now) (a .at) ≤ a .k = omega arith in
-    rw (eq-eqb _ _ (done (c .before .before .before .before .before)), ne-eqb _ _ (λ z. c .before .before .before .if2 .left (c .before .before .before .before .read-u32 .ensures ∙ z)), le-ltb _ _ past) (c .refused3 .ensures)
+    rw
+    (eq-eqb _ _ (done (c .before .before .before .before .before)), ne-eqb _ _ (λ z. c .before .before .before .if2 .left (c .before .before .before .before .read-u32 .ensures ∙ z)), le-ltb _ _ past)
+    (c .refused3 .ensures)
 
 found-requires : tie.Need-found-requires
 found-requires c κs =
@@ -57,7 +59,9 @@ returns-4 c =
     let a = c .before .before .before .before .before .before .before .before .before .args in
     let n = c .before .before .read-u322 .ensures in
     let here : a .k < countAt (a .s .now) (a .at) = omega arith in
-    rw (eq-eqb _ _ (done (c .before .before .before .before .before)), ne-eqb _ _ (λ z. c .before .before .before .if2 .left (c .before .before .before .before .read-u32 .ensures ∙ z)), lt-ltb _ _ here) (rw n at (c .found .ensures))
+    rw
+    (eq-eqb _ _ (done (c .before .before .before .before .before)), ne-eqb _ _ (λ z. c .before .before .before .if2 .left (c .before .before .before .before .read-u32 .ensures ∙ z)), lt-ltb _ _ here)
+    (rw n at (c .found .ensures))
 
 pub locate-spec : {M : Type 1} → statement M
 locate-spec =

@@ -16,7 +16,7 @@ returns c =
     let no = c .before .if1 .taken in
     (rw (← e, ne-eqb _ _ no, c .zero .ensures), rw (← e, ne-eqb _ _ no))
 
-done : (c : tie.Else1) → endAnswer (c .before .before .before .before .args .self) (length (c .before .before .before .before .args .waiting .now)) (length (c .before .before .before .before .args .last .now)) ≡ 0
+done : (c : tie.Else1) → let a = c .before .before .before .before .args in endAnswer (a .self) (length (a .waiting .now)) (length (a .last .now)) ≡ 0
 done c = sym (c .before .end-answer .ensures) ∙ c .if1 .left
 
 part-copy-end : tie.Need-part-copy-end
@@ -25,8 +25,10 @@ part-copy-end c = end-room _ _ _ (done (c .before .before))
 returns-2 : tie.Need-returns-2
 unfolding finished finalAfter
 returns-2 c =
-    let e = done (c .before .before .before .before .before .before .before .before) in
-    (rw (e, c .fields .ensures), rw e (rw (sub-zero (c .before .before .before .before .before .before .before .before .before .before .before .before .args .self .kept)) at (c .before .before .before .before .copy .ensures)))
+    let e = done (c .before .before .before .before .before .before .before .before) in (
+      rw (e, c .fields .ensures),
+      rw e (rw (sub-zero (c .before .before .before .before .before .before .before .before .before .before .before .before .args .self .kept)) at (c .before .before .before .before .copy .ensures)),
+    )
 
 pub finish-spec : {M : Type 1} → statement M
 finish-spec =

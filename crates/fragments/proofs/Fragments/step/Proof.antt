@@ -10,7 +10,8 @@ unfolding step stepIn
 returns c =
     let self = c .before .before .before .before .before .before .before .before .before .before .before .before .before .before .before .args .self in
     let form = c .before .before .before .before .before .before .before .before .before .before .before .form-of .ensures in
-    let inner : c .before .before .before .before .before .before .before .before .in-tail .result ≡ inTail (formOf (self .head) (self .seen)) (self .seen) = c .before .before .before .before .before .before .before .before .in-tail .ensures ∙ (rw form) in
+    let inner : c .before .before .before .before .before .before .before .before .in-tail .result ≡ inTail (formOf (self .head) (self .seen)) (self .seen) =
+    c .before .before .before .before .before .before .before .before .in-tail .ensures ∙ (rw form) in
     let mode = rw form at (c .before .before .before .before .before .before .before .before .before .walked .ensures) in
     let kept = rw inner at (c .before .before .next-kept .ensures) in
     let over = rw inner at (c .next-over .ensures) in

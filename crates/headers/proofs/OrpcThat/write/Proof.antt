@@ -17,8 +17,10 @@ returns c = (sym (write-answer 0 0 [] [] 4 _ ∙ plain-answer 4 _ ∙ simp (lt-l
 returns-2 : tie.Need-returns-2
 unfolding thatBytes order
 returns-2 c =
-    let room = c .before .before .before .before .before .before .before .before .if1 .left in
-    let run = first-field 4 (c .before .before .before .before .before .before .before .before .before .before .args .self .flags) (c .before .before .before .before .before .before .write-u32 .ensures) in
+    let flags = c .before .before .before .before .before .before in
+    let start = flags .before .before .before .before in
+    let room = flags .before .before .if1 .left in
+    let run = first-field 4 (start .args .self .flags) (flags .write-u32 .ensures) in
     (sym (write-answer 0 0 [] [] 4 _ ∙ plain-answer 4 _ ∙ simp (le-ltb _ _ room)), rw plain (then-field 4 0 run room (c .before .before .write-u322 .ensures) .holds))
 
 pub write-spec : {M : Type 1} → statement M

@@ -20,8 +20,10 @@ unfolding thatBytes
 returns-2 c =
     let e = c .before .before .before .before .before .before .before .before .write .ensures in
     let z = c .before .before .before .before .if1 .left in
-    let h = c .before .before .before .before .before .before .before .before .before .before .before .before .before .args .self in
-    (done-walk _ _ _ _ 4 _ _ (e .0) z, c .before .before .write-u32 .ensures ∙ (rw (rw (eq-eqb _ _ z) at (e .1)) (written-before _ (encode 4 (h .flags)) _ 4 (length-encode 4 (h .flags)) (room _ _ _ _ 4 _ _ (e .0) z))))
+    let h = c .before .before .before .before .before .before .before .before .before .before .before .before .before .args .self in (
+      done-walk _ _ _ _ 4 _ _ (e .0) z,
+      c .before .before .write-u32 .ensures ∙ (rw (rw (eq-eqb _ _ z) at (e .1)) (written-before _ (encode 4 (h .flags)) _ 4 (length-encode 4 (h .flags)) (room _ _ _ _ 4 _ _ (e .0) z))),
+    )
 
 pub write-with-spec : {M : Type 1} → statement M
 write-with-spec =

@@ -22,8 +22,10 @@ unfolding thisWritten thisBytes order
 returns-3 c =
     let h = c .before .before .before .before .before .before .before .before .before .before .before .before .args .self in
     let room = c .before .before .before .before .before .before .before .before .if2 .left in
-    let run = first-bytes (thisFront 0 h) 28 (length-front 0 h) (c .before .before .before .before .before .before .write-front .ensures) in
-    (simp (le-ltb _ _ (c .before .before .before .before .before .before .before .before .before .if1 .left), plain-answer, le-ltb _ _ room), rw plain (then-field 4 0 run room (c .before .before .write-u32 .ensures) .holds))
+    let run = first-bytes (thisFront 0 h) 28 (length-front 0 h) (c .before .before .before .before .before .before .write-front .ensures) in (
+      simp (le-ltb _ _ (c .before .before .before .before .before .before .before .before .before .if1 .left), plain-answer, le-ltb _ _ room),
+      rw plain (then-field 4 0 run room (c .before .before .write-u32 .ensures) .holds),
+    )
 
 pub write-spec : {M : Type 1} → statement M
 write-spec =

@@ -10,13 +10,19 @@ use Rattle.headers.proofs.OrpcThis.write_front.Tie as tie
 returns : tie.Need-returns
 unfolding thisFront encode
 returns c =
-    let h = c .before .before .before .before .before .before .before .before .before .before .before .before .before .before .before .before .before .before .before .before .before .before .args .self in
-    let room = c .before .before .before .before .before .before .before .before .before .before .before .before .before .before .before .before .before .before .before .before .before .before .pre in
-    let run = first-field 2 5 (c .before .before .before .before .before .before .before .before .before .before .before .before .before .before .before .before .before .before .before .write-u16 .ensures) in
-    let run2 = then-field 2 (h .minor) run (omega arith) (c .before .before .before .before .before .before .before .before .before .before .before .before .before .before .before .write-u162 .ensures) in
-    let run3 = then-field 4 (h .flags) run2 (omega arith) (c .before .before .before .before .before .before .before .before .before .before .before .write-u32 .ensures) in
-    let run4 = then-field 4 0 run3 (omega arith) (c .before .before .before .before .before .before .before .write-u322 .ensures) in
-    then-guid (h .causality) run4 (omega arith) (c .before .before .write-guid .ensures) .holds
+    let five = c .before .before in
+    let four = five .before .before .before .before .before in
+    let three = four .before .before .before .before in
+    let two = three .before .before .before .before in
+    let one = two .before .before .before .before in
+    let start = one .before .before .before in
+    let h = start .args .self in
+    let room = start .pre in
+    let run = first-field 2 5 (one .write-u16 .ensures) in
+    let run2 = then-field 2 (h .minor) run (omega arith) (two .write-u162 .ensures) in
+    let run3 = then-field 4 (h .flags) run2 (omega arith) (three .write-u32 .ensures) in
+    let run4 = then-field 4 0 run3 (omega arith) (four .write-u322 .ensures) in
+    then-guid (h .causality) run4 (omega arith) (five .write-guid .ensures) .holds
 
 pub write-front-spec : {M : Type 1} → statement M
 write-front-spec =
