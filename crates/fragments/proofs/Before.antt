@@ -13,7 +13,7 @@ use lib.Seq.{set-split, length-take-le}
 use Rattle.kinds.specs.Refusals.{differ}
 use Rattle.kinds.proofs.Refusing.{by-test}
 use Rattle.fields.specs.Fields.{field}
-use Rattle.fields.proofs.Fields.{field-front, written-more, written-none, take-rest}
+use Rattle.fields.proofs.Fields.{field-front, written-more, written-none}
 use Rattle.bindings.proofs.ListBytes.{by-bool}
 use Rattle.references.specs.References.{fixedSize}
 use Rattle.references.proofs.Forms.{size-most}
@@ -21,7 +21,7 @@ use Rattle.list_walk.specs.Walk.{limit}
 use Rattle.fragments.specs.Fragments.{Reading, formOf, inTail, step, stepIn, stepHead, pushed}
 use Rattle.fragments.specs.declared.Fragments.{Fragments}
 use Rattle.fragments.specs.Rest.{quietEnd, Quiet, quietAfter}
-use Rattle.fragments.proofs.Rest.{low-more, push-parts}
+use Rattle.fragments.proofs.Rest.{low-more, push-then}
 
 -- a byte behind a field leaves it
 field-set : (l : List ℕ) (i b at w : ℕ) → i < length l → at + w ≤ i → field (set l i b) at w ≡ field l at w
@@ -109,18 +109,13 @@ quiet-pushed (b ∷ bs) r size q =
     (quiet-pushed bs (quietStep r b) (length-set h seen b ∙ size) (quiet-next h seen (length bs) q b size)
     ∙ (rw (head, count, low-more (r .state .low) b bs)))
 
--- such bytes, and the others
-quiet-parts : (f : Fragments) (w bs : List ℕ) (m : ℕ) → length (f .head) ≡ 84 → Quiet (f .head) (f .seen) (length (take m bs))
-    → pushed (record { state = quietAfter f (take m bs); waiting = w }) (drop m bs) ≡ pushed (record { state = f; waiting = w }) bs
-quiet-parts f w bs m size q =
-    let p = sym (quiet-pushed (take m bs) (record { state = f; waiting = w }) size q) in
-    push-parts _ bs m _ w (ap (λ (x : Reading). x .state) p) (ap (λ (x : Reading). x .waiting) p)
-
--- the same for the code, which takes the m bytes as a part
+-- for the code: such bytes, and the others
 pub quiet-then : (f g h : Fragments) (w w′ bs : List ℕ) (m : ℕ) → length (f .head) ≡ 84 → (m ≤ length bs) × Quiet (f .head) (f .seen) m → g ≡ quietAfter f (take (m - 0) bs)
     → (h ≡ (pushed (record { state = g; waiting = w }) (take (length bs - m) (drop m bs))) .state)
     × (w′ ≡ (pushed (record { state = g; waiting = w }) (take (length bs - m) (drop m bs))) .waiting)
     → (h ≡ (pushed (record { state = f; waiting = w }) bs) .state) × (w′ ≡ (pushed (record { state = f; waiting = w }) bs) .waiting)
 quiet-then f g h w w′ bs m size q e late =
-    let p = quiet-parts f w bs m size (rw (length-take-le m bs (q .0)) (q .1)) in
-    rw (e, sub-zero, take-rest bs m, p) at late
+    let r : Reading = record { state = f; waiting = w } in
+    let n : Quiet (f .head) (f .seen) (length (take (m - 0) bs)) = rw (sub-zero m, length-take-le m bs (q .0)) (q .1) in
+    let p = sym (quiet-pushed (take (m - 0) bs) r size n) in
+    push-then r g h w w′ bs m (e ∙ ap (λ (x : Reading). x .state) p, ap (λ (x : Reading). x .waiting) p) late

@@ -4,7 +4,7 @@ use mathlib.Core.Path.{_≡_, refl, sym, ap, _∙_}
 use mathlib.Core.Bool.{Bool, true, false, cond, not, _&&_, _||_, and-true, and-false, or-false}
 use mathlib.Core.List.{List, [], _∷_, _++_}
 use native.Mathlib.Omega.{arith}
-use native.Mathlib.Nat.{add-zero}
+use native.Mathlib.Nat.{add-zero, sub-zero}
 use borrow.Author.Tests.{lt-ltb, le-ltb, ltb-true, ltb-false, le-leb, lt-leb}
 use lib.Dec.{ltb, leb, eqb·suc-zero}
 use lib.ListN.{length, take, drop, set, length-set, length-take, take-append-drop}
@@ -12,7 +12,7 @@ use lib.Seq.{take-all}
 use Rattle.kinds.specs.Refusals.{differ}
 use Rattle.kinds.proofs.Refusing.{by-test}
 use Rattle.fields.specs.Fields.{field, written}
-use Rattle.fields.proofs.Fields.{written-more, written-none}
+use Rattle.fields.proofs.Fields.{written-more, written-none, take-rest}
 use Rattle.bindings.proofs.ListBytes.{by-bool}
 use Rattle.references.specs.References.{isCustom, fixedSize}
 use Rattle.references.proofs.Forms.{size-most}
@@ -245,6 +245,16 @@ take-least k bs =
     let n : length bs ≤ length bs = omega arith in
     rw m (take-all (length bs) bs n ∙ sym (take-all k bs l)))
 
-pub push-parts : (r : Reading) (bs : List ℕ) (m : ℕ) (st : Fragments) (w : List ℕ) → st ≡ (pushed r (take m bs)) .state → w ≡ (pushed r (take m bs)) .waiting
+push-parts : (r : Reading) (bs : List ℕ) (m : ℕ) (st : Fragments) (w : List ℕ) → st ≡ (pushed r (take m bs)) .state → w ≡ (pushed r (take m bs)) .waiting
     → pushed (record { state = st; waiting = w }) (drop m bs) ≡ pushed r bs
 push-parts r bs m st w p q = rw (p, q) (sym (pushed-append r (take m bs) (drop m bs)) ∙ ap (pushed r) (take-append-drop m bs))
+
+-- the same for the code, which takes the m bytes as a part
+pub push-then : (r : Reading) (g h : Fragments) (w w′ bs : List ℕ) (m : ℕ)
+    → (g ≡ (pushed r (take (m - 0) bs)) .state) × (w ≡ (pushed r (take (m - 0) bs)) .waiting)
+    → (h ≡ (pushed (record { state = g; waiting = w }) (take (length bs - m) (drop m bs))) .state)
+    × (w′ ≡ (pushed (record { state = g; waiting = w }) (take (length bs - m) (drop m bs))) .waiting)
+    → (h ≡ (pushed r bs) .state) × (w′ ≡ (pushed r bs) .waiting)
+push-then r g h w w′ bs m first late =
+    let e = rw (sub-zero m) at first in
+    rw (take-rest bs m, push-parts r bs m g w (e .0) (e .1)) at late

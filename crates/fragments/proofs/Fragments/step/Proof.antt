@@ -8,11 +8,12 @@ use Rattle.fragments.proofs.Fragments.step.Tie as tie
 returns : tie.Need-returns
 unfolding step stepIn
 returns c =
-    let self = c .before .before .before .before .before .before .before .before .before .before .before .before .before .before .before .args .self in
-    let form = c .before .before .before .before .before .before .before .before .before .before .before .form-of .ensures in
-    let inner : c .before .before .before .before .before .before .before .before .in-tail .result ≡ inTail (formOf (self .head) (self .seen)) (self .seen) =
-    c .before .before .before .before .before .before .before .before .in-tail .ensures ∙ (rw form) in
-    let mode = rw form at (c .before .before .before .before .before .before .before .before .before .walked .ensures) in
+    let t = c .before .before .before .before .before .before .before .before in
+    let f = t .before .before .before in
+    let form = f .form-of .ensures in
+    let self = f .before .before .before .before .args .self in
+    let inner : t .in-tail .result ≡ inTail (formOf (self .head) (self .seen)) (self .seen) = t .in-tail .ensures ∙ (rw form) in
+    let mode = rw form at (t .before .walked .ensures) in
     let kept = rw inner at (c .before .before .next-kept .ensures) in
     let over = rw inner at (c .next-over .ensures) in
     let waiting = rw inner at (c .before .before .before .before .before .before .keep .ensures) in

@@ -18,9 +18,10 @@ returns c =
 returns-2 : tie.Need-returns-2
 unfolding thatBytes
 returns-2 c =
-    let e = c .before .before .before .before .before .before .before .before .write .ensures in
+    let w = c .before .before .before .before .before .before .before .before in
+    let e = w .write .ensures in
     let z = c .before .before .before .before .if1 .left in
-    let h = c .before .before .before .before .before .before .before .before .before .before .before .before .before .args .self in (
+    let h = w .before .before .before .before .before .args .self in (
       done-walk _ _ _ _ 4 _ _ (e .0) z,
       c .before .before .write-u32 .ensures ∙ (rw (rw (eq-eqb _ _ z) at (e .1)) (written-before _ (encode 4 (h .flags)) _ 4 (length-encode 4 (h .flags)) (room _ _ _ _ 4 _ _ (e .0) z))),
     )

@@ -27,10 +27,11 @@ write-front-requires c κs =
 returns-3 : tie.Need-returns-3
 unfolding thisBytes
 returns-3 c =
-    let e = c .before .before .before .before .before .before .before .before .write .ensures in
+    let w = c .before .before .before .before .before .before .before .before in
+    let e = w .write .ensures in
     let z = c .before .before .before .before .if2 .left in
-    let h = c .before .before .before .before .before .before .before .before .before .before .before .before .before .before .before .args .self in (
-      done-walk _ _ _ _ 28 _ _ (e .0) z ∙ this-writing _ _ _ _ _ _ (c .before .before .before .before .before .before .before .before .before .before .if1 .left),
+    let h = w .before .before .before .before .before .before .before .args .self in (
+      done-walk _ _ _ _ 28 _ _ (e .0) z ∙ this-writing _ _ _ _ _ _ (w .before .before .if1 .left),
       c .before .before .write-front .ensures ∙ (rw (rw (eq-eqb _ _ z) at (e .1)) (written-before _ (thisFront 0 h) _ 28 (length-front 0 h) (room _ _ _ _ 28 _ _ (e .0) z))),
     )
 
