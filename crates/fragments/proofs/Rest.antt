@@ -19,11 +19,30 @@ use Rattle.references.proofs.Forms.{size-most}
 use Rattle.list_walk.specs.Walk.{limit, nextMode, nextSeen, modeAfter}
 use Rattle.fragments.specs.Fragments.{Reading, formOf, inTail, stepHead, step, stepIn, pushed}
 use Rattle.fragments.specs.declared.Fragments.{Fragments}
-use Rattle.fragments.specs.Rest.{seenAfter, lowAfter, keptAfter, overAfter, waitingAfter, walkAfter, restIn, restAfter}
+use Rattle.fragments.specs.Rest.{seenAfter, lowAfter, keptAfter, overAfter, waitingAfter, walkAfter}
 use Rattle.fragments.proofs.Following.{waiting-length}
 
 abbrev formIn : Reading → ℕ
 formIn r = formOf (r .state .head) (r .state .seen)
+
+-- all of it, where f is the form
+unfoldable pub restIn : ℕ → Reading → List ℕ → Reading
+restIn f r bs =
+    record {
+      state =
+          record {
+            head = r .state .head;
+            seen = seenAfter (r .state .seen) (length bs);
+            low = lowAfter (r .state .low) bs;
+            mode = walkAfter (r .state .head) f (r .state .seen) (r .state .low) (r .state .mode) bs;
+            kept = keptAfter (differ f 0) (r .state .kept) (length (r .waiting)) (length bs);
+            over = overAfter (r .state .over) (differ f 0) (r .state .kept) (length (r .waiting)) (length bs);
+          };
+      waiting = waitingAfter (differ f 0) (r .waiting) (r .state .kept) bs;
+    }
+
+unfoldable pub restAfter : Reading → List ℕ → Reading
+restAfter r bs = restIn (formOf (r .state .head) (r .state .seen)) r bs
 
 -- ---- one byte
 

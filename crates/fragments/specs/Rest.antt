@@ -9,7 +9,7 @@ use Rattle.kinds.specs.Refusals.{differ}
 use Rattle.fields.specs.Fields.{field, written}
 use Rattle.references.specs.References.{isCustom, fixedSize}
 use Rattle.list_walk.specs.Walk.{limit, modeAfter}
-use Rattle.fragments.specs.Fragments.{Reading, formOf}
+use Rattle.fragments.specs.Fragments.{formOf}
 use Rattle.fragments.specs.declared.Fragments.{Fragments}
 
 -- the count, the last byte
@@ -33,25 +33,6 @@ waitingAfter inside w kept bs = cond inside (written w kept (take (length w - ke
 abbrev pub walkAfter : List ℕ → ℕ → ℕ → ℕ → ℕ → List ℕ → ℕ
 walkAfter h f seen low m bs =
     cond (differ f 0 && not (isCustom f)) (modeAfter (field h (fixedSize f) 2) (field h (fixedSize f + 2) 2) (fixedSize f) seen low m bs) m
-
--- all of it, where f is the form
-unfoldable pub restIn : ℕ → Reading → List ℕ → Reading
-restIn f r bs =
-    record {
-      state =
-          record {
-            head = r .state .head;
-            seen = seenAfter (r .state .seen) (length bs);
-            low = lowAfter (r .state .low) bs;
-            mode = walkAfter (r .state .head) f (r .state .seen) (r .state .low) (r .state .mode) bs;
-            kept = keptAfter (differ f 0) (r .state .kept) (length (r .waiting)) (length bs);
-            over = overAfter (r .state .over) (differ f 0) (r .state .kept) (length (r .waiting)) (length bs);
-          };
-      waiting = waitingAfter (differ f 0) (r .waiting) (r .state .kept) bs;
-    }
-
-unfoldable pub restAfter : Reading → List ℕ → Reading
-restAfter r bs = restIn (formOf (r .state .head) (r .state .seen)) r bs
 
 -- ---- bytes before the list or the object data
 

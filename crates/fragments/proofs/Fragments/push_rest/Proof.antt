@@ -1,7 +1,6 @@
 -- `Fragments::push_rest`: each part of the state, and the waiting buffer.
 use Rattle.fragments.specs.Fragments.{Reading}
-use Rattle.fragments.specs.Rest.{restIn, restAfter}
-use Rattle.fragments.proofs.Rest.{rest-pushed}
+use Rattle.fragments.proofs.Rest.{restIn, restAfter, rest-pushed}
 use borrow.Author.Needs.{needs}
 use Rattle.fragments.proofs.Fragments.push_rest.Statement.{statement}
 use Rattle.fragments.proofs.Fragments.push_rest.Tie as tie
