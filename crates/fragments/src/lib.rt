@@ -274,9 +274,9 @@ fn walk_after(head: &[u8], form: u32, seen: u32, low: u8, mode: u8, bytes: &[u8]
     list_walk::mode_after(n, v, start as u32, seen, low, mode, bytes)
 }
 
-// ---- the first 84 bytes
+// ---- a fragment
 
-// How many of n bytes belong to them.
+// How many of n bytes belong to the first 84.
 fn early(seen: u32, n: usize) -> usize
     ensures { λ r. ⌜ r ≤ n ⌝ }
 {
@@ -308,6 +308,7 @@ fn quiet(head: &[u8], seen: u32, n: usize) -> usize
 }
 
 impl Fragments {
+    // Such bytes.
     fn push_quiet(self, bytes: &[u8]) -> Fragments
         requires { ⌜ Quiet (self .head) (self .seen) (length (now bytes)) ⌝ }
         ensures { λ r. ⌜ r ≡ quietAfter self (now (bytes .entry)) ⌝ }
@@ -323,9 +324,7 @@ impl Fragments {
             over: self.over,
         }
     }
-}
 
-impl Fragments {
     // A fragment more behind the first 84 bytes.
     fn push_rest(self, waiting: &mut [u8], bytes: &[u8]) -> Fragments
         requires { ⌜ 84 ≤ self .seen ⌝ }
@@ -350,6 +349,7 @@ impl Fragments {
         }
     }
 
+    // Bytes behind those of the first 84 that came.
     fn push_late(self, waiting: &mut [u8], bytes: &[u8]) -> Fragments
         ensures { λ r. ⌜
             (r ≡ (pushed (record { state = self; waiting = now (waiting .entry) }) (now (bytes .entry))) .state)
