@@ -282,14 +282,11 @@ impl Extension {
         }
     }
 
-    // Extension k of the header whose pointer stands at at: the header's refusals first, then 24.
-    pub fn locate(s: &[u8], at: usize, k: usize) -> Extension
+    // Extension k of an accepted header; 24 where there is none.
+    pub fn numbered(s: &[u8], at: usize, k: usize) -> Extension
+        requires { ⌜ extensionsAnswer (now s) at ≡ 0 ⌝ }
         ensures { λ r. ⌜ r ≡ extensionAt (now (s .entry)) at k ⌝ }
     {
-        let x = judge(s, at);
-        if x.answer != answer::DONE {
-            return Extension::refused(x.answer);
-        }
         if fields::read_u32(s, at) == 0 {
             return Extension::refused(answer::NO_BINDING);
         }
@@ -298,6 +295,17 @@ impl Extension {
             return Extension::refused(answer::NO_BINDING);
         }
         Extension::found(s, at, n, k)
+    }
+
+    // Extension k of the header whose pointer stands at at: the header's refusals first, then 24.
+    pub fn locate(s: &[u8], at: usize, k: usize) -> Extension
+        ensures { λ r. ⌜ r ≡ extensionAt (now (s .entry)) at k ⌝ }
+    {
+        let x = judge(s, at);
+        if x.answer != answer::DONE {
+            return Extension::refused(x.answer);
+        }
+        Extension::numbered(s, at, k)
     }
 }
 

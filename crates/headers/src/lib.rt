@@ -110,7 +110,7 @@ impl OrpcThis {
         if x.answer != answer::DONE {
             return Extension::refused(x.answer);
         }
-        Extension::locate(s, 28, k)
+        Extension::numbered(s, 28, k)
     }
 
     // The data of extension k without its padding; no bytes where it is refused.
