@@ -33,8 +33,8 @@ pub record RowPut (k : Kind) (i : ℕ) (r ws ws′ : List ℕ) : Type 0 where
   pub others : (j : ℕ) → j < k .places → (j ≡ i → ⊥) → rowAt k ws′ j ≡ rowAt k ws j
   pub outside : Outside k ws ws′
 
--- row i is taken out and the later rows move down
-pub record RowRemoved (k : Kind) (i : ℕ) (ws ws′ : List ℕ) : Type 0 where
+-- row i of the first n is taken out and the later ones of them move down
+pub record RowRemoved (k : Kind) (n i : ℕ) (ws ws′ : List ℕ) : Type 0 where
   pub size : length ws′ ≡ length ws
-  pub moved : (j : ℕ) → suc j < k .places → rowAt k ws′ j ≡ rowAt k ws (skip i j)
+  pub moved : (j : ℕ) → suc j < n → rowAt k ws′ j ≡ rowAt k ws (skip i j)
   pub outside : Outside k ws ws′

@@ -26,17 +26,17 @@ pub fn put_row(ws: &mut [u64], k: Kind, i: usize, row: &[u64])
     }
 }
 
-// Takes row i out: the rows after it move down by one.
-pub fn remove_row(ws: &mut [u64], k: Kind, i: usize)
-    requires { ⌜ (i < k .places) × (after k ≤ length (now ws)) ⌝ }
-    ensures { λ r. ⌜ RowRemoved k i (now (ws .entry)) (now (ws .exit)) ⌝ }
+// Takes row i of the first n out: the rows after it move down by one.
+pub fn remove_row(ws: &mut [u64], k: Kind, n: usize, i: usize)
+    requires { ⌜ (i < n) × (n ≤ k .places) × (after k ≤ length (now ws)) ⌝ }
+    ensures { λ r. ⌜ RowRemoved k n i (now (ws .entry)) (now (ws .exit)) ⌝ }
 {
     let mut from = k.base;
     let mut j = 0;
     while j < k.width {
-        let to = from + k.places;
+        let to = from + n;
         remove_at(&mut ws[from..to], i);
-        from = to;
+        from += k.places;
         j += 1;
     }
 }

@@ -59,13 +59,13 @@ module _ (k : Kind) (at : ℕ) where
         }
 
     -- row i of the n live ones is removed, and counted no more
-    pub row-pulled : (i : ℕ) → RowRemoved k i ws ws′ → i < n → n ≤ k .places → Pulled k at n i ws (set ws′ at (n - 1))
+    pub row-pulled : (i : ℕ) → RowRemoved k n i ws ws′ → i < n → n ≤ k .places → Pulled k at n i ws (set ws′ at (n - 1))
     row-pulled i p g b =
         let s = p .size in
         record {
           size = length-set ws′ at (n - 1) ∙ s;
           count = getD-set-same ws′ at (n - 1) 0 (omega arith);
-          rows = rows-outside-set k ws′ (n - 1) at (n - 1) (omega arith) (inl h) ∙ rows-removed k ws ws′ i n p g b;
+          rows = rows-outside-set k ws′ (n - 1) at (n - 1) (omega arith) (inl h) ∙ rows-removed k ws ws′ i n p g;
           only = λ x d o. getD-set-other ws′ at x (n - 1) 0 d ∙ p .outside x o;
         }
 

@@ -38,7 +38,7 @@ fn pull_row(words: &mut [u64], k: Kind, at: usize, n: usize, i: usize)
     requires { ⌜ (at < k .base) × (i < n) × (n ≤ k .places) × (k .places ≤ 256) × (after k ≤ length (now words)) ⌝ }
     ensures { λ _. ⌜ Pulled k at n i (now (words .entry)) (now (words .exit)) ⌝ }
 {
-    rows::remove_row(words, k, i);
+    rows::remove_row(words, k, n, i);
     words[at] = (n - 1) as u64;
 }
 

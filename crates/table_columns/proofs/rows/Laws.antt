@@ -88,10 +88,10 @@ module _ (k : Kind) where
       tabulate-snoc n (rowAt k ws′) ∙ (λ u. front u ++ (p .put u ∷ []))
 
   -- a row that is taken out of the first n
-  pub rows-removed : (ws ws′ : List ℕ) (i n : ℕ) → RowRemoved k i ws ws′ → i < n → n ≤ k .places → rows k ws′ (n - 1) ≡ deleteAt i (rows k ws n)
+  pub rows-removed : (ws ws′ : List ℕ) (i n : ℕ) → RowRemoved k n i ws ws′ → i < n → rows k ws′ (n - 1) ≡ deleteAt i (rows k ws n)
   unfolding rows
-  rows-removed ws ws′ i zero r h b = absurd (omega arith)
-  rows-removed ws ws′ i (suc m) r h b =
+  rows-removed ws ws′ i zero r h = absurd (omega arith)
+  rows-removed ws ws′ i (suc m) r h =
       let e : suc m - 1 ≡ m = omega arith in
       rw e (tabulate-ext m _ _ (λ j c. r .moved j (omega arith)) ∙ sym (delete-tabulate m i (rowAt k ws) (omega arith)))
 

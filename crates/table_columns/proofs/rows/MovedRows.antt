@@ -105,28 +105,28 @@ module _ (a n : ℕ) (xs ys : List ℕ) (l : length ys ≡ n) (f : a + n ≤ len
 
 -- ---- a row is taken out
 
--- row i is taken out of the columns below j, and the others are as they were
-pub record RemovedTo (k : Kind) (i : ℕ) (ws₀ ws : List ℕ) (j : ℕ) : Type 0 where
+-- row i of the first n is taken out of the columns below j, and the others are as they were
+pub record RemovedTo (k : Kind) (n i : ℕ) (ws₀ ws : List ℕ) (j : ℕ) : Type 0 where
   pub size : length ws ≡ length ws₀
-  pub moved : (c y : ℕ) → c < j → suc y < k .places → getD ws (cell k c y) 0 ≡ getD ws₀ (cell k c (skip i y)) 0
+  pub moved : (c y : ℕ) → c < j → suc y < n → getD ws (cell k c y) 0 ≡ getD ws₀ (cell k c (skip i y)) 0
   pub kept : (x : ℕ) → (x < k .base) ⊎ (k .base + j * k .places ≤ x) → getD ws x 0 ≡ getD ws₀ x 0
 
-module _ (k : Kind) (i : ℕ) (ws₀ : List ℕ) (b : i < k .places) where
+module _ (k : Kind) (n i : ℕ) (ws₀ : List ℕ) (b : n ≤ k .places) where
   -- no column is changed
-  pub removed-none : RemovedTo k i ws₀ ws₀ 0
+  pub removed-none : RemovedTo k n i ws₀ ws₀ 0
   removed-none = record { size = refl; moved = λ c y h. absurd (omega arith); kept = λ x h. refl }
 
-  module _ (ws ys : List ℕ) (j at n : ℕ) (p : RemovedTo k i ws₀ ws j) (e : at ≡ k .base + j * k .places) (w : n ≡ k .places) (f : at + n ≤ length ws)
+  module _ (ws ys : List ℕ) (j at : ℕ) (p : RemovedTo k n i ws₀ ws j) (e : at ≡ k .base + j * k .places) (f : at + n ≤ length ws)
       (r : ys ≡ removedAt i (take n (drop at ws))) where
-    -- the column has n words
+    -- there are n words
     part-length : length (take n (drop at ws)) ≡ n
     part-length = let d = length-drop at ws in length-take-le n (drop at ws) (omega arith)
 
-    -- and so it has afterwards
+    -- and so afterwards
     ys-length : length ys ≡ n
     ys-length = ap length r ∙ length-removed i (take n (drop at ws)) ∙ part-length
 
-    -- its words from i on have moved down
+    -- those from i on have moved down
     ys-moved : (y : ℕ) → suc y < n → getD ys y 0 ≡ getD ws (at + skip i y) 0
     ys-moved y h =
         let l = part-length in
@@ -134,7 +134,7 @@ module _ (k : Kind) (i : ℕ) (ws₀ : List ℕ) (b : i < k .places) where
         ∙ getD-take n (drop at ws) (skip i y) 0 (skip-lt i y n h) ∙ getD-drop at ws (skip i y) 0
 
     -- one more column is changed
-    pub removed-one : RemovedTo k i ws₀ (putMid at n ws ys) (j + 1)
+    pub removed-one : RemovedTo k n i ws₀ (putMid at n ws ys) (j + 1)
     removed-one =
         let l = ys-length in
         record {
@@ -160,7 +160,7 @@ module _ (k : Kind) (i : ℕ) (ws₀ : List ℕ) (b : i < k .places) where
         }
 
   -- all columns are changed
-  pub removed-all : (ws : List ℕ) → RemovedTo k i ws₀ ws (k .width) → RowRemoved k i ws₀ ws
+  pub removed-all : (ws : List ℕ) → RemovedTo k n i ws₀ ws (k .width) → RowRemoved k n i ws₀ ws
   removed-all ws p =
       record {
         size = p .size;
