@@ -3,7 +3,6 @@ use kinds::Guid;
 use kinds::Oid;
 use kinds::answer;
 use kinds::limits;
-use table_settle::Leaving;
 use table_view::find;
 ghost use mathlib.Core.Path.{_≡_};
 ghost use mathlib.Core.Bool.{true};
@@ -226,8 +225,12 @@ pub fn drop_client_step<'a>(words: &'a mut [u64], store: &'a [u8], client: u32) 
     if limits::LAST_CLIENT < client {
         return answer::NO_CLIENT;
     }
+    let n = find::interface_count(words);
     table_settle::clear_counts(words, client as usize);
     table_settle::drop_unheld(words);
-    table_settle::remove_leaving(words, Leaving::NoInterface);
+    if find::interface_count(words) == n {
+        return answer::DONE;
+    }
+    table_settle::remove_unserved(words);
     answer::DONE
 }

@@ -10,7 +10,7 @@ use Rattle.kinds.specs.Refusals.{order}
 use Rattle.lists.proofs.Lists.{every-kept, length-keep}
 use Rattle.rules.specs.Entries.{Entries, oids, withClock}
 use Rattle.rules.specs.Calls.{Call, Edit}
-use Rattle.rules.specs.Sound.{proper, setMembersLive, heardWithin, pingedWithin}
+use Rattle.rules.specs.Sound.{proper, interfaceObjectsLive, setMembersLive, heardWithin, pingedWithin}
 use Rattle.rules.specs.Rules.{refusals, number, next, results, refusedReply, acceptedReply, clockValues}
 use Rattle.rules.proofs.SoundLaws.{sound-fields}
 use Rattle.rules.proofs.LeavingKeeps.{clock-next}
@@ -40,6 +40,9 @@ module _ (ws s : List ℕ) (t : ℕ) (h : SoundTable (memory ws s)) where
 
     pub ids-proper : proper (oids (view (memory ws₂ s))) ≡ true
     ids-proper = ap (λ (f : Entries). proper (oids f)) (clock-view s) ∙ sound-fields before (h .entries) .objectsProper
+
+    pub objects-named : interfaceObjectsLive (view (memory ws₂ s)) ≡ true
+    objects-named = ap interfaceObjectsLive (clock-view s) ∙ sound-fields before (h .entries) .interfaceObjectsLive
 
     pub members-live : setMembersLive (view (memory ws₂ s)) ≡ true
     members-live =

@@ -1,3 +1,4 @@
 pub mod ClientDrop
 pub mod Going
 pub mod Settling
+pub mod Staying

@@ -6,15 +6,17 @@ use table_view::find;
 ghost use mathlib.Core.Path.{_≡_};
 ghost use mathlib.Core.Bool.{true};
 ghost use Prim.Native.Nat.{_<_};
-ghost use lib.ListN.{getD};
+ghost use lib.ListN.{length, getD};
 ghost use lib.Dec.{eqb};
 ghost use Rattle.lists.specs.Lists.{distinct, some};
 ghost use Rattle.rules.specs.Entries.{Interface};
 ghost use Rattle.rules.specs.Rules.{noObject, isLiveObject};
+ghost use Rattle.rules.specs.Sound.{interfaceObjectsLive};
 ghost use Rattle.table_view.specs.View.{objectCount, interfaceCount, setCount, Holds, oidsOf, membersBelow};
 ghost use Rattle.table_edit.specs.Edits.{Became};
 ghost use Rattle.table_settle.specs.Leaving.{stays, withoutLeaving, objectsLeft, interfacesLeft, setsLeft, leftAt, interfaceLeftAt, setLeftAt, cleared, heldLeft, heldLeftAt};
 ghost use Rattle.rules.specs.Contract.{Whole};
+ghost use Rattle.table_settle.specs.declared.Leaving.the-variants.{NoInterface};
 
 // Why objects go: their exporter is removed, they have no interface, or they were not heard for too long at a time.
 pub enum Leaving {
@@ -27,9 +29,17 @@ fn row_of(hint: u8) -> usize {
     hint as usize
 }
 
+// The row that is hinted at under a bucket; row 0 where there are no hints.
+fn hinted(hints: &[u8], b: usize) -> usize {
+    if b >= hints.len() {
+        return 0;
+    }
+    row_of(hints[b])
+}
+
 // Notes the row of each interface under the bucket of the OID that it names, as `find::hint_objects` does for objects.
-fn hint_served<'a>(words: &'a [u64], hints: &'a mut [u8; buckets::BUCKETS])
-    requires { ⌜ Whole (now words) ⌝ }
+fn hint_served<'a>(words: &'a [u64], hints: &'a mut [u8])
+    requires { ⌜ Whole (now words) × (length (now hints) ≡ 4096) ⌝ }
 {
     let n = find::interface_count(words);
     let mut i = 0;
@@ -41,12 +51,11 @@ fn hint_served<'a>(words: &'a [u64], hints: &'a mut [u8; buckets::BUCKETS])
 }
 
 // Whether an interface names an object; a row is tried first.
-fn is_served<'a>(words: &'a [u64], hints: &'a [u8; buckets::BUCKETS], oid: Oid) -> bool
+fn is_served<'a>(words: &'a [u64], hints: &'a [u8], oid: Oid) -> bool
     requires { ⌜ Whole (now words) ⌝ }
     ensures { λ r. ⌜ Holds (λ e. r ≡ some (λ (i : Interface). eqb (oid .0) (i .object)) (e .interfaces)) (now (words .entry)) ⌝ }
 {
-    let b = buckets::of_word(oid.0);
-    let row = row_of(hints[b]);
+    let row = hinted(hints, buckets::of_word(oid.0));
     if row < find::interface_count(words) {
         let object = find::interface_object(words, row);
         if oid.0 == object.0 {
@@ -61,8 +70,7 @@ fn is_live<'a>(words: &'a [u64], hints: &'a [u8; buckets::BUCKETS], oid: Oid) ->
     requires { ⌜ Whole (now words) ⌝ }
     ensures { λ r. ⌜ Holds (λ e. r ≡ isLiveObject e (oid .0)) (now (words .entry)) ⌝ }
 {
-    let b = buckets::of_word(oid.0);
-    let row = row_of(hints[b]);
+    let row = hinted(hints, buckets::of_word(oid.0));
     if row < find::object_count(words) {
         let there = find::oid(words, row);
         if oid.0 == there.0 {
@@ -73,12 +81,7 @@ fn is_live<'a>(words: &'a [u64], hints: &'a [u8; buckets::BUCKETS], oid: Oid) ->
 }
 
 // Whether object i stays.
-fn is_staying<'a>(
-    words: &'a [u64],
-    i: usize,
-    why: Leaving,
-    hints: &'a [u8; buckets::BUCKETS],
-) -> bool
+fn is_staying<'a>(words: &'a [u64], i: usize, why: Leaving, hints: &'a [u8]) -> bool
     requires { ⌜ Whole (now words) × (i < objectCount (now words)) ⌝ }
     ensures { λ r. ⌜ Holds (λ e. r ≡ stays why e (getD (e .objects) i noObject)) (now (words .entry)) ⌝ }
 {
@@ -90,7 +93,7 @@ fn is_staying<'a>(
 }
 
 // Takes object i out, unless it stays.
-fn leave<'a>(words: &'a mut [u64], i: usize, why: Leaving, hints: &'a [u8; buckets::BUCKETS])
+fn leave<'a>(words: &'a mut [u64], i: usize, why: Leaving, hints: &'a [u8])
     requires { ⌜
         Whole (now words) × (i < objectCount (now words)) × (membersBelow (now words) ≡ true)
         × (distinct eqb (oidsOf (now words)) ≡ true) ⌝ }
@@ -103,7 +106,7 @@ fn leave<'a>(words: &'a mut [u64], i: usize, why: Leaving, hints: &'a [u8; bucke
 }
 
 // Takes the objects out that do not stay.
-fn drop_objects(words: &mut [u64], why: Leaving)
+fn drop_objects<'a>(words: &'a mut [u64], why: Leaving, hints: &'a [u8])
     requires { ⌜
         Whole (now words) × (membersBelow (now words) ≡ true)
         × (distinct eqb (oidsOf (now words)) ≡ true) ⌝ }
@@ -111,12 +114,10 @@ fn drop_objects(words: &mut [u64], why: Leaving)
         Became (λ e. objectsLeft (stays why e) e) (now (words .entry)) (now (words .exit))
         × (membersBelow (now (words .exit)) ≡ true) ⌝ }
 {
-    let mut hints = [0u8; buckets::BUCKETS];
-    hint_served(words, &mut hints);
     let mut i = find::object_count(words);
     while 0 < i {
         i -= 1;
-        leave(words, i, why, &hints);
+        leave(words, i, why, hints);
     }
 }
 
@@ -147,14 +148,40 @@ fn drop_interfaces(words: &mut [u64])
 }
 
 // Objects that do not stay go, with their interfaces and memberships.
+fn remove_hinted<'a>(words: &'a mut [u64], why: Leaving, hints: &'a [u8])
+    requires { ⌜
+        Whole (now words) × (membersBelow (now words) ≡ true)
+        × (distinct eqb (oidsOf (now words)) ≡ true) × Holds (λ e. interfaceObjectsLive e ≡ true) (now words) ⌝ }
+    ensures { λ _. ⌜ Became (withoutLeaving why) (now (words .entry)) (now (words .exit)) ⌝ }
+{
+    let n = find::object_count(words);
+    drop_objects(words, why, hints);
+    if find::object_count(words) == n {
+        return;
+    }
+    drop_interfaces(words);
+}
+
+// The same; no reason but a missing interface needs hints.
 pub fn remove_leaving(words: &mut [u64], why: Leaving)
     requires { ⌜
         Whole (now words) × (membersBelow (now words) ≡ true)
-        × (distinct eqb (oidsOf (now words)) ≡ true) ⌝ }
+        × (distinct eqb (oidsOf (now words)) ≡ true) × Holds (λ e. interfaceObjectsLive e ≡ true) (now words) ⌝ }
     ensures { λ _. ⌜ Became (withoutLeaving why) (now (words .entry)) (now (words .exit)) ⌝ }
 {
-    drop_objects(words, why);
-    drop_interfaces(words);
+    remove_hinted(words, why, &[]);
+}
+
+// Objects without an interface go, with their memberships.
+pub fn remove_unserved(words: &mut [u64])
+    requires { ⌜
+        Whole (now words) × (membersBelow (now words) ≡ true)
+        × (distinct eqb (oidsOf (now words)) ≡ true) × Holds (λ e. interfaceObjectsLive e ≡ true) (now words) ⌝ }
+    ensures { λ _. ⌜ Became (withoutLeaving NoInterface) (now (words .entry)) (now (words .exit)) ⌝ }
+{
+    let mut hints = [0u8; buckets::BUCKETS];
+    hint_served(words, &mut hints);
+    remove_hinted(words, Leaving::NoInterface, &hints);
 }
 
 // Takes set i out where it was not pinged for too long at a time.

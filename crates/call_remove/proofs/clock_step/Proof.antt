@@ -3,7 +3,7 @@ use native.Mathlib.Omega.{arith}
 use borrow.Author.Tests.{lt-ltb, le-ltb}
 use Rattle.rules.specs.Rules.{refusedReply}
 use Rattle.table_settle.proofs.Settling.{asked}
-use Rattle.call_remove.proofs.Expiring.{clock-back, ids-proper, members-live, fewer-objects, fewer-interfaces, fewer-sets, clock-done}
+use Rattle.call_remove.proofs.Expiring.{clock-back, ids-proper, objects-named, members-live, fewer-objects, fewer-interfaces, fewer-sets, clock-done}
 use borrow.Author.Needs.{needs}
 use Rattle.call_remove.proofs.clock_step.Statement.{statement}
 use Rattle.call_remove.proofs.clock_step.Tie as tie
@@ -39,7 +39,7 @@ remove-leaving-requires c κs =
     let sets = c .before .before .before .before .before .before .before .drop-sets .ensures in
     let set = c .before .before .before .set-clock .ensures in
     let q = asked _ (a .store .now) (ids-proper (a .words .now) (a .store .now) (a .time) h _ _ sets set) (members-live (a .words .now) (a .store .now) (a .time) h _ _ sets set) in
-    (search needs, q .0, q .1)
+    (search needs, q .0, q .1, λ _. objects-named (a .words .now) (a .store .now) (a .time) h _ _ sets set)
 
 object-count-requires-2 : tie.Need-object-count-requires-2
 object-count-requires-2 c κs = let w = c .before .before .before .before .before .before .before .before .before .before .before .before .before .before .before .before .before .before .before .before .before .before .before .before .pre .words in search needs

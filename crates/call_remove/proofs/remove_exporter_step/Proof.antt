@@ -26,7 +26,7 @@ remove-leaving-requires c κs =
     let a = c .before .before .before .before .before .before .before .before .args in
     let t = c .before .before .before .before .before .before .before .before .pre in
     let q = asked-sound (a .words .now) (a .store .now) (t .entries) in
-    (t .words, q .0, q .1)
+    (t .words, q .0, q .1, q .2)
 
 remove-exporter-requires : tie.Need-remove-exporter-requires
 remove-exporter-requires c κs =

@@ -27,7 +27,7 @@ abbrev μ-loop : tie.MeasureT-loop
 
 loop-holds : tie.Need-loop-holds Inv-loop μ-loop
 loop-holds c =
-    let start = c .before .before .before .before .before .before in
+    let start = c .before .before .before .before in
     let ws = start .args .words .now in (
       search needs,
       λ s. going-none (λ e. e .objects) (stays (start .args .why)) (λ e. objectsLeft (stays (start .args .why) e) e) noObject (view (memory ws s)) _ (c .object-count .ensures .0 ∙ sym (objects-length ws)),
@@ -37,15 +37,15 @@ loop-holds c =
 
 leave-requires : tie.Need-leave-requires Inv-loop μ-loop
 leave-requires c κs =
-    let l = c .before .before .before .loop in
+    let l = c .before .before .loop in
     let n = objects-length (l .words) in
     let g = l .inv .1 (l .words) .within in
     (l .inv .0, omega arith, l .inv .2, l .inv .3)
 
 loop-again : tie.Need-loop-again Inv-loop μ-loop
 loop-again c =
-    let l = c .before .before .before .before .before .before .loop in
-    let start = c .before .before .before .before .before .before .before .before .before .before .before .before .before in
+    let l = c .before .before .before .before .before .loop in
+    let start = c .before .before .before .before .before .before .before .before .before .before in
     let b = c .before .before .leave .ensures in (
       search needs,
       λ s. rw (b .0 s) (objects-row (start .args .why) (view (memory (start .args .words .now) s)) (view (memory (l .words) s)) (l .i) (l .inv .1 s) _ (omega arith) (l .inv .3)),
@@ -56,7 +56,7 @@ loop-again c =
 returns : tie.Need-returns Inv-loop μ-loop
 returns c =
     let l = c .before .loop in
-    let start = c .before .before .before .before .before .before .before .before in (
+    let start = c .before .before .before .before .before .before in (
       (λ s. objects-all (start .args .why) (view (memory (start .args .words .now) s)) (view (memory (l .words) s)) (l .i) (l .inv .1 s) (omega arith) (below-live (l .words) s (l .inv .2))),
       l .inv .2,
     )
@@ -67,7 +67,6 @@ drop-objects-spec =
     (tie.spec
     Inv-loop
     μ-loop
-    (λ c κs. search needs)
     (λ c κs. search needs)
     loop-holds
     (λ c. omega arith)

@@ -21,7 +21,7 @@ returns c s =
     let a = c .before .before .before .before .before .before .before .before .before .before .args in
     let os : List Object = objectsOf (a .words .now) in
     let f : Object → ℕ = λ (o : Object). o .oid in
-    let r = c .before .before .before .before .before .before .row-of .result in
+    let r = c .before .before .before .before .before .before .hinted .result in
     let l = objects-length (a .words .now) in
     let n = c .before .before .before .before .before .object-count .ensures .0 in
     let t = c .before .before .before .before .if1 .taken in
@@ -40,7 +40,6 @@ is-live-spec =
     tie.close
     (tie.spec
     (λ c κs. search needs)
-    (λ c. search needs)
     (λ c κs. search needs)
     (λ c κs. search needs)
     (λ c κs. search needs)

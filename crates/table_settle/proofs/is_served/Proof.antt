@@ -19,7 +19,7 @@ returns : tie.Need-returns
 returns c s =
     let a = c .before .before .before .before .before .before .before .before .before .before .args in
     let is : List Interface = interfacesOf (a .words .now) in
-    let r = c .before .before .before .before .before .before .row-of .result in
+    let r = c .before .before .before .before .before .before .hinted .result in
     let l = interfaces-length (a .words .now) in
     let n = c .before .before .before .before .before .interface-count .ensures .0 in
     let t = c .before .before .before .before .if1 .taken in
@@ -31,7 +31,6 @@ is-served-spec =
     tie.close
     (tie.spec
     (λ c κs. search needs)
-    (λ c. search needs)
     (λ c κs. search needs)
     (λ c κs. search needs)
     (λ c κs. search needs)

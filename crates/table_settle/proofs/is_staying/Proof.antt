@@ -22,7 +22,7 @@ returns c s =
 
 returns-2 : tie.Need-returns-2
 returns-2 c s =
-    let start = c .before .before .before .before .before in
+    let start = c .before .before .before .before .before .before in
     rw (c .before .before .enum-told .given .1)
     (c .is-served .ensures s ∙ ap (λ (k : ℕ). some (λ (p : Interface). eqb k (p .object)) (interfacesOf (start .args .words .now))) (c .before .oid .ensures))
 

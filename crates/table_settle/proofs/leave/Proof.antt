@@ -6,7 +6,7 @@ use Rattle.table_settle.proofs.leave.Tie as tie
 
 returns : tie.Need-returns
 returns c =
-    let start = c .before .before .before .before in
+    let start = c .before .before .before .before .before in
     ((λ s. rw (sym (c .before .is-staying .ensures s) ∙ c .if1 .taken)), start .pre .2)
 
 returns-2 : tie.Need-returns-2
