@@ -1,24 +1,27 @@
 -- A step of an item's call is the item done; its number is a byte.
-use Prim.Native.Nat.{ℕ, _+_, _*_, _<_}
-use mathlib.Core.Path.{_≡_, sym, subst, ap, _∙_}
+use Prim.Native.Nat.{ℕ, _+_, _*_, _<_, _≤_}
+use mathlib.Core.Path.{_≡_, refl, sym, subst, ap, _∙_}
 use mathlib.Core.Bool.{Bool, true, false, cond, not, _||_, true≢false}
 use mathlib.Core.List.{List}
 use mathlib.Core.Logic.{⊎-elim}
 use native.Mathlib.Omega.{arith}
+use native.Mathlib.Nat.{add-zero}
 use borrow.Author.Tests.{eq-eqb, ne-eqb}
-use lib.ListN.{length}
+use lib.ListN.{length, take, drop, length-drop}
+use lib.Seq.{length-take-le}
 use Rattle.kinds.specs.Refusals.{order}
 use Rattle.kinds.specs.declared.Guid.{Guid}
-use Rattle.fields.specs.Fields.{field, guidAt}
+use Rattle.fields.specs.Fields.{bytesNumber, field, guidAt}
+use Rattle.fields.proofs.Fields.{field-in, part-of}
 use Rattle.lists.proofs.Tests.{same-or-not}
-use Rattle.rules.specs.Entries.{Entries, publicOf, privateOf, interfaceRow}
-use Rattle.rules.specs.Calls.{Call, Edit, Counting, adding, releasing, Reply}
+use Rattle.rules.specs.Entries.{Entries, publicOf, privateOf}
+use Rattle.rules.specs.Calls.{Counting, adding, releasing, Reply}
 use Rattle.rules.specs.Items.{Item, itemAt, itemCall}
 use Rattle.rules.specs.Rules.{isLiveInterface, interfaceOf, passesCount, noClient, refusals, number, next}
 use Rattle.rules.specs.Contract.{Memory}
 use Rattle.rules.proofs.Stepping.{reply-number, step-sound}
 use Rattle.rules.proofs.OneByOne.{item-done}
-use Rattle.table_view.specs.View.{memory, view, Holds, SoundTable, Stepped}
+use Rattle.table_view.specs.View.{view, SoundTable, Stepped}
 use Rattle.call_lists.specs.Listing.{wayOf, ItemStepped}
 
 -- the numbers of an item are bytes
@@ -50,20 +53,33 @@ item-stepped w c t {m} {m′} {x} s p words store =
       table = step-sound view (itemCall w c t) m s p words store;
     }
 
--- the row of the IPID that was read
-pub item-row : (ws items : List ℕ) (k : ℕ) {i : Guid} {row : ℕ} → i ≡ guidAt items (24 * k) → Holds (λ e. row ≡ interfaceRow e (itemAt items k .ipid)) ws → Holds (λ e. row ≡ interfaceRow e i) ws
-item-row ws items k e h s = h s ∙ ap (interfaceRow (view (memory ws s))) (sym e)
+-- an item given back or added
+module _ (c : ℕ) (t : Item) {m m′ : Memory} {x : Reply} (h : SoundTable m) (words : length (m′ .words) ≡ 8192) (store : length (m′ .store) ≡ 8192) where
+  pub item-back : (b : Bool) → b ≡ true → Stepped (itemCall releasing c t) m x m′ → ItemStepped (wayOf b) c t m (x .number) m′
+  item-back false e r = absurd (true≢false (sym e))
+  item-back true e r = item-stepped releasing c t h r words store
 
-pub read-row : (ws items : List ℕ) (k : ℕ) {i : Guid} {row : ℕ} → i ≡ guidAt items (24 * k) → Holds (λ e. row ≡ interfaceRow e i) ws → Holds (λ e. row ≡ interfaceRow e (itemAt items k .ipid)) ws
-read-row ws items k e h s = h s ∙ ap (interfaceRow (view (memory ws s))) e
+  pub item-added : (b : Bool) → b ≡ false → Stepped (itemCall adding c t) m x m′ → ItemStepped (wayOf b) c t m (x .number) m′
+  item-added true e r = absurd (true≢false e)
+  item-added false e r = item-stepped adding c t h r words store
 
--- the item that was read, given back or added
-module _ (c : ℕ) (s : List ℕ) (k : ℕ) {i : Guid} {p q : ℕ} (ipid : i ≡ guidAt s (24 * k)) (public : p ≡ field s (24 * k + 16) 4) (private : q ≡ field s (24 * k + 20) 4)
-    {m m′ : Memory} {x : Reply} (t : SoundTable m) (words : length (m′ .words) ≡ 8192) (store : length (m′ .store) ≡ 8192) where
-  pub item-back : (b : Bool) → b ≡ true → Stepped (Call.editing (Edit.release c i p q)) m x m′ → ItemStepped (wayOf b) c (itemAt s k) m (x .number) m′
-  item-back false h r = absurd (true≢false (sym h))
-  item-back true h r = item-stepped releasing c (itemAt s k) t (rw (ipid, public, private) at r) words store
+-- the item that was read is item k
+pub item-read : (s : List ℕ) (k : ℕ) {w : Counting} {c r : ℕ} {t : Item} {m m′ : Memory} → t ≡ itemAt s k → ItemStepped w c t m r m′ → ItemStepped w c (itemAt s k) m r m′
+item-read s k {w} {c} {r} {t} {m} {m′} e p = subst (λ (i : Item). ItemStepped w c i m r m′) e p
 
-  pub item-added : (b : Bool) → b ≡ false → Stepped (Call.editing (Edit.add c i p q)) m x m′ → ItemStepped (wayOf b) c (itemAt s k) m (x .number) m′
-  item-added true h r = absurd (true≢false h)
-  item-added false h r = item-stepped adding c (itemAt s k) t (rw (ipid, public, private) at r) words store
+-- a number in a part of the bytes
+part-field : (s : List ℕ) (at n k w : ℕ) → k + w ≤ n → at + n ≤ length s → field (take n (drop at s)) k w ≡ field s (at + k) w
+part-field s at n k w h l =
+    let d = length-drop at s in
+    let z : length (take n (drop at s)) ≡ n = length-take-le n (drop at s) (omega arith) in
+    field-in (take n (drop at s)) k w (omega arith)
+    ∙ ap bytesNumber (sym (part-of s (take n (drop at s)) at n k w refl h))
+    ∙ sym (field-in s (at + k) w (omega arith))
+
+-- the fields of item k, in its part of the bytes
+module _ (s : List ℕ) (at n k : ℕ) (e : at ≡ 24 * k) (z : n ≡ 24) (l : at + 24 ≤ length s) where
+  pub part-item : {i : Guid} {p q : ℕ} → i ≡ guidAt (take n (drop at s)) 0 → p ≡ field (take n (drop at s)) 16 4 → q ≡ field (take n (drop at s)) 20 4
+      → record { ipid = i; public = p; private = q } ≡ itemAt s k
+  part-item a b c =
+      let f : (j w : ℕ) → j + w ≤ 24 → field (take n (drop at s)) j w ≡ field s (24 * k + j) w = λ j w h. rw (z, ← e) (part-field s at 24 j w h l) in
+      rw (a, b, c, f 0 8 (omega arith), f 8 8 (omega arith), f 16 4 (omega arith), f 20 4 (omega arith), add-zero (24 * k))

@@ -11,6 +11,7 @@ use Rattle.rules.specs.Items.{Item, itemCount, itemCall}
 use Rattle.rules.specs.Rules.{mostListed, itemDone, number}
 use Rattle.rules.specs.Contract.{Memory}
 use Rattle.table_view.specs.View.{interfacesOf, view, SoundTable}
+use Rattle.call_lists.specs.declared.Counted.{Counted}
 
 -- items are given back, or else added
 abbrev pub wayOf : Bool → Counting
@@ -20,6 +21,10 @@ wayOf true = releasing
 -- a number, and the buffer as it is left
 abbrev pub listReply : ℕ → List ℕ → Reply
 listReply n buffer = record { number = n; values = []; part = []; buffer = buffer }
+
+-- an item that was read
+abbrev pub itemOf : Counted → Item
+itemOf i = record { ipid = i .ipid; public = i .public; private = i .private }
 
 -- no refusal of a list
 pub record ListTaken (c : ℕ) (items buffer : List ℕ) : Type 0 where

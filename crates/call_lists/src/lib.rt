@@ -10,11 +10,10 @@ ghost use lib.ListN.{length};
 ghost use Rattle.table_columns.specs.Buckets.{guidBucket, Marked};
 ghost use Rattle.rules.specs.Contract.{Whole};
 ghost use Rattle.rules.specs.Entries.{interfaceRow};
-ghost use Rattle.rules.specs.Rules.{mostListed};
 ghost use Rattle.rules.specs.Calls.{Call};
-ghost use Rattle.rules.specs.Items.{itemAt};
+ghost use Rattle.rules.specs.Items.{itemAt, itemCount};
 ghost use Rattle.table_view.specs.View.{memory, Holds, SoundTable, Stepped};
-ghost use Rattle.call_lists.specs.Listing.{wayOf, listReply, ipidsOf, ListTaken, ItemStepped};
+ghost use Rattle.call_lists.specs.Listing.{wayOf, listReply, ipidsOf, itemOf, ListTaken, ItemStepped};
 
 // A list on a sound table: given back, or else added.
 pub fn list_step<'a>(
@@ -69,8 +68,9 @@ fn search_items<'a>(
     let n = items.len() / 24;
     let mut k = 0;
     while k < n {
-        let row = find::interface_row(words, fields::read_guid(items, 24 * k));
-        let number = item_step(words, store, back, client, items, k, row);
+        let item = read_item(items, k);
+        let row = find::interface_row(words, item.ipid);
+        let number = item_step(words, store, back, client, item, row);
         buffer[k] = number as u8;
         k += 1;
     }
@@ -98,14 +98,9 @@ fn note_items<'a>(
     let mut live = find::interface_count(words);
     let mut k = 0;
     while k < n {
-        let row = noted_row(
-            words,
-            store,
-            &marks,
-            &hints,
-            fields::read_guid(items, 24 * k),
-        );
-        let number = item_step(words, store, back, client, items, k, row);
+        let item = read_item(items, k);
+        let row = noted_row(words, store, &marks, &hints, item.ipid);
+        let number = item_step(words, store, back, client, item, row);
         buffer[k] = number as u8;
         live = follow_row(words, &mut hints, row, live);
         k += 1;
@@ -177,37 +172,63 @@ fn moved(row: u8, gone: u8) -> u8 {
     if gone < row { row - 1 } else { row }
 }
 
-// Item k of a list, at the row that its IPID has.
+// An item of a list: an IPID and two counts.
+struct Counted {
+    ipid: Guid,
+    public: u32,
+    private: u32,
+}
+
+// Item k of a list. Its fields are read from a part of 24 bytes, of which all are there.
+fn read_item(items: &[u8], k: usize) -> Counted
+    requires { ⌜ k < itemCount (now items) ⌝ }
+    ensures { λ r. ⌜ itemOf r ≡ itemAt (now (items .entry)) k ⌝ }
+{
+    let at = 24 * k;
+    let end = at + 24;
+    let item = &items[at..end];
+    Counted {
+        ipid: fields::read_guid(item, 0),
+        public: fields::read_u32(item, 16),
+        private: fields::read_u32(item, 20),
+    }
+}
+
+// An item at the row that its IPID has.
 fn item_step<'a>(
     words: &'a mut [u64],
     store: &'a [u8],
     back: bool,
     client: u32,
-    items: &'a [u8],
-    k: usize,
+    item: Counted,
     row: usize,
 ) -> u32
     requires { ⌜
-        SoundTable (memory (now words) (now store)) × (k < mostListed) × (client ≤ 7)
-        × Holds (λ e. row ≡ interfaceRow e (itemAt (now items) k .ipid)) (now words) ⌝ }
+        SoundTable (memory (now words) (now store)) × (client ≤ 7)
+        × Holds (λ e. row ≡ interfaceRow e (item .ipid)) (now words) ⌝ }
     ensures { λ r. ⌜
-        ItemStepped (wayOf back) client (itemAt (now (items .entry)) k) (memory (now (words .entry)) (now (store .entry)))
+        ItemStepped (wayOf back) client (itemOf item) (memory (now (words .entry)) (now (store .entry)))
         r (memory (now (words .exit)) (now (store .entry))) ⌝ }
 {
-    let ipid = fields::read_guid(items, 24 * k);
-    let public = fields::read_u32(items, 24 * k + 16);
-    let private = fields::read_u32(items, 24 * k + 20);
     if back {
         let released = call_references::release_at(
             words,
             store,
             client,
-            ipid,
+            item.ipid,
             row,
-            public,
-            private,
+            item.public,
+            item.private,
         );
         return released.answer;
     }
-    call_references::add_at(words, store, client, ipid, row, public, private)
+    call_references::add_at(
+        words,
+        store,
+        client,
+        item.ipid,
+        row,
+        item.public,
+        item.private,
+    )
 }

@@ -8,7 +8,7 @@ use Rattle.table_columns.specs.Buckets.{guidBucket, Marked}
 use Rattle.rules.specs.Items.{itemAt, itemCount}
 use Rattle.table_view.specs.View.{memory}
 use Rattle.call_lists.specs.Listing.{wayOf, ipidsOf}
-use Rattle.call_lists.proofs.ItemSteps.{read-row}
+use Rattle.call_lists.proofs.ItemSteps.{item-read}
 use Rattle.call_lists.proofs.Unknown.{marked-next}
 use Rattle.call_lists.proofs.Loop.{Going, going-none, going-next, going-within, going-all}
 use borrow.Author.Needs.{needs}
@@ -31,9 +31,6 @@ loop-holds c =
     let a = start .args in
     (going-none (wayOf (a .back)) (a .client) (a .items .now) (a .buffer .now) (memory (a .words .now) (a .store .now)) (start .pre .0), c .before .before .note-rows .ensures)
 
-read-guid-requires : tie.Need-read-guid-requires Inv-loop μ-loop
-read-guid-requires c κs = search needs
-
 noted-row-requires : tie.Need-noted-row-requires Inv-loop μ-loop
 noted-row-requires c κs = let l = c .before .before .before .before .before .loop in (l .inv .0 .table, l .inv .1)
 
@@ -41,7 +38,7 @@ item-step-requires : tie.Need-item-step-requires Inv-loop μ-loop
 item-step-requires c κs =
     let start = c .before .before .before .before .before .before .before .before .before .before .before .before .before .before .before .before .before .before in
     let l = c .before .before .before .before .before .before .before .loop in
-    (l .inv .0 .table, omega arith, start .pre .1 .client, read-row (l .words) (start .args .items .now) (l .k) (c .before .before .read-guid .ensures) (c .before .noted-row .ensures))
+    (l .inv .0 .table, start .pre .1 .client, c .before .noted-row .ensures)
 
 cast-buffer : tie.Need-cast-buffer Inv-loop μ-loop
 cast-buffer c = let b = c .before .before .item-step .ensures .byte in search needs
@@ -58,7 +55,8 @@ loop-again c =
     let a = start .args in
     let l = c .before .before .before .before .before .before .before .before .before .before .before .before .before .loop in
     let more : l .k < itemCount (a .items .now) = omega arith in
-    let done = c .before .before .before .before .before .item-step .ensures in (
+    let u = c .before .before .before .before .before in
+    let done = item-read (a .items .now) (l .k) (u .before .before .before .before .before .before .read-item .ensures) (u .item-step .ensures) in (
       going-next (wayOf (a .back)) (a .client) (a .items .now) (a .buffer .now) (memory (a .words .now) (a .store .now)) (l .k) (l .buffer) (l .inv .0) done more (start .pre .1 .room),
       marked-next (wayOf (a .back)) (a .client) (itemAt (a .items .now) (l .k)) done (l .inv .1),
     )
@@ -88,8 +86,7 @@ note-items-spec =
     note-rows-requires
     (λ c κs. search needs)
     loop-holds
-    (λ c. omega arith)
-    read-guid-requires
+    (λ c κs. omega arith)
     noted-row-requires
     item-step-requires
     cast-buffer

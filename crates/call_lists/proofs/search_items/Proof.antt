@@ -5,7 +5,7 @@ use native.Mathlib.Omega.{arith}
 use Rattle.rules.specs.Items.{itemCount}
 use Rattle.table_view.specs.View.{memory}
 use Rattle.call_lists.specs.Listing.{wayOf}
-use Rattle.call_lists.proofs.ItemSteps.{read-row}
+use Rattle.call_lists.proofs.ItemSteps.{item-read}
 use Rattle.call_lists.proofs.Loop.{Going, going-none, going-next, going-within, going-all}
 use borrow.Author.Needs.{needs}
 use Rattle.call_lists.proofs.search_items.Statement.{statement}
@@ -23,9 +23,6 @@ loop-holds c =
     let a = start .args in
     going-none (wayOf (a .back)) (a .client) (a .items .now) (a .buffer .now) (memory (a .words .now) (a .store .now)) (start .pre .0)
 
-read-guid-requires : tie.Need-read-guid-requires Inv-loop μ-loop
-read-guid-requires c κs = search needs
-
 interface-row-requires : tie.Need-interface-row-requires Inv-loop μ-loop
 interface-row-requires c κs = c .before .before .before .loop .inv .table .words
 
@@ -33,7 +30,7 @@ item-step-requires : tie.Need-item-step-requires Inv-loop μ-loop
 item-step-requires c κs =
     let start = c .before .before .before .before .before .before .before .before .before .before in
     let l = c .before .before .before .before .before .loop in
-    (l .inv .table, omega arith, start .pre .1 .client, read-row (l .words) (start .args .items .now) (l .k) (c .before .before .read-guid .ensures) (c .before .interface-row .ensures))
+    (l .inv .table, start .pre .1 .client, c .before .interface-row .ensures)
 
 cast-buffer : tie.Need-cast-buffer Inv-loop μ-loop
 cast-buffer c = let b = c .before .before .item-step .ensures .byte in search needs
@@ -47,7 +44,8 @@ loop-again c =
     let a = start .args in
     let l = c .before .before .before .before .before .before .before .before .loop in
     let more : l .k < itemCount (a .items .now) = omega arith in
-    going-next (wayOf (a .back)) (a .client) (a .items .now) (a .buffer .now) (memory (a .words .now) (a .store .now)) (l .k) (l .buffer) (l .inv) (c .before .before .item-step .ensures) more (start .pre .1 .room)
+    let done = item-read (a .items .now) (l .k) (c .before .before .before .before .before .before .read-item .ensures) (c .before .before .item-step .ensures) in
+    going-next (wayOf (a .back)) (a .client) (a .items .now) (a .buffer .now) (memory (a .words .now) (a .store .now)) (l .k) (l .buffer) (l .inv) done more (start .pre .1 .room)
 
 same-length : tie.Need-same-length Inv-loop μ-loop
 same-length c = let t = c .before .loop .inv .table .words in let u = c .before .before .before .before .before .before .pre .0 .words in omega arith
@@ -72,8 +70,7 @@ search-items-spec =
     Inv-loop
     μ-loop
     loop-holds
-    (λ c. omega arith)
-    read-guid-requires
+    (λ c κs. omega arith)
     interface-row-requires
     item-step-requires
     cast-buffer
