@@ -2,7 +2,7 @@
 
 use crate::data::{
     addresses, empty_table, full_table, full_table_by, guid, ipid, one_binding, one_bucket,
-    reference, short_bindings, spread,
+    random, reference, short_bindings, spread,
 };
 use crate::measure::{Bench, State};
 use plain::table as pt;
@@ -17,6 +17,10 @@ pub fn judging(bench: &mut Bench) {
         (
             "a full table, lists of short bindings",
             full_table(&short_bindings(254)),
+        ),
+        (
+            "a full table of random identifiers, short lists",
+            full_table_by(random, &one_binding(20)),
         ),
         (
             "a full table in one bucket, short lists",

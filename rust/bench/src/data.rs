@@ -9,7 +9,15 @@ pub fn spread(n: u64) -> u64 {
     (n + 1).wrapping_mul(0x9E37_79B9_7F4A_7C15)
 }
 
-/// An IPID, made of such identifiers.
+/// An identifier with no pattern, by splitmix64.
+pub fn random(n: u64) -> u64 {
+    let mut z = spread(n);
+    z = (z ^ z >> 30).wrapping_mul(0xBF58_476D_1CE4_E5B9);
+    z = (z ^ z >> 27).wrapping_mul(0x94D0_49BB_1331_11EB);
+    z ^ z >> 31
+}
+
+/// An IPID, made of spread identifiers.
 pub fn ipid(n: u64) -> plain::Guid {
     ipid_by(spread, n)
 }
