@@ -1,8 +1,8 @@
 //! Rows of the judgement, of single calls on a full table, and of a replay.
 
 use crate::data::{
-    addresses, empty_table, full_table, full_table_by, guid, ipid, one_binding, one_bucket,
-    random, reference, short_bindings, spread,
+    addresses, empty_table, full_table, full_table_by, guid, ipid, one_binding, one_bucket, random,
+    reference, short_bindings, spread,
 };
 use crate::measure::{Bench, State};
 use plain::table as pt;
