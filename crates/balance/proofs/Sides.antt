@@ -8,10 +8,11 @@ use lib.Dec.{eqb}
 use Rattle.rules.specs.Entries.{Entries}
 use Rattle.rules.specs.Calls.{Call, starting, looking, editing, Counting, adding, releasing, reset, enterExporter, removeExporter, enterObject, enterInterface, add, release, dropClient, countList, simplePing, complexPing, clock, resolve, resolveFiltered, census, members, nextStop, writeSnapshot, loadSnapshot}
 use Rattle.rules.specs.Items.{Item, itemsOf, itemCall}
+use Rattle.rules.specs.Sound.{sound}
 use Rattle.rules.specs.Rules.{number, next, itemDone}
 use Rattle.tally.specs.declared.Tally.{Tally}
 use Rattle.tally.specs.Tallies.{raised}
-use Rattle.balance.specs.Balance.{countsHeld, heldIn, takenBy, itemTallied, itemsTallied, counting, tallied, after, Balanced}
+use Rattle.balance.specs.Balance.{countsHeld, heldIn, takenBy, itemTallied, itemsTallied, counting, tallied, after, Balanced, Nine}
 use Rattle.balance.specs.Sides.{Side, granting, taking, running, beginning, sideOf, moved, BySums}
 use Rattle.balance.proofs.Balanced.{each-balanced}
 
@@ -178,3 +179,16 @@ started c e y d = go (eqb (number c e) 0)
 pub by-sums : BySums
 by-sums c e y s n b =
     by-sums-of (sideOf c) (eqb (number c e) 0) y (tallied c e y) e (after c e) (started c e y) (tallied-raised c e y) b (each-balanced c e y s n b)
+
+-- ---- the sum after a call
+
+-- of one that grants alone: all that is held then was held before, or is granted
+pub granted-sum : (c : Call) (e : Entries) → sound e ≡ true → Nine e → sideOf c ≡ granting
+    → heldIn (after c e) ≡ tallied c e (record { granted = heldIn e; taken = 0; rundown = 0 }) .granted
+granted-sum c e s n d =
+    let y : Tally = record { granted = heldIn e; taken = 0; rundown = 0 } in
+    let b = each-balanced c e y s n (omega arith) in
+    let r : Raised granting y (tallied c e y) = rw d at (tallied-raised c e y) in
+    let t = ap (λ (v : Tally). v .taken) (r .1) in
+    let q = ap (λ (v : Tally). v .rundown) (r .1) in
+    omega arith

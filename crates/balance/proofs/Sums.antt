@@ -1,8 +1,8 @@
 -- Sums of counts: of a list of which one is changed, of interfaces that are kept, changed and entered.
-use Prim.Native.Nat.{ℕ, zero, suc, _+_, _<_, _≤_}
+use Prim.Native.Nat.{ℕ, zero, suc, _+_, _*_, _%_, _^_, _<_, _≤_}
 use mathlib.Core.Path.{_≡_, refl, ap}
 use mathlib.Core.Bool.{Bool, false, not}
-use mathlib.Core.List.{List, [], _∷_, _++_}
+use mathlib.Core.List.{List, [], _∷_, _++_, List·Memᴰ·head, List·Memᴰ·tail}
 use mathlib.Core.Logic.{⊎-elim}
 use native.Mathlib.Omega.{arith}
 use borrow.Author.Tests.{eqb-true, not-false}
@@ -10,8 +10,15 @@ use lib.ListN.{length, getD, set, drop}
 use lib.Dec.{eqb}
 use Rattle.lists.specs.Lists.{keep, some}
 use Rattle.lists.proofs.Tests.{true-or-false, or-left, or-right}
-use Rattle.rules.specs.Entries.{Interface}
+use Rattle.lists.proofs.Elements.{In, map-in}
+use Rattle.table_columns.specs.Rows.{rows}
+use Rattle.table_words.specs.Kinds.{interfaceKind}
+use Rattle.rules.specs.Entries.{Interface, countLimit}
 use Rattle.rules.specs.Sound.{held}
+use Rattle.rules.specs.Swapping.{Each}
+use Rattle.table_view.specs.View.{interfaceCount, asInterface, interfacesOf}
+use Rattle.table_view.proofs.LiveRows.{interfaces-length}
+use Rattle.table_view.proofs.Counts.{nine-each}
 use Rattle.balance.specs.Balance.{total, countsHeld}
 
 -- one number changed
@@ -108,4 +115,39 @@ held-on is d k sum n h e q =
     let r = held-from is d k h in
     let j : suc k ≡ k + 1 = omega arith in
     let t = ap (λ (x : ℕ). countsHeld (drop x is)) j in
+    omega arith
+
+-- ---- sums are small
+
+total-small : (ns : List ℕ) → Each (λ n. n < 2 ^ 32) ns → total ns ≤ length ns * 2 ^ 32
+unfolding total
+total-small [] h = omega arith
+total-small (n ∷ ns) h =
+    let a = h n (List·Memᴰ·head refl) in
+    let r = total-small ns (λ k m. h k (List·Memᴰ·tail m)) in
+    omega arith
+
+-- of interfaces with nine counts
+pub held-small : (is : List Interface) → Each (λ (i : Interface). (length (i .counts) ≡ 9) × Each (λ n. n < 2 ^ 32) (i .counts)) is → countsHeld is ≤ length is * 2 ^ 36
+unfolding countsHeld
+held-small [] h = omega arith
+held-small (i ∷ is) h =
+    let f = h i (List·Memᴰ·head refl) in
+    let a = total-small (i .counts) (f .1) in
+    let r = held-small is (λ k m. h k (List·Memᴰ·tail m)) in
+    omega arith
+
+-- the counts of a table's interfaces are read modulo 2^32
+counts-each : (ws : List ℕ) (i : Interface) → In i (interfacesOf ws) → Each (λ n. n < 2 ^ 32) (i .counts)
+unfolding interfacesOf
+counts-each ws i m n h =
+    let r = map-in asInterface (rows interfaceKind ws (interfaceCount ws)) m in
+    let a = map-in (λ (w : ℕ). w % countLimit) (drop 5 (r .0)) (rw (r .2) at h) in
+    rw (a .2) (omega arith)
+
+-- of a table
+pub table-small : (ws : List ℕ) → countsHeld (interfacesOf ws) ≤ 2 ^ 44
+table-small ws =
+    let h = held-small (interfacesOf ws) (λ i m. (nine-each ws i m, counts-each ws i m)) in
+    let l = interfaces-length ws in
     omega arith

@@ -12,40 +12,23 @@ use Rattle.fields.proofs.Fields.{field-bound}
 use Rattle.lists.proofs.Tests.{holding-head, holding-tail}
 use Rattle.lists.proofs.Lists.{length-tabulate}
 use Rattle.lists.proofs.Elements.{tabulate-in}
-use Rattle.rules.specs.Entries.{Interface, Entries, fresh}
+use Rattle.rules.specs.Entries.{Entries, fresh}
 use Rattle.rules.specs.Calls.{Call, starting, looking, editing, Counting, adding, releasing, reset, enterExporter, removeExporter, enterObject, enterInterface, add}
 use Rattle.rules.specs.Calls.{release, dropClient, countList, simplePing, complexPing, clock, resolve, resolveFiltered, census, members, nextStop, writeSnapshot, loadSnapshot}
 use Rattle.rules.specs.Items.{Item, itemAt, itemCount, itemsOf, itemCall}
 use Rattle.rules.specs.Snapshot.{entriesOf, placed}
 use Rattle.rules.specs.Rules.{number, refusals, itemDone}
-use Rattle.rules.specs.Swapping.{Each, InterfaceFits}
+use Rattle.rules.specs.Swapping.{Each}
 use Rattle.rules.proofs.Keeps.{loaded-snapshot}
 use Rattle.rules.proofs.Swapping.{snapshot-fits}
 use Rattle.recording.specs.Statements.{Given}
 use Rattle.tally.specs.declared.Tally.{Tally}
-use Rattle.balance.specs.Balance.{total, countsHeld, heldIn, noTally, itemTallied, itemsTallied, counting, tallied, after, tallyOver}
+use Rattle.balance.specs.Balance.{heldIn, noTally, itemTallied, itemsTallied, counting, tallied, after, tallyOver}
+use Rattle.balance.proofs.Sums.{held-small}
 use Rattle.balance.proofs.Balanced.{run-balanced}
 use Rattle.replaying.specs.Statements.{TallySmall, TalliesFit}
 
 -- ---- a snapshot's counts
-
-total-small : (ns : List ℕ) → Each (λ n. n < 2 ^ 32) ns → total ns ≤ length ns * 2 ^ 32
-unfolding total
-total-small [] h = omega arith
-total-small (n ∷ ns) h =
-    let a = h n (List·Memᴰ·head refl) in
-    let r = total-small ns (λ k m. h k (List·Memᴰ·tail m)) in
-    omega arith
-
-held-small : (is : List Interface) → Each InterfaceFits is → countsHeld is ≤ length is * 2 ^ 36
-unfolding countsHeld
-held-small [] h = omega arith
-held-small (i ∷ is) h =
-    let f = h i (List·Memᴰ·head refl) in
-    let a = total-small (i .counts) (f .counts) in
-    let n = f .nine in
-    let r = held-small is (λ k m. h k (List·Memᴰ·tail m)) in
-    omega arith
 
 loaded-small : (s : List ℕ) (e : Entries) → number (starting (loadSnapshot s)) e ≡ 0 → heldIn (entriesOf s) ≤ 2 ^ 44
 unfolding placed
@@ -53,7 +36,7 @@ loaded-small s e z =
     let f = snapshot-fits s (loaded-snapshot s e z) in
     let p = holding-head _ _ (holding-tail _ _ (holding-tail _ _ (f .places))) in
     let l = leb-true (length (entriesOf s .interfaces)) 256 p in
-    let h = held-small (entriesOf s .interfaces) (f .interfaces) in
+    let h = held-small (entriesOf s .interfaces) (λ i m. let k = f .interfaces i m in (k .nine, k .counts)) in
     omega arith
 
 -- ---- items

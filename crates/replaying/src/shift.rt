@@ -38,10 +38,10 @@ fn take_turn<'a>(
 {
     let e = recording::record_ends(s, at);
     let d = replay_groups::perform(words, store, s, at, e);
-    let sum = balance::held(words);
     let from = at + 8;
     let to = e.call;
     let code = recording::byte(&s[from..to], 0);
+    let sum = tallying::sum_after(words, &s[from..to], code, d.accepted, held);
     let next = tallying::tally_after(tally, code, d.accepted, held, sum);
     Turn {
         agrees: d.agrees,

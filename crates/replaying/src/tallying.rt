@@ -1,11 +1,14 @@
 // The tally after a call, by the table's sums before and after it.
 use tally::Tally;
 ghost use mathlib.Core.Path.{_≡_};
-ghost use Prim.Native.Nat.{_-_};
+ghost use Prim.Native.Nat.{_-_, _^_, _<_};
+ghost use Rattle.rules.specs.Contract.{Whole};
+ghost use Rattle.table_view.specs.View.{interfacesOf};
 ghost use Rattle.tally.specs.Tallies.{wrapped};
+ghost use Rattle.balance.specs.Balance.{countsHeld};
 ghost use Rattle.balance.specs.Sides.{beginning, moved};
 ghost use Rattle.replay_groups.specs.Records.{sideAs};
-ghost use Rattle.replaying.specs.Turns.{sideFrom};
+ghost use Rattle.replaying.specs.Turns.{sideFrom, summedAs, SumTold};
 
 // The difference; 0 where b is the larger.
 fn less(a: u64, b: u64) -> u64
@@ -43,6 +46,40 @@ fn side(code: u8) -> u8
         return 3;
     }
     0
+}
+
+// The table's sum after an accepted call that grants alone, and no list: old, and what the call's section says.
+fn granted_sum(call: &[u8], code: u8, old: u64) -> u64
+    requires { ⌜ summedAs code (now call) old < 2 ^ 64 ⌝ }
+    ensures { λ r. ⌜ r ≡ summedAs code (now (call .entry)) old ⌝ }
+{
+    if code == 5 {
+        return old + (fields::read_u32(call, 21) as u64 + fields::read_u32(call, 25) as u64);
+    }
+    if code == 3 {
+        return old + fields::read_u32(call, 49) as u64;
+    }
+    if code == 4 {
+        return old + fields::read_u32(call, 41) as u64;
+    }
+    old
+}
+
+// The table's sum after the call of a code, by the sum before it where that tells.
+pub fn sum_after<'a>(words: &'a [u64], call: &'a [u8], code: u8, accepted: bool, old: u64) -> u64
+    requires { ⌜ Whole (now words) × SumTold code (now call) accepted old (countsHeld (interfacesOf (now words))) ⌝ }
+    ensures { λ r. ⌜ r ≡ countsHeld (interfacesOf (now (words .entry))) ⌝ }
+{
+    if !accepted {
+        return old;
+    }
+    if side(code) != 0 {
+        return balance::held(words);
+    }
+    if code == 8 {
+        return balance::held(words);
+    }
+    granted_sum(call, code, old)
 }
 
 // The tally after the call of a code; old and new are the table's sums.

@@ -1,15 +1,16 @@
 -- `replaying::shift::take_turn`: the record done, and the tally by the table's sums.
 use mathlib.Core.Path.{_≡_, refl, sym, ap, _∙_, subst}
 use native.Mathlib.Omega.{arith}
-use lib.ListN.{drop}
+use lib.ListN.{length, drop}
 use Rattle.tally.specs.Tallies.{wrapped}
 use Rattle.table_view.specs.View.{memory}
 use Rattle.balance.specs.Sides.{sideOf, moved}
 use Rattle.recording.specs.Recording.{Sections, codeOf, callOf, wellFormed, sectionsAt}
 use Rattle.recording.specs.declared.Ends.{Ends}
 use Rattle.recording.proofs.Places.{Parts, parts}
-use Rattle.replay_groups.specs.Records.{sideAs, RecordDone}
+use Rattle.replay_groups.specs.Records.{InOrder, sideAs, RecordDone}
 use Rattle.replay_groups.proofs.Coded.{in-order, by-places}
+use Rattle.replaying.proofs.Telling.{sum-told}
 use borrow.Author.Needs.{needs}
 use Rattle.replaying.proofs.shift.take_turn.Statement.{statement}
 use Rattle.replaying.proofs.shift.take_turn.Tie as tie
@@ -26,35 +27,53 @@ perform-requires c κs =
     let p = placed-there (c .before .before) in
     (s .pre .0, in-order _ _ _ p, ap wellFormed (by-places _ _ _ p) ∙ s .pre .2)
 
-held-requires : tie.Need-held-requires
-held-requires c κs = c .before .before .before .before .before .perform .ensures .words
+order : (c : tie.After-record-ends) → InOrder (length (c .before .before .before .before .args .s .now)) (c .before .before .before .before .args .at) (c .record-ends .result)
+order c = in-order _ _ _ (placed-there c)
 
 add-from : tie.Need-add-from
-add-from c = let o = in-order _ _ _ (placed-there (c .before .before .before .before .before .before .before .before .before)) in omega arith
+add-from c = let o = order (c .before .before .before .before .before .before .before) in omega arith
 
 sub-byte : tie.Need-sub-byte
-sub-byte c = let o = in-order _ _ _ (placed-there (c .before .before .before .before .before .before .before .before .before)) in omega arith
+sub-byte c = let o = order (c .before .before .before .before .before .before .before) in omega arith
 
 part-byte-start : tie.Need-part-byte-start
-part-byte-start c = let o = in-order _ _ _ (placed-there (c .before .before .before .before .before .before .before .before .before)) in omega arith
+part-byte-start c = let o = order (c .before .before .before .before .before .before .before) in omega arith
 
 part-byte-end : tie.Need-part-byte-end
-part-byte-end c = let o = in-order _ _ _ (placed-there (c .before .before .before .before .before .before .before .before .before)) in omega arith
+part-byte-end c = let o = order (c .before .before .before .before .before .before .before) in omega arith
+
+sub-sum-after : tie.Need-sub-sum-after
+sub-sum-after c = let o = order (c .before .before .before .before .before .before .before .before .before .before) in omega arith
+
+part-sum-after-start : tie.Need-part-sum-after-start
+part-sum-after-start c = let o = order (c .before .before .before .before .before .before .before .before .before .before) in omega arith
+
+part-sum-after-end : tie.Need-part-sum-after-end
+part-sum-after-end c = let o = order (c .before .before .before .before .before .before .before .before .before .before) in omega arith
+
+sum-after-requires : tie.Need-sum-after-requires
+sum-after-requires c κs =
+    let did = c .before .before .before .before .before .before .before .before .perform in
+    let there = c .before .before .before .before .before .before .before .before .before .before .before in
+    let p = there .before .before .before .before .pre in
+    let fits = ap wellFormed (by-places _ _ _ (placed-there there)) ∙ p .2 in
+    (did .ensures .words, rw (c .before .before .byte .ensures) (sum-told _ _ _ _ _ (p .0) fits (did .ensures) (p .3)))
 
 returns : tie.Need-returns
 returns c =
-    let there = c .before .before .before .before .before .before .before .before .before .before .before .before in
+    let there = c .before .before .before .before .before .before .before .before .before .before .before .before .before in
     let s = there .before .before .before .before in
     let a = s .args in
     let p = by-places _ _ _ (placed-there there) in
-    let did = c .before .before .before .before .before .before .before .before .before .perform in
+    let did = c .before .before .before .before .before .before .before .before .before .before .perform in
+    let code = c .before .before .before .before .byte in
     let done =
     subst
     (λ (x : Sections). RecordDone x (memory (a .words .now) (a .store .now)) (did .result) (memory (did .last .0) (did .last .1 .0)))
     p (did .ensures) in
-    let sum = c .before .before .before .held .ensures .0 (did .last .1 .0) in
-    let side : sideAs (c .before .byte .result) ≡ sideOf (callOf (sectionsAt (drop (a .at) (a .s .now)))) =
-    ap sideAs (c .before .byte .ensures ∙ ap codeOf p) ∙ sym (done .side) in
+    let sum = c .before .sum-after .ensures in
+    let side : sideAs (code .result) ≡ sideOf (callOf (sectionsAt (drop (a .at) (a .s .now)))) =
+    ap sideAs (code .ensures ∙ ap codeOf p) ∙ sym (done .side) in
     record {
       step = did .result;
       done = done .done;
@@ -72,12 +91,15 @@ take-turn-spec =
     (tie.spec
     (λ c κs. search needs)
     perform-requires
-    held-requires
     add-from
     sub-byte
     part-byte-start
     part-byte-end
     (λ c κs. search needs)
+    sub-sum-after
+    part-sum-after-start
+    part-sum-after-end
+    sum-after-requires
     (λ c κs. search needs)
     (λ c. search needs)
     (λ c. search needs)
