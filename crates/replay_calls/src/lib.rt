@@ -1,8 +1,10 @@
 // The call of a record performed, and its recorded answer compared.
 pub mod plain;
 
+use table_columns::buckets;
 ghost use mathlib.Core.Path.{_≡_};
 ghost use mathlib.Core.Bool.{_&&_};
+ghost use Rattle.table_view.specs.View.{memory, SoundTable};
 ghost use Rattle.replay_calls.specs.Steps.{numbersAre, plainStep};
 
 // Of the call of a record: whether the recorded answer is ours, and whether it was accepted.
@@ -54,4 +56,28 @@ pub fn step_of<'a>(
         agrees: both(same, shown.len() == 0),
         accepted: number == 0,
     }
+}
+
+// A row for an add or a release: the one of its IPID where there is one, noted under its bucket for a later record. What the hints
+// hold is undecided: whoever tries a row compares its IPID.
+pub fn noted_row<'a>(
+    words: &'a [u64],
+    store: &'a [u8],
+    hints: &'a mut [u8; buckets::BUCKETS],
+    call: &'a [u8],
+) -> u8
+    requires { ⌜ SoundTable (memory (now words) (now store)) ⌝ }
+{
+    let code = recording::byte(call, 0);
+    if code < 5 {
+        return 0;
+    }
+    if 6 < code {
+        return 0;
+    }
+    let ipid = fields::read_guid(call, 5);
+    let b = buckets::of_guid(ipid);
+    let row = call_references::interface_row(words, store, hints[b], ipid);
+    hints[b] = (row % 256) as u8;
+    hints[b]
 }

@@ -73,10 +73,11 @@ pub fn simple_ping<'a>(
     crate::step_of(answer, shown, number, 0, 0, 0, 0)
 }
 
-// Code 5.
+// Code 5. The hint is a row that is tried first, and may be any number.
 pub fn add<'a>(
     words: &'a mut [u64],
     store: &'a [u8],
+    hint: u8,
     call: &'a [u8],
     answer: &'a [u8],
     shown: &'a [u8],
@@ -87,21 +88,25 @@ pub fn add<'a>(
         (now (answer .entry)) (now (shown .entry)) (memory (now (words .entry)) (now (store .entry)))
         r (memory (now (words .exit)) (now (store .entry))) ⌝ }
 {
-    let number = call_references::add_step(
+    let ipid = fields::read_guid(call, 5);
+    let row = call_references::interface_row(words, store, hint, ipid);
+    let number = call_references::add_at(
         words,
         store,
         fields::read_u32(call, 1),
-        fields::read_guid(call, 5),
+        ipid,
+        row,
         fields::read_u32(call, 21),
         fields::read_u32(call, 25),
     );
     crate::step_of(answer, shown, number, 0, 0, 0, 0)
 }
 
-// Code 6.
+// Code 6, with such a hint.
 pub fn release<'a>(
     words: &'a mut [u64],
     store: &'a [u8],
+    hint: u8,
     call: &'a [u8],
     answer: &'a [u8],
     shown: &'a [u8],
@@ -112,11 +117,14 @@ pub fn release<'a>(
         (now (answer .entry)) (now (shown .entry)) (memory (now (words .entry)) (now (store .entry)))
         r (memory (now (words .exit)) (now (store .entry))) ⌝ }
 {
-    let r = call_references::release_step(
+    let ipid = fields::read_guid(call, 5);
+    let row = call_references::interface_row(words, store, hint, ipid);
+    let r = call_references::release_at(
         words,
         store,
         fields::read_u32(call, 1),
-        fields::read_guid(call, 5),
+        ipid,
+        row,
         fields::read_u32(call, 21),
         fields::read_u32(call, 25),
     );

@@ -1,11 +1,14 @@
 -- A record by its code: the call that its form says.
 use Prim.Native.Nat.{ℕ, _+_, _*_, _<_}
-use mathlib.Core.Path.{_≡_, ap, sym, _∙_, subst}
+use mathlib.Core.Path.{_≡_, refl, ap, sym, _∙_, subst}
 use mathlib.Core.Bool.{Bool, true}
 use mathlib.Core.List.{List, [], _∷_}
 use borrow.Author.Tests.{eqb-true, ltb-true}
-use lib.ListN.{length, drop}
+use lib.ListN.{length, getD, drop}
 use lib.Dec.{eqb, ltb}
+use Rattle.fields.specs.Fields.{field}
+use Rattle.lists.specs.Lists.{tabulate}
+use Rattle.lists.proofs.Lists.{getD-tabulate}
 use Rattle.rules.specs.Calls.{Call}
 use Rattle.rules.specs.Contract.{Memory}
 use Rattle.rules.proofs.SoundLaws.{clause-at}
@@ -23,29 +26,30 @@ use Rattle.replay_calls.specs.declared.Step.{Step}
 abbrev pub callAs : ℕ → Sections → Call
 callAs k x = formOf k .call (x .call) (x .first) (x .second)
 
--- what a well-formed record's sections meet
-abbrev clauses : Sections → List Bool
-clauses x =
-    let f : Form = formOf (codeOf x) in
-    ltb (codeOf x) (length forms)
-    ∷ eqb (length (x .call)) (f .width)
-    ∷ whole (f .first) (length (x .first))
-    ∷ whole (f .second) (length (x .second))
-    ∷ markFits (f .mark) (x .call)
-    ∷ eqb (length (x .answer)) (8 + 8 * f .values)
+-- what the sections of a well-formed record meet, by the call's and the lengths of the others
+abbrev clauses : List ℕ → ℕ → ℕ → ℕ → List Bool
+clauses call first second answer =
+    let f : Form = formOf (field call 0 1) in
+    ltb (field call 0 1) (length forms)
+    ∷ eqb (length call) (f .width)
+    ∷ whole (f .first) first
+    ∷ whole (f .second) second
+    ∷ markFits (f .mark) call
+    ∷ eqb answer (8 + 8 * f .values)
     ∷ []
 
 -- the code is known
-pub code-known : (x : Sections) → wellFormed x ≡ true → codeOf x < 20
+pub code-known : (call : List ℕ) (first second answer : ℕ) → formFits call first second answer ≡ true → field call 0 1 < 20
 unfolding formFits forms
-code-known x w = ltb-true (codeOf x) (length forms) (clause-at (clauses x) 0 w)
+code-known call first second answer w = ltb-true (field call 0 1) (length forms) (clause-at (clauses call first second answer) 0 w)
 
--- the answer's numbers are as many as its form says
-pub answer-length : (x : Sections) (k : ℕ) → wellFormed x ≡ true → codeOf x ≡ k → length (x .answer) ≡ 8 + 8 * formOf k .values
-unfolding formFits
-answer-length x k w e =
-    eqb-true (length (x .answer)) (8 + 8 * formOf (codeOf x) .values) (clause-at (clauses x) 5 w)
-    ∙ ap (λ (j : ℕ). 8 + 8 * formOf j .values) e
+-- what is the same in a table of all codes is the same of each
+pub by-codes : {A : Type 0} (f g : ℕ → A) → tabulate 20 f ≡ tabulate 20 g → (k : ℕ) → k < 20 → f k ≡ g k
+by-codes {A} f g e k h = sym (getD-tabulate 20 f (f 0) k h) ∙ ap (λ (l : List A). getD l k (f 0)) e ∙ getD-tabulate 20 g (f 0) k h
+
+value-count : (x : Sections) (k : ℕ) → k < 20 → valueCount (callAs k x) ≡ formOf k .values
+unfolding tabulate formOf forms
+value-count x = by-codes (λ (k : ℕ). valueCount (callAs k x)) (λ (k : ℕ). formOf k .values) refl
 
 -- the record is that call with its answer
 by-code : (x : Sections) (k : ℕ) → codeOf x ≡ k → valueCount (callAs k x) ≡ formOf k .values → recordWith (callAs k x) (x .answer) (x .shown) ≡ recordedOf x
@@ -54,15 +58,31 @@ by-code x k e v =
     (λ u. record { call = callAs k x; answer = answerIn (v u) (x .answer) (x .shown) })
     ∙ (λ u. record { call = callAs (sym e u) x; answer = answerIn (formOf (sym e u) .values) (x .answer) (x .shown) })
 
-pub coded : (x : Sections) (k : ℕ) (m m′ : Memory) (d : Step) → codeOf x ≡ k → valueCount (callAs k x) ≡ formOf k .values
-    → sideOf (callAs k x) ≡ sideAs k → CallDone (callAs k x) (x .answer) (x .shown) m d m′ → RecordDone x m d m′
+-- its code says which number of the tally it moves
+pub side-as : (x : Sections) → wellFormed x ≡ true → sideOf (callOf x) ≡ sideAs (codeOf x)
+unfolding callOf tabulate formOf forms sideAs
+side-as x w = by-codes (λ (k : ℕ). sideOf (callAs k x)) sideAs refl (codeOf x) (code-known (x .call) _ _ _ w)
+
+-- ---- a call of code k, which was read as n
+
+pub answers-as : (k : ℕ) (call : List ℕ) (first second answer n : ℕ) → formFits call first second answer ≡ true → n ≡ field call 0 1 → n ≡ k → answer ≡ 8 + 8 * formOf k .values
+unfolding formFits
+answers-as k call first second answer n w r e =
+    eqb-true answer (8 + 8 * formOf (field call 0 1) .values) (clause-at (clauses call first second answer) 5 w)
+    ∙ ap (λ (j : ℕ). 8 + 8 * formOf j .values) (sym r ∙ e)
+
+pub done-as : (k : ℕ) (call first second answer shown : List ℕ) (m m′ : Memory) (d : Step) (n : ℕ) → wellFormed (sections call first second answer shown) ≡ true
+    → n ≡ field call 0 1 → n ≡ k → CallDone (callAs k (sections call first second answer shown)) answer shown m d m′
+    → RecordDone (sections call first second answer shown) m d m′
 unfolding callOf
-coded x k m m′ d e v h c =
+done-as k call first second answer shown m m′ d n w r e c =
+    let x : Sections = sections call first second answer shown in
+    let is : codeOf x ≡ k = sym r ∙ e in
+    let few : k < 20 = rw is at (code-known call _ _ _ w) in
     record {
-      done = subst (λ (r : Recorded). StepDone r m d m′) (by-code x k e v) (c .done);
+      done = subst (λ (r : Recorded). StepDone r m d m′) (by-code x k is (value-count x k few)) (c .done);
       words = c .words;
       store = c .store;
-      side = (λ u. sideOf (callAs (e u) x)) ∙ h ∙ (λ u. sideAs (sym e u));
     }
 
 -- ---- the record from at

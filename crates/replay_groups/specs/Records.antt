@@ -1,13 +1,12 @@
 -- A record replayed, by its sections.
 use Prim.Native.Nat.{ℕ, _+_, _-_, _≤_}
-use mathlib.Core.Path.{_≡_}
 use mathlib.Core.Bool.{cond, _||_}
 use mathlib.Core.List.{List}
 use lib.ListN.{take, drop}
 use lib.Dec.{eqb}
 use Rattle.rules.specs.Contract.{Memory, Whole}
-use Rattle.balance.specs.Sides.{Side, granting, taking, running, beginning, sideOf}
-use Rattle.recording.specs.Recording.{Sections, codeOf, callOf, recordedOf}
+use Rattle.balance.specs.Sides.{Side, granting, taking, running, beginning}
+use Rattle.recording.specs.Recording.{Sections, recordedOf}
 use Rattle.recording.specs.declared.Ends.{Ends}
 use Rattle.replay_calls.specs.Steps.{StepDone}
 use Rattle.replay_calls.specs.declared.Step.{Step}
@@ -38,9 +37,8 @@ pub record InOrder (n at : ℕ) (e : Ends) : Type 0 where
 unfoldable pub sideAs : ℕ → Side
 sideAs k = cond (eqb k 6 || eqb k 9) taking (cond (eqb k 2 || (eqb k 7 || eqb k 12)) running (cond (eqb k 0 || eqb k 19) beginning granting))
 
--- One record replayed: its call is done, and the lengths stay; its code says which number of the tally it moves.
+-- One record replayed: its call is done, and the lengths stay.
 pub record RecordDone (x : Sections) (m : Memory) (d : Step) (m′ : Memory) : Type 0 where
   pub done : StepDone (recordedOf x) m d m′
   pub words : Whole (m′ .words)
   pub store : Whole (m′ .store)
-  pub side : sideOf (callOf x) ≡ sideAs (codeOf x)

@@ -2,6 +2,7 @@
 use recording::Ends;
 use replay_calls::Step;
 use replay_calls::plain;
+use table_columns::buckets;
 ghost use mathlib.Core.Path.{_≡_};
 ghost use mathlib.Core.Bool.{true};
 ghost use Prim.Native.Nat.{_≤_};
@@ -42,10 +43,11 @@ fn enter_group<'a>(
     plain::enter_interface(words, store, call, answer, shown)
 }
 
-// Codes 5 to 9: counts, by item or list.
+// Codes 5 to 9: counts, by item or list. The hint is a row that an add or a release tries first, and may be any number.
 fn count_group<'a>(
     words: &'a mut [u64],
     store: &'a [u8],
+    hint: u8,
     call: &'a [u8],
     first: &'a [u8],
     second: &'a [u8],
@@ -60,10 +62,10 @@ fn count_group<'a>(
 {
     let code = recording::byte(call, 0);
     if code == 5 {
-        return plain::add(words, store, call, answer, shown);
+        return plain::add(words, store, hint, call, answer, shown);
     }
     if code == 6 {
-        return plain::release(words, store, call, answer, shown);
+        return plain::release(words, store, hint, call, answer, shown);
     }
     if code == 7 {
         return plain::drop_client(words, store, call, answer, shown);
@@ -159,6 +161,7 @@ fn snapshot_group<'a>(
 fn perform_call<'a>(
     words: &'a mut [u64],
     store: &'a mut [u8],
+    hint: u8,
     call: &'a [u8],
     first: &'a [u8],
     second: &'a [u8],
@@ -175,7 +178,7 @@ fn perform_call<'a>(
         return enter_group(words, store, call, first, second, answer, shown);
     }
     if code <= 9 {
-        return count_group(words, store, call, first, second, answer, shown);
+        return count_group(words, store, hint, call, first, second, answer, shown);
     }
     if code <= 12 {
         return ping_group(words, store, call, first, second, answer, shown);
@@ -186,10 +189,11 @@ fn perform_call<'a>(
     snapshot_group(words, store, call, first, second, answer, shown)
 }
 
-// The record from at, whose sections end there.
+// The record from at, whose sections end there. What the hints hold is undecided.
 pub fn perform<'a>(
     words: &'a mut [u64],
     store: &'a mut [u8],
+    hints: &'a mut [u8; buckets::BUCKETS],
     s: &'a [u8],
     at: usize,
     e: Ends,
@@ -209,9 +213,11 @@ pub fn perform<'a>(
     let answer_end = e.answer;
     let shown = answer_end + 8;
     let shown_end = e.shown;
+    let hint = replay_calls::noted_row(words, store, hints, &s[call..call_end]);
     perform_call(
         words,
         store,
+        hint,
         &s[call..call_end],
         &s[first..first_end],
         &s[second..second_end],

@@ -5,11 +5,9 @@ use mathlib.Core.Bool.{Bool, true, false, cond}
 use native.Mathlib.Omega.{arith}
 use borrow.Author.Tests.{ne-eqb}
 use mathlib.Core.List.{List}
-use lib.ListN.{getD}
 use lib.Dec.{eqb}
 use Rattle.fields.specs.Fields.{field}
 use Rattle.lists.specs.Lists.{tabulate}
-use Rattle.lists.proofs.Lists.{getD-tabulate}
 use Rattle.rules.specs.Entries.{Entries}
 use Rattle.rules.specs.Rules.{number, next}
 use Rattle.rules.specs.Contract.{Memory}
@@ -24,7 +22,7 @@ use Rattle.balance.proofs.Sides.{granted-sum}
 use Rattle.recording.specs.Recording.{Sections, forms, formOf, codeOf, wellFormed, callOf}
 use Rattle.replay_calls.specs.declared.Step.{Step}
 use Rattle.replay_groups.specs.Records.{sideAs, RecordDone}
-use Rattle.replay_groups.proofs.Coded.{callAs, code-known}
+use Rattle.replay_groups.proofs.Coded.{callAs, code-known, by-codes, side-as}
 use Rattle.replaying.specs.Turns.{summedAs, SumTold}
 use Rattle.replaying.proofs.Running.{after-call}
 
@@ -42,11 +40,7 @@ isTold k = cond (eqb k 8) false (isGranting (sideAs k))
 granted-as : (x : Sections) (e : Entries) (y : Tally) (k : ℕ) → k < 20 → isTold k ≡ true → counting (callAs k x) e y .granted ≡ summedAs k (x .call) (y .granted)
 unfolding tabulate counting formOf forms sideAs summedAs isTold isGranting
 granted-as x e y k h t =
-    let f : ℕ → ℕ = λ (j : ℕ). cond (isTold j) (counting (callAs j x) e y .granted) 0 in
-    let g : ℕ → ℕ = λ (j : ℕ). cond (isTold j) (summedAs j (x .call) (y .granted)) 0 in
-    let all : tabulate 20 f ≡ tabulate 20 g = refl in
-    let one : f k ≡ g k = sym (getD-tabulate 20 f 0 k h) ∙ ap (λ l. getD l k 0) all ∙ getD-tabulate 20 g 0 k h in
-    rw t at one
+    rw t at (by-codes (λ (j : ℕ). cond (isTold j) (counting (callAs j x) e y .granted) 0) (λ (j : ℕ). cond (isTold j) (summedAs j (x .call) (y .granted)) 0) refl k h)
 
 module _ (x : Sections) (m m′ : Memory) (d : Step) (old : ℕ) (s : SoundTable m) (w : wellFormed x ≡ true) (r : RecordDone x m d m′) (o : old ≡ heldIn (view m)) where
   abbrev became : view m′ ≡ after (callOf x) (view m)
@@ -58,9 +52,9 @@ module _ (x : Sections) (m m′ : Memory) (d : Step) (old : ℕ) (s : SoundTable
   told : d .accepted ≡ true → sideAs (codeOf x) ≡ granting → (codeOf x ≡ 8 → ⊥) → heldIn (view m′) ≡ summedAs (codeOf x) (x .call) old
   unfolding callOf isTold isGranting
   told t g n =
-      let q = granted-sum (callOf x) (view m) (s .entries) (nine-each (m .words)) (r .side ∙ g) in
+      let q = granted-sum (callOf x) (view m) (s .entries) (nine-each (m .words)) (side-as x w ∙ g) in
       let is : isTold (codeOf x) ≡ true = rw (ne-eqb (codeOf x) 8 n, g) in
-      ap heldIn became ∙ q ∙ rw (sym (r .done .accepted) ∙ t) (granted-as x (view m) _ (codeOf x) (code-known x w) is ∙ rw o)
+      ap heldIn became ∙ q ∙ rw (sym (r .done .accepted) ∙ t) (granted-as x (view m) _ (codeOf x) (code-known (x .call) _ _ _ w) is ∙ rw o)
 
   pub sum-told : SumTold (codeOf x) (x .call) (d .accepted) old (heldIn (view m′))
   sum-told = record { refused = refused; told = told; small = (let h = table-small (m′ .words) in omega arith) }

@@ -1,6 +1,7 @@
 // The records of a recording, one after the other.
 use crate::Outcome;
 use crate::tallying;
+use table_columns::buckets;
 use tally::Tally;
 ghost use mathlib.Core.Path.{_≡_};
 ghost use mathlib.Core.Bool.{true};
@@ -25,6 +26,7 @@ pub struct Turn {
 fn take_turn<'a>(
     words: &'a mut [u64],
     store: &'a mut [u8],
+    hints: &'a mut [u8; buckets::BUCKETS],
     s: &'a [u8],
     at: usize,
     held: u64,
@@ -37,7 +39,7 @@ fn take_turn<'a>(
         r (memory (now (words .exit)) (now (store .exit))) ⌝ }
 {
     let e = recording::record_ends(s, at);
-    let d = replay_groups::perform(words, store, s, at, e);
+    let d = replay_groups::perform(words, store, hints, s, at, e);
     let from = at + 8;
     let to = e.call;
     let code = recording::byte(&s[from..to], 0);
@@ -61,6 +63,7 @@ pub fn replay_records<'a>(words: &'a mut [u64], store: &'a mut [u8], s: &'a [u8]
     let mut left = fields::read_u64(s, 0);
     let mut at = 8;
     let mut number = 1;
+    let mut hints = [0u8; buckets::BUCKETS];
     let mut held = 0;
     let mut tally = Tally {
         granted: 0,
@@ -68,7 +71,7 @@ pub fn replay_records<'a>(words: &'a mut [u64], store: &'a mut [u8], s: &'a [u8]
         rundown: 0,
     };
     while 0 < left {
-        let t = take_turn(words, store, s, at, held, tally);
+        let t = take_turn(words, store, &mut hints, s, at, held, tally);
         tally = t.tally;
         if !t.agrees {
             return Outcome {

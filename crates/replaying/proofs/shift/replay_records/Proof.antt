@@ -15,11 +15,11 @@ use Rattle.replaying.proofs.shift.replay_records.Statement.{statement}
 use Rattle.replaying.proofs.shift.replay_records.Tie as tie
 
 abbrev Inv-loop : tie.InvT-loop
-Inv-loop words₀ store₀ s left₀ at₀ number₀ held₀ tally₀ words store left at number held tally =
+Inv-loop words₀ store₀ s left₀ at₀ number₀ hints₀ held₀ tally₀ words store left at number hints held tally =
     (m₀ : Memory) (r : Reply) → Performed (starting (reset 0)) m₀ r (memory words₀ store₀) → rightLengths m₀ ≡ true → Before s m₀ (memory words store) left at number held tally
 
 abbrev μ-loop : tie.MeasureT-loop
-μ-loop words₀ store₀ s left₀ at₀ number₀ held₀ tally₀ words store left at number held tally = left
+μ-loop words₀ store₀ s left₀ at₀ number₀ hints₀ held₀ tally₀ words store left at number hints held tally = left
 
 loop-holds : tie.Need-loop-holds Inv-loop μ-loop
 loop-holds c =
@@ -49,40 +49,44 @@ bytes c i = let g = c .before .before .before .before .before .before .before .s
 
 take-turn-requires : tie.Need-take-turn-requires Inv-loop μ-loop
 take-turn-requires c κs =
-    let b = before (c .before .before .before) in
-    let t = c .before .before .loop-test .taken in
-    (sound-before (c .before .before .before), record-there _ _ _ _ _ _ _ _ b t, fits-here _ _ _ _ _ _ _ _ b t, b .sum)
+    let b = before (c .before .before .before .before) in
+    let t = c .before .before .before .loop-test .taken in
+    (sound-before (c .before .before .before .before), record-there _ _ _ _ _ _ _ _ b t, fits-here _ _ _ _ _ _ _ _ b t, b .sum)
 
 same-length : tie.Need-same-length Inv-loop μ-loop
 same-length c =
-    let d = c .before .before .before .before .before .before .before .take-turn .ensures .words in
-    let e = start (c .before .before .before .before .before .before .before .before .before .before .before) .pre .0 in
+    let took = c .before .before .before .before .before .before .before in
+    let d = took .take-turn .ensures .words in
+    let e = start (took .before .before .before .before .before) .pre .0 in
     omega arith
 
 same-length-2 : tie.Need-same-length-2 Inv-loop μ-loop
 same-length-2 c =
-    let d = c .before .before .before .before .before .before .before .take-turn .ensures .store in
-    let e = start (c .before .before .before .before .before .before .before .before .before .before .before) .pre .1 in
+    let took = c .before .before .before .before .before .before .before in
+    let d = took .take-turn .ensures .store in
+    let e = start (took .before .before .before .before .before) .pre .1 in
     omega arith
 
 returns : tie.Need-returns Inv-loop μ-loop
 returns c =
-    let l = c .before .before .before .before .before .before .before .before .before .before .before in
+    let took = c .before .before .before .before .before .before .before in
+    let l = took .before .before .before .before .before in
     let s = start l in
     let b = before l in
-    let t = c .before .before .before .before .before .before .before .before .before .before .loop-test .taken in
-    let done = c .before .before .before .before .before .before .before .take-turn .ensures in
+    let t = took .before .before .before .before .loop-test .taken in
+    let done = took .take-turn .ensures in
     replayed-stopped _ _ (s .args .s .now) _ _ _ (bytes l) (omega arith) (s .pre .2) (right l)
     (tally-here _ _ _ _ _ _ _ _ b t _ _ done) (stopped-here _ _ _ _ _ _ _ _ b t _ _ done (not-true _ (c .if1 .taken)))
 
 add-number : tie.Need-add-number Inv-loop μ-loop
-add-number c = let f = before (c .before .before .before .before .before .before .before .before .before .before .before) .few in omega arith
+add-number c = let took = c .before .before .before .before .before .before .before in let f = before (took .before .before .before .before .before) .few in omega arith
 
 loop-again : tie.Need-loop-again Inv-loop μ-loop
 loop-again c =
-    let l = c .before .before .before .before .before .before .before .before .before .before .before .loop in
-    let t = c .before .before .before .before .before .before .before .before .before .before .loop-test .taken in
-    let done = c .before .before .before .before .before .before .before .take-turn .ensures in
+    let took = c .before .before .before .before .before .before .before in
+    let l = took .before .before .before .before .before .loop in
+    let t = took .before .before .before .before .loop-test .taken in
+    let done = took .take-turn .ensures in
     λ m₀ r q h. before-next _ m₀ _ _ _ _ _ _ (l .inv m₀ r q h) t _ _ done (not-false _ (c .if1 .left))
 
 -- ---- behind the last

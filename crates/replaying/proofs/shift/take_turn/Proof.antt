@@ -9,7 +9,7 @@ use Rattle.recording.specs.Recording.{Sections, codeOf, callOf, wellFormed, sec
 use Rattle.recording.specs.declared.Ends.{Ends}
 use Rattle.recording.proofs.Places.{Parts, parts}
 use Rattle.replay_groups.specs.Records.{InOrder, sideAs, RecordDone}
-use Rattle.replay_groups.proofs.Coded.{in-order, by-places}
+use Rattle.replay_groups.proofs.Coded.{side-as, in-order, by-places}
 use Rattle.replaying.proofs.Telling.{sum-told}
 use borrow.Author.Needs.{needs}
 use Rattle.replaying.proofs.shift.take_turn.Statement.{statement}
@@ -23,49 +23,50 @@ placed-there c =
 
 perform-requires : tie.Need-perform-requires
 perform-requires c κs =
-    let s = c .before .before .before .before .before .before in
-    let p = placed-there (c .before .before) in
+    let s = c .before .before .before .before .before .before .before in
+    let p = placed-there (c .before .before .before) in
     (s .pre .0, in-order _ _ _ p, ap wellFormed (by-places _ _ _ p) ∙ s .pre .2)
 
 order : (c : tie.After-record-ends) → InOrder (length (c .before .before .before .before .args .s .now)) (c .before .before .before .before .args .at) (c .record-ends .result)
 order c = in-order _ _ _ (placed-there c)
 
 add-from : tie.Need-add-from
-add-from c = let o = order (c .before .before .before .before .before .before .before) in omega arith
+add-from c = let o = order (c .before .before .before .before .before .before .before .before) in omega arith
 
 sub-byte : tie.Need-sub-byte
-sub-byte c = let o = order (c .before .before .before .before .before .before .before) in omega arith
+sub-byte c = let o = order (c .before .before .before .before .before .before .before .before) in omega arith
 
 part-byte-start : tie.Need-part-byte-start
-part-byte-start c = let o = order (c .before .before .before .before .before .before .before) in omega arith
+part-byte-start c = let o = order (c .before .before .before .before .before .before .before .before) in omega arith
 
 part-byte-end : tie.Need-part-byte-end
-part-byte-end c = let o = order (c .before .before .before .before .before .before .before) in omega arith
+part-byte-end c = let o = order (c .before .before .before .before .before .before .before .before) in omega arith
 
 sub-sum-after : tie.Need-sub-sum-after
-sub-sum-after c = let o = order (c .before .before .before .before .before .before .before .before .before .before) in omega arith
+sub-sum-after c = let o = order (c .before .before .before .before .before .before .before .before .before .before .before) in omega arith
 
 part-sum-after-start : tie.Need-part-sum-after-start
-part-sum-after-start c = let o = order (c .before .before .before .before .before .before .before .before .before .before) in omega arith
+part-sum-after-start c = let o = order (c .before .before .before .before .before .before .before .before .before .before .before) in omega arith
 
 part-sum-after-end : tie.Need-part-sum-after-end
-part-sum-after-end c = let o = order (c .before .before .before .before .before .before .before .before .before .before) in omega arith
+part-sum-after-end c = let o = order (c .before .before .before .before .before .before .before .before .before .before .before) in omega arith
 
 sum-after-requires : tie.Need-sum-after-requires
 sum-after-requires c κs =
+    let there = c .before .before .before .before .before .before .before .before .before .before .before .before in
     let did = c .before .before .before .before .before .before .before .before .perform in
-    let there = c .before .before .before .before .before .before .before .before .before .before .before in
     let p = there .before .before .before .before .pre in
     let fits = ap wellFormed (by-places _ _ _ (placed-there there)) ∙ p .2 in
     (did .ensures .words, rw (c .before .before .byte .ensures) (sum-told _ _ _ _ _ (p .0) fits (did .ensures) (p .3)))
 
 returns : tie.Need-returns
 returns c =
-    let there = c .before .before .before .before .before .before .before .before .before .before .before .before .before in
+    let after = c .before .before .before .before .before .before .before .before .before .before in
+    let there = after .before .before .before .before in
     let s = there .before .before .before .before in
     let a = s .args in
     let p = by-places _ _ _ (placed-there there) in
-    let did = c .before .before .before .before .before .before .before .before .before .before .perform in
+    let did = after .perform in
     let code = c .before .before .before .before .byte in
     let done =
     subst
@@ -73,7 +74,7 @@ returns c =
     p (did .ensures) in
     let sum = c .before .sum-after .ensures in
     let side : sideAs (code .result) ≡ sideOf (callOf (sectionsAt (drop (a .at) (a .s .now)))) =
-    ap sideAs (code .ensures ∙ ap codeOf p) ∙ sym (done .side) in
+    ap sideAs (code .ensures ∙ ap codeOf p) ∙ sym (side-as _ (s .pre .2)) in
     record {
       step = did .result;
       done = done .done;
