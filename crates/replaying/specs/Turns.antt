@@ -28,10 +28,11 @@ sideFrom n = cond (eqb n 1) taking (cond (eqb n 2) running (cond (eqb n 3) begin
 unfoldable pub summedAs : ℕ → List ℕ → ℕ → ℕ
 summedAs k s n = cond (eqb k 5) (n + (field s 21 4 + field s 25 4)) (cond (eqb k 3) (n + field s 49 4) (cond (eqb k 4) (n + field s 41 4) n))
 
--- What the sum before a call tells of the sum after it.
-pub record SumTold (k : ℕ) (s : List ℕ) (accepted : Bool) (old new : ℕ) : Type 0 where
+-- What the sum before a call, by its code, section and recorded answer, tells of the sum after it.
+pub record SumTold (k : ℕ) (s answer : List ℕ) (agrees accepted : Bool) (old new : ℕ) : Type 0 where
   pub refused : accepted ≡ false → new ≡ old
   pub told : accepted ≡ true → sideAs k ≡ granting → (k ≡ 8 → ⊥) → new ≡ summedAs k s old
+  pub released : accepted ≡ true → agrees ≡ true → k ≡ 6 → new + (field answer 8 8 + field answer 16 8) ≡ old
   pub small : new < 2 ^ 64
 
 -- the tally after a record, by the table's sums

@@ -43,7 +43,17 @@ fn take_turn<'a>(
     let from = at + 8;
     let to = e.call;
     let code = recording::byte(&s[from..to], 0);
-    let sum = tallying::sum_after(words, &s[from..to], code, d.accepted, held);
+    let answer = e.second + 8;
+    let answer_end = e.answer;
+    let sum = tallying::sum_after(
+        words,
+        &s[from..to],
+        &s[answer..answer_end],
+        code,
+        d.agrees,
+        d.accepted,
+        held,
+    );
     let next = tallying::tally_after(tally, code, d.accepted, held, sum);
     Turn {
         agrees: d.agrees,

@@ -1,7 +1,9 @@
 // The tally after a call, by the table's sums before and after it.
 use tally::Tally;
 ghost use mathlib.Core.Path.{_≡_};
-ghost use Prim.Native.Nat.{_-_, _^_, _<_};
+ghost use mathlib.Core.Bool.{true};
+ghost use Prim.Native.Nat.{_+_, _-_, _^_, _<_};
+ghost use Rattle.fields.specs.Fields.{field};
 ghost use Rattle.rules.specs.Contract.{Whole};
 ghost use Rattle.table_view.specs.View.{interfacesOf};
 ghost use Rattle.tally.specs.Tallies.{wrapped};
@@ -65,16 +67,40 @@ fn granted_sum(call: &[u8], code: u8, old: u64) -> u64
     old
 }
 
+// The table's sum after an accepted call that takes, runs down or begins anew: of a release by what it took, as a recorded answer that
+// is ours says.
+fn taken_sum<'a>(words: &'a [u64], answer: &'a [u8], code: u8, agrees: bool, old: u64) -> u64
+    requires { ⌜ Whole (now words)
+        × (code ≡ 6 → agrees ≡ true → countsHeld (interfacesOf (now words)) + (field (now answer) 8 8 + field (now answer) 16 8) ≡ old) ⌝ }
+    ensures { λ r. ⌜ r ≡ countsHeld (interfacesOf (now (words .entry))) ⌝ }
+{
+    if code != 6 {
+        return balance::held(words);
+    }
+    if !agrees {
+        return balance::held(words);
+    }
+    old - fields::read_u64(answer, 8) - fields::read_u64(answer, 16)
+}
+
 // The table's sum after the call of a code, by the sum before it where that tells.
-pub fn sum_after<'a>(words: &'a [u64], call: &'a [u8], code: u8, accepted: bool, old: u64) -> u64
-    requires { ⌜ Whole (now words) × SumTold code (now call) accepted old (countsHeld (interfacesOf (now words))) ⌝ }
+pub fn sum_after<'a>(
+    words: &'a [u64],
+    call: &'a [u8],
+    answer: &'a [u8],
+    code: u8,
+    agrees: bool,
+    accepted: bool,
+    old: u64,
+) -> u64
+    requires { ⌜ Whole (now words) × SumTold code (now call) (now answer) agrees accepted old (countsHeld (interfacesOf (now words))) ⌝ }
     ensures { λ r. ⌜ r ≡ countsHeld (interfacesOf (now (words .entry))) ⌝ }
 {
     if !accepted {
         return old;
     }
     if side(code) != 0 {
-        return balance::held(words);
+        return taken_sum(words, answer, code, agrees, old);
     }
     if code == 8 {
         return balance::held(words);

@@ -42,32 +42,45 @@ part-byte-start c = let o = order (c .before .before .before .before .before .be
 part-byte-end : tie.Need-part-byte-end
 part-byte-end c = let o = order (c .before .before .before .before .before .before .before .before) in omega arith
 
+add-answer : tie.Need-add-answer
+add-answer c = let o = order (c .before .before .before .before .before .before .before .before .before .before .before) in omega arith
+
 sub-sum-after : tie.Need-sub-sum-after
-sub-sum-after c = let o = order (c .before .before .before .before .before .before .before .before .before .before .before) in omega arith
+sub-sum-after c = let o = order (c .before .before .before .before .before .before .before .before .before .before .before .before) in omega arith
 
 part-sum-after-start : tie.Need-part-sum-after-start
-part-sum-after-start c = let o = order (c .before .before .before .before .before .before .before .before .before .before .before) in omega arith
+part-sum-after-start c = let o = order (c .before .before .before .before .before .before .before .before .before .before .before .before) in omega arith
 
 part-sum-after-end : tie.Need-part-sum-after-end
-part-sum-after-end c = let o = order (c .before .before .before .before .before .before .before .before .before .before .before) in omega arith
+part-sum-after-end c = let o = order (c .before .before .before .before .before .before .before .before .before .before .before .before) in omega arith
+
+sub-sum-after-2 : tie.Need-sub-sum-after-2
+sub-sum-after-2 c = let d = c .before .before .before .before .before .before .before .before .before in let o = order (d .before .before .before .before) in omega arith
+
+part-sum-after-start-2 : tie.Need-part-sum-after-start-2
+part-sum-after-start-2 c = let d = c .before .before .before .before .before .before .before .before .before in let o = order (d .before .before .before .before) in omega arith
+
+part-sum-after-end-2 : tie.Need-part-sum-after-end-2
+part-sum-after-end-2 c = let d = c .before .before .before .before .before .before .before .before .before in let o = order (d .before .before .before .before) in omega arith
 
 sum-after-requires : tie.Need-sum-after-requires
 sum-after-requires c κs =
-    let there = c .before .before .before .before .before .before .before .before .before .before .before .before in
-    let did = c .before .before .before .before .before .before .before .before .perform in
+    let after = c .before .before .before .before .before .before .before .before .before .before in
+    let there = after .before .before .before .before in
+    let did = after .perform in
     let p = there .before .before .before .before .pre in
     let fits = ap wellFormed (by-places _ _ _ (placed-there there)) ∙ p .2 in
-    (did .ensures .words, rw (c .before .before .byte .ensures) (sum-told _ _ _ _ _ (p .0) fits (did .ensures) (p .3)))
+    (did .ensures .words, rw (c .before .before .before .before .byte .ensures) (sum-told _ _ _ _ _ (p .0) fits (did .ensures) (p .3)))
 
 returns : tie.Need-returns
 returns c =
-    let after = c .before .before .before .before .before .before .before .before .before .before in
+    let after = c .before .before .before .before .before .before .before .before .before .before .before .before in
     let there = after .before .before .before .before in
     let s = there .before .before .before .before in
     let a = s .args in
     let p = by-places _ _ _ (placed-there there) in
     let did = after .perform in
-    let code = c .before .before .before .before .byte in
+    let code = c .before .before .before .before .before .before .byte in
     let done =
     subst
     (λ (x : Sections). RecordDone x (memory (a .words .now) (a .store .now)) (did .result) (memory (did .last .0) (did .last .1 .0)))
@@ -97,9 +110,13 @@ take-turn-spec =
     part-byte-start
     part-byte-end
     (λ c κs. search needs)
+    add-answer
     sub-sum-after
     part-sum-after-start
     part-sum-after-end
+    sub-sum-after-2
+    part-sum-after-start-2
+    part-sum-after-end-2
     sum-after-requires
     (λ c κs. search needs)
     (λ c. search needs)
