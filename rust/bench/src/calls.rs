@@ -176,30 +176,36 @@ pub fn snapshots(bench: &mut Bench) {
     }
 }
 
-/// The load of a full table's snapshot, and adds to all of its interfaces in turn.
+/// The load of a full table's snapshot, and adds to all of its interfaces in turn; then with a release after each add.
 pub fn replays(bench: &mut Bench) {
     bench.group("A record of a replay");
-    let State { words, store, .. } = full_table(&one_binding(20));
-    let mut recorder = Recorder::over(Table::over(words, store)).unwrap();
-    for k in 1..MOST_RECORDS {
-        recorder
-            .add(k as u32 % 8, guid(ipid(k % 256)), 2, 1)
-            .unwrap();
+    for (what, released) in [("adds", false), ("adds and releases", true)] {
+        let State { words, store, .. } = full_table(&one_binding(20));
+        let mut recorder = Recorder::over(Table::over(words, store)).unwrap();
+        for k in 1..MOST_RECORDS {
+            let n = if released { k.div_ceil(2) } else { k };
+            let (client, ipid) = (n as u32 % 8, guid(ipid(n % 256)));
+            if released && k % 2 == 0 {
+                recorder.release(client, ipid, 2, 1).unwrap();
+            } else {
+                recorder.add(client, ipid, 2, 1).unwrap();
+            }
+        }
+        let (_, recording) = recorder.finish();
+        let agreed = |differs: u32| if differs == 0 { Ok(()) } else { Err(differs) };
+        bench
+            .row(format!("replay 16,384 records, {what} on a full table"))
+            .each(MOST_RECORDS as usize)
+            .run(
+                &empty_table(),
+                |s| {
+                    let outcome = s.table().replay(&recording);
+                    agreed(outcome.map_err(|e| e.number())?.differs.unwrap_or(0))
+                },
+                |s| {
+                    let outcome = plain::recording::replay(&mut s.words, &mut s.store, &recording);
+                    agreed(outcome?.differs)
+                },
+            );
     }
-    let (_, recording) = recorder.finish();
-    let agreed = |differs: u32| if differs == 0 { Ok(()) } else { Err(differs) };
-    bench
-        .row("replay 16,384 records, adds on a full table")
-        .each(MOST_RECORDS as usize)
-        .run(
-            &empty_table(),
-            |s| {
-                let outcome = s.table().replay(&recording);
-                agreed(outcome.map_err(|e| e.number())?.differs.unwrap_or(0))
-            },
-            |s| {
-                let outcome = plain::recording::replay(&mut s.words, &mut s.store, &recording);
-                agreed(outcome?.differs)
-            },
-        );
 }
