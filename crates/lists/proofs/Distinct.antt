@@ -12,7 +12,8 @@ use Rattle.kinds.proofs.Refusing.{same-test, or-false}
 use Rattle.lists.specs.Lists.{apart, keep, some, every, firstIndex, distinct, deleteAt, skip}
 use Rattle.lists.proofs.Tests.{true-or-false, same-or-not, and-intro, and-left, and-right}
 use Rattle.lists.proofs.First.{first-at, first-only}
-use Rattle.lists.proofs.Lists.{every-append, every-map, every-mono, every-kept, every-ext, some-cons, some-snoc, some-at, some-map, some-append, some-one, some-none, none-some, some-kept-none, some-delete, some-kept, keep-map, keep-passes, getD-map, map-only, delete-keep, some-delete-none, length-delete, getD-delete, skip-not, skip-lt, every-from-at}
+use Rattle.lists.proofs.Lists.{every-append, every-map, every-mono, every-kept, every-ext, some-cons, some-snoc, some-at, some-map, some-append, some-one, some-none, none-some, some-kept-none}
+use Rattle.lists.proofs.Lists.{some-delete, some-kept, keep-map, keep-passes, getD-map, map-only, delete-keep, some-delete-none, length-delete, getD-delete, skip-not, skip-lt, every-from-at}
 
 -- ---- tests that decide equality
 
@@ -168,7 +169,8 @@ first-same same dec xs d j u h =
 -- ---- insertion and parts
 
 -- an element put between two lists whose elements are distinct and not the same as it
-pub distinct-mid : {A : Type 0} (same : A → A → Bool) → Decides same → (x : A) (xs ys : List A) → distinct same (xs ++ ys) ≡ true → some (same x) (xs ++ ys) ≡ false → distinct same ((xs ++ (x ∷ [])) ++ ys) ≡ true
+pub distinct-mid : {A : Type 0} (same : A → A → Bool) → Decides same → (x : A) (xs ys : List A) → distinct same (xs ++ ys) ≡ true
+    → some (same x) (xs ++ ys) ≡ false → distinct same ((xs ++ (x ∷ [])) ++ ys) ≡ true
 distinct-mid same dec x [] ys u n = distinct-cons same x ys n u
 distinct-mid same dec x (y ∷ xs) ys u n =
     let h = or-false (some (same y) xs) (some (same y) ys) (sym (some-append (same y) xs ys) ∙ distinct-head same y (xs ++ ys) u) in

@@ -2,7 +2,8 @@
 use Prim.Native.Nat.{ℕ, zero, suc, _<_}
 use mathlib.Core.Path.{_≡_, refl, sym, ap, _∙_}
 use mathlib.Core.Bool.{Bool, true, false, cond, not, _&&_, and-true, or-true, true≢false}
-use mathlib.Core.List.{List, [], _∷_, _++_, map, List·Memᴰ, List·Memᴰ·head, List·Memᴰ·tail, List·Memᴰ·not-nil, List·Memᴰ·eq-of-singleton, List·Memᴰ·append-cases, Memᴰ·append-right, Memᴰ·map, Memᴰ·of-map}
+use mathlib.Core.List.{List, [], _∷_, _++_, map, List·Memᴰ, List·Memᴰ·head, List·Memᴰ·tail, List·Memᴰ·not-nil}
+use mathlib.Core.List.{List·Memᴰ·eq-of-singleton, List·Memᴰ·append-cases, Memᴰ·append-right, Memᴰ·map, Memᴰ·of-map}
 use mathlib.Core.Logic.{_⊎_, inl, inr, ⊎-elim}
 use native.Mathlib.Omega.{arith}
 use lib.ListN.{length}
@@ -141,8 +142,8 @@ module _ {A B : Type 0} (c : A → A) (p p′ : A → Bool) (f f′ : A → B) (
 pub changed-kept : {A B : Type 0} (c : A → A) (p p′ : A → Bool) (f f′ : A → B) (g : B → B) (xs : List A)
     → ((x : A) → In x xs → p′ (c x) ≡ p x) → ((x : A) → In x xs → p x ≡ true → f′ (c x) ≡ g (f x))
     → map f′ (keep p′ (map c xs)) ≡ map g (map f (keep p xs))
-changed-kept {A} {B} c p p′ f f′ g xs s t =
-    cc (kept-changed c p p′ f f′ (λ y. true) g xs (λ x m. s x m ∙ sym (and-true (p x))) (λ x m a b. t x m a), keep-all (λ (y : B). true) (map f (keep p xs)) (in-every (λ (y : B). true) (map f (keep p xs)) (λ y m. refl)))
+changed-kept c p p′ f f′ g xs s t =
+    kept-changed c p p′ f f′ (λ y. true) g xs (λ x m. s x m ∙ sym (and-true (p x))) (λ x m a b. t x m a) ∙ ap (map g) (keep-all _ _ (in-every _ _ (λ y m. refl)))
 
 -- what is read of the first that passes, where a change leaves both
 pub first-unread : {A B : Type 0} (d : A) (p : A → Bool) (f : A → B) (c : A → A) → ((x : A) → p (c x) ≡ p x) → ((x : A) → f (c x) ≡ f x)

@@ -1,8 +1,6 @@
 -- The laws of the tally's numbers modulo 2^64.
-use Prim.Native.Nat.{ℕ, _+_, _%_, _^_, _<_}
-use mathlib.Core.Path.{_≡_}
+use Prim.Native.Nat.{_^_}
 use native.Mathlib.Nat.{mod-eq-of-lt, mod-add-mod}
-use Rattle.tally.specs.declared.Tally.{Tally}
 use Rattle.tally.specs.Tallies.{KeptSmall, RaisedOn}
 
 pub kept-small : KeptSmall

@@ -16,7 +16,8 @@ use prog.Wp.{Heap, Calls, Loops, WpFn, Tables}
 use ghost.Atoms.{Atoms, sem}
 use contract.Monad.{Fun, fact, fact-use}
 use contract.Running.{givenOf, tables, tablesOf}
-use types.Kit.{Given, ‵, raw, _⊛_, some, given, later, _$_, _∵_, !, qed, by, move, keep, drop, use1, use2, use3, split, join, pick, learn, check, fsplit, fjoin, fpick, fpack, feqL, suffices, frame, await, updating, now as at-once, done}
+use types.Kit.{Given, ‵, raw, _⊛_, some, given, later, _$_, _∵_, !, qed, by, move, keep, drop, use1, use2, use3, split, join, pick}
+use types.Kit.{learn, check, fsplit, fjoin, fpick, fpack, feqL, suffices, frame, await, updating, now as at-once, done}
 use types.Tokens.{lft-new, lft-end}
 use types.Run.{look, init, and-then, no-more, land, forget, stop, from, load, of-opd, addr, assigns, returns, enter, alloc1, alloc0, params1, pass1, pass0, free1, free0}
 use types.SemTy.{Body}
@@ -114,8 +115,10 @@ module _ {M : Type 1} (𝓤 : URA M) (H : Heap 𝓤) (A : Atoms 𝓤) (W : Given
   gives : (α b : ℕ) (γ : GName) (v : Val) → ent 𝓤 (Raise .post (to-raise α b γ) v) (H .⇛ (guard 𝓤 (v ≡ vunit) (sep 𝓤 (A .lft (α ∷ []) fullShare) (A .res γ (T.the-row .coded .code after)))))
   gives α b γ v =
       qed W (raw (Raise .post (to-raise α b γ) v) ∷ []) ∵ updating ! $
-      use1 W (later (some (λ (r : Unit {0}). ((‵ (flft (α ∷ []) fullShare) ⊛ ‵ ftrue) ⊛ ‵ (Nothing .own r (v ∷ []))) ⊛ raw (ensured 𝓤 H A raise.ended (raise.clauses 𝓤 H A at-mem run) (α ∷ [], tt) (lent-at b γ, (i, (j, (n, tt)))) tt r)))) (id⊢ 𝓤 _) $ await ! tt $ pick ! (λ r.
-      split ! $ move ! (1 ∷ []) $ use1 W (‵ (fres γ (T.the-row .coded .code after))) (told α b γ r) $ move ! (1 ∷ []) $ split ! $ move ! (1 ∷ []) $ feqL ! (λ e. at-once ! $ check ! (ap only e) $ split ! $ keep ! (0 ∷ 2 ∷ []) $ done !))
+      use1 W (later (some (λ (r : Unit {0}). ((‵ (flft (α ∷ []) fullShare) ⊛ ‵ ftrue) ⊛ ‵ (Nothing .own r (v ∷ [])))
+      ⊛ raw (ensured 𝓤 H A raise.ended (raise.clauses 𝓤 H A at-mem run) (α ∷ [], tt) (lent-at b γ, (i, (j, (n, tt)))) tt r)))) (id⊢ 𝓤 _) $ await ! tt $ pick ! (λ r.
+      split ! $ move ! (1 ∷ []) $ use1 W (‵ (fres γ (T.the-row .coded .code after))) (told α b γ r) $ move ! (1 ∷ []) $ split ! $ move ! (1 ∷ []) $
+      feqL ! (λ e. at-once ! $ check ! (ap only e) $ split ! $ keep ! (0 ∷ 2 ∷ []) $ done !))
 
   module _ (fi : i < 2 ^ 64) (fj : j < 2 ^ 64) (fn : n < 2 ^ 64) where
     goes-raise : (α b : ℕ) (γ : GName) → ent 𝓤 (sep 𝓤 (A .lft (α ∷ []) fullShare) (sem 𝓤 H A (Own α b γ))) (Raise .pre (to-raise α b γ))
@@ -132,7 +135,8 @@ module _ {M : Type 1} (𝓤 : URA M) (H : Heap 𝓤) (A : Atoms 𝓤) (W : Given
     module _ (was : Is T.the-row h (mach h ∷ [])) where
       exits : Is T.the-row after (mach after ∷ []) → ent 𝓤 (emp 𝓤) (Ends (mach after))
       exits is =
-          qed W [] ∵ suffices ! _ (ends-at 𝓤 H A f.ended stayed (f.clauses 𝓤 H A at-mem run) W ((tt, tt, tt, x, at), tt) (mach after) after (tt, (tt, (tt, (tt, tt)))) (tt, (tt, (tt, (tt, tt))))) $ says ! refl $
+          qed W [] ∵ suffices ! _ (ends-at 𝓤 H A f.ended stayed (f.clauses 𝓤 H A at-mem run) W ((tt, tt, tt, x, at), tt) (mach after) after (tt, (tt, (tt, (tt, tt)))) (tt, (tt, (tt, (tt, tt))))) $
+          says ! refl $
           owned ! T.the-row (Is T.the-row) (LL.makes T.the-type T′.the-plain 𝓤 H A) after _ is $
           nothing ! $ owned ! u64 (Is u64) (uint-makes 𝓤 H A W w64) n _ (refl, fn) $ fjoin ! $ owned ! u64 (Is u64) (uint-makes 𝓤 H A W w64) j _ (refl, fj) $ fjoin ! $
           owned ! u64 (Is u64) (uint-makes 𝓤 H A W w64) i _ (refl, fi) $ fjoin ! $ owned ! T.the-row (Is T.the-row) (LL.makes T.the-type T′.the-plain 𝓤 H A) h _ was $ fjoin ! $ nothing ! $ done !
@@ -142,18 +146,21 @@ module _ {M : Type 1} (𝓤 : URA M) (H : Heap 𝓤) (A : Atoms 𝓤) (W : Given
         walk wt =
             qed W (‵ ftrue ∷ ‵ (owns (T.the-row ∷ u64 ∷ u64 ∷ u64 ∷ []) x at) ∷ []) ∵ keep ! [] $
             enter ! C Λ code.function (mach h ∷ vint w64 i ∷ vint w64 j ∷ vint w64 n ∷ []) _ $
-            alloc1 ! (λ l₀. alloc1 ! (λ l₁. alloc1 ! (λ l₂. alloc1 ! (λ l₃. alloc1 ! (λ l₄. alloc1 ! (λ l₅. alloc1 ! (λ l₆. alloc1 ! (λ l₇. alloc0 ! $ params1 ! $ pass1 ! (init ! 12 refl wt) $ pass1 ! (init ! 10 refl (tt, record { fits = fi })) $
+            alloc1 ! (λ l₀. alloc1 ! (λ l₁. alloc1 ! (λ l₂. alloc1 ! (λ l₃. alloc1 ! (λ l₄. alloc1 ! (λ l₅. alloc1 ! (λ l₆. alloc1 ! (λ l₇.
+            alloc0 ! $ params1 ! $ pass1 ! (init ! 12 refl wt) $ pass1 ! (init ! 10 refl (tt, record { fits = fi })) $
             pass1 ! (init ! 8 refl (tt, record { fits = fj })) $ pass1 ! (init ! 6 refl (tt, record { fits = fn })) $ pass0 ! $
             -- [room for _7; …; room for _6; …; room for _5; …; _4; …; _3; …; _2; …; _1; …; room for _0; …]
             assigns ! (of-opd ! (load ! (from ! (stop !)) (look ! 12 refl))) (from ! (stop !)) (init ! 4 refl wt) $
             assigns ! (addr ! (from ! (stop !))) (from ! (stop !)) (init ! 0 refl (tt, tt)) $
             -- the local is lent
             move ! (4 ∷ []) $ use1 W (‵ (partAt T.the-row fullShare h l₅ 0)) (lies-in 𝓤 H A W h l₅ was) $ lft-new ! tt (λ α. move ! (1 ∷ []) $
-            use1 W (later (some (λ (γ : GName). ‵ (Own α l₅ γ) ⊛ ‵ (flent (α ∷ []) (Body (mem T.the-row) l₅ 0 γ))))) (lends-ref 𝓤 H A W T.the-row (named 0) (α ∷ []) h l₅ 0) $ await ! tt $ pick ! (λ γ. split ! $
+            use1 W (later (some (λ (γ : GName). ‵ (Own α l₅ γ) ⊛ ‵ (flent (α ∷ []) (Body (mem T.the-row) l₅ 0 γ))))) (lends-ref 𝓤 H A W T.the-row (named 0) (α ∷ []) h l₅ 0) $
+            await ! tt $ pick ! (λ γ. split ! $
             move ! (2 ∷ 0 ∷ []) $ use2 W (raw (Raise .pre (to-raise α l₅ γ))) (goes-raise α l₅ γ) $
             -- [what `raise` asks; the lender's part; _7; …; room for _6; …; _5's frame; _4; …; _3; …; _2; …; _1; …; room for _0; …]
             calls-at ! fm Raise known (to-raise α l₅ γ)
-            (and-then ! (load ! (from ! (stop !)) (look ! 2 refl)) (and-then ! (load ! (from ! (stop !)) (look ! 11 refl)) (and-then ! (load ! (from ! (stop !)) (look ! 9 refl)) (and-then ! (load ! (from ! (stop !)) (look ! 7 refl)) (no-more !))))) (λ v.
+            (and-then ! (load ! (from ! (stop !)) (look ! 2 refl)) (and-then ! (load ! (from ! (stop !)) (look ! 11 refl))
+            (and-then ! (load ! (from ! (stop !)) (look ! 9 refl)) (and-then ! (load ! (from ! (stop !)) (look ! 7 refl)) (no-more !))))) (λ v.
             use1 W (later (given (v ≡ vunit) (‵ (flft (α ∷ []) fullShare) ⊛ ‵ (fres γ (T.the-row .coded .code after))))) (gives α l₅ γ v) $ await ! tt $ learn ! (λ e. split ! $
             land ! (from ! (stop !)) (init ! 5 refl (subst (λ (y : Val). Holds (hasTy tyUnit y) × WT y) (sym e) (tt, tt))) $
             -- the loan is over
@@ -162,7 +169,8 @@ module _ {M : Type 1} (𝓤 : URA M) (H : Heap 𝓤) (A : Atoms 𝓤) (W : Given
             -- [_5; _7; …; _6; …; _5's frame; _4; …; _3; …; _2; …; _1; …; room for _0; …]
             assigns ! (of-opd ! (load ! (from ! (stop !)) (look ! 0 refl))) (from ! (stop !)) (init ! 14 refl (LL.lawful T.the-type T′.the-laws 𝓤 H A W .typed after _ is .0)) $
             returns ! (look ! 14 refl) $ forget ! 0 refl $ forget ! 1 refl $ forget ! 3 refl $ forget ! 6 refl $ forget ! 8 refl $ forget ! 10 refl $ forget ! 12 refl $ forget ! 14 refl $
-            move ! (14 ∷ 15 ∷ []) $ free1 ! $ move ! (12 ∷ 13 ∷ []) $ free1 ! $ move ! (10 ∷ 11 ∷ []) $ free1 ! $ move ! (8 ∷ 9 ∷ []) $ free1 ! $ move ! (6 ∷ 7 ∷ []) $ free1 ! $ move ! (0 ∷ 5 ∷ []) $ free1 ! $ move ! (2 ∷ 3 ∷ []) $ free1 ! $ free1 ! $ free0 ! $
+            move ! (14 ∷ 15 ∷ []) $ free1 ! $ move ! (12 ∷ 13 ∷ []) $ free1 ! $ move ! (10 ∷ 11 ∷ []) $ free1 ! $ move ! (8 ∷ 9 ∷ []) $ free1 ! $ move ! (6 ∷ 7 ∷ []) $
+            free1 ! $ move ! (0 ∷ 5 ∷ []) $ free1 ! $ move ! (2 ∷ 3 ∷ []) $ free1 ! $ free1 ! $ free0 ! $
             by ! (exits is))))))))))))))
 
 module _ {M : Type 1} (𝓤 : URA M) (H : Heap 𝓤) (A : Atoms 𝓤) (W : Given 𝓤 H A) (at-mem : Memory → SProp 𝓤) (run : Routine → Fun 𝓤) where
@@ -170,15 +178,23 @@ module _ {M : Type 1} (𝓤 : URA M) (H : Heap 𝓤) (A : Atoms 𝓤) (W : Given
   Cites C = Triple 𝓤 (C #tally·raise) (tripleOf 𝓤 H A raise.signature (raise.spec 𝓤 H A at-mem run))
 
   counted-walks : (C : Calls 𝓤 H) (Λ : Loops 𝓤 H) → FmC 𝓤 H (W .laws) C → Cites C → Walks 𝓤 H A f.ended stayed (WpFn 𝓤 H C Λ code.function) (f.clauses 𝓤 H A at-mem run)
-  counted-walks C Λ fm known = walked 𝓤 H A f.ended stayed (f.clauses 𝓤 H A at-mem run) (WpFn 𝓤 H C Λ code.function) (λ κs. (vals, (uint-vals w64, (uint-vals w64, (uint-vals w64, tt))))) (λ κs. (LL.tells T.the-type T′.the-laws, (uint-tells w64, (uint-tells w64, (uint-tells w64, tt)))))
-      (λ κs qs bounds a g are. via 𝓤 _ (fst∗ 𝓤 _ (emp 𝓤)) (walk 𝓤 H A W at-mem run (a .0) (a .1 .0) (a .1 .1 .0) (a .1 .1 .1 .0) (are .1 .0 .1) (are .1 .1 .0 .1) (are .1 .1 .1 .0 .1) (are .0) C Λ fm known (LL.lawful T.the-type T′.the-laws 𝓤 H A W .typed (a .0) _ (are .0) .0)))
+  counted-walks C Λ fm known =
+      walked 𝓤 H A f.ended stayed (f.clauses 𝓤 H A at-mem run) (WpFn 𝓤 H C Λ code.function)
+      (λ κs. (vals, (uint-vals w64, (uint-vals w64, (uint-vals w64, tt)))))
+      (λ κs. (LL.tells T.the-type T′.the-laws, (uint-tells w64, (uint-tells w64, (uint-tells w64, tt)))))
+      (λ κs qs bounds a g are. via 𝓤 _ (fst∗ 𝓤 _ (emp 𝓤))
+      (walk 𝓤 H A W at-mem run (a .0) (a .1 .0) (a .1 .1 .0) (a .1 .1 .1 .0) (are .1 .0 .1) (are .1 .1 .0 .1) (are .1 .1 .1 .0 .1) (are .0) C Λ fm known
+      (LL.lawful T.the-type T′.the-laws 𝓤 H A W .typed (a .0) _ (are .0) .0)))
 
   goes : AllGo 𝓤 H A W 0 (f.signature .params) (f.ended .kept) stayed
-  goes = (goes-none 𝓤 H A W 0 (λ _. T.the-row) yes (λ κs x f. refl), (goes-none 𝓤 H A W 0 (λ _. u64) yes (λ κs x f. refl), (goes-none 𝓤 H A W 0 (λ _. u64) yes (λ κs x f. refl), (goes-none 𝓤 H A W 0 (λ _. u64) yes (λ κs x f. refl), tt))))
+  goes = let number = goes-none 𝓤 H A W 0 (λ _. u64) yes (λ κs x f. refl) in (goes-none 𝓤 H A W 0 (λ _. T.the-row) yes (λ κs x f. refl), (number, (number, (number, tt))))
 
 counted-meets : {M : Type 1} (𝓤 : URA M) (H : Heap 𝓤) (A : Atoms 𝓤) (W : Given 𝓤 H A) (at-mem : Memory → SProp 𝓤) (run : Routine → Fun 𝓤) (𝓣 : Tables 𝓤 H)
     → Cites 𝓤 H A W at-mem run (𝓣 .C) → Meets 𝓤 H A f.signature (WpFn 𝓤 H (𝓣 .C) (𝓣 .Λ) code.function) (f.spec 𝓤 H A at-mem run)
-counted-meets 𝓤 H A W at-mem run 𝓣 known = walk-meets 𝓤 H A f.ended stayed W (goes 𝓤 H A W at-mem run) (f.clauses 𝓤 H A at-mem run) (WpFn 𝓤 H (𝓣 .C) (𝓣 .Λ) code.function) (WpFn-mono 𝓤 H (W .laws) 𝓣 code.function) (counted-walks 𝓤 H A W at-mem run (𝓣 .C) (𝓣 .Λ) (fmOf 𝓤 H (W .laws) 𝓣) known)
+counted-meets 𝓤 H A W at-mem run 𝓣 known =
+    walk-meets 𝓤 H A f.ended stayed W (goes 𝓤 H A W at-mem run) (f.clauses 𝓤 H A at-mem run)
+    (WpFn 𝓤 H (𝓣 .C) (𝓣 .Λ) code.function) (WpFn-mono 𝓤 H (W .laws) 𝓣 code.function)
+    (counted-walks 𝓤 H A W at-mem run (𝓣 .C) (𝓣 .Λ) (fmOf 𝓤 H (W .laws) 𝓣) known)
 
 pub counted-spec : {M : Type 1} → stated.statement M
 unfolding code.routine tablesOf
