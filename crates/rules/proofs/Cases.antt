@@ -10,10 +10,15 @@ use Rattle.lists.specs.Lists.{keep, some, every, firstOr, distinct, tabulate, h
 use Rattle.lists.specs.Order.{insert, rising, bytesBefore}
 use Rattle.rules.specs.Entries.{listsLength}
 use Rattle.rules.specs.Sound.{sound}
-use Rattle.rules.specs.Snapshot.{sorted, inRow, exporterBytes, objectBytes, interfaceBytes, setBytes, sections, readRow, readNumber, readExporter, readObject, readInterface, readSet, entriesOf, placed, isSnapshot}
+use Rattle.rules.specs.Snapshot.{sorted, inRow, exporterBytes, objectBytes, interfaceBytes, setBytes, sections, readRow}
+use Rattle.rules.specs.Snapshot.{readNumber, readExporter, readObject, readInterface, readSet, entriesOf, placed, isSnapshot}
 use Rattle.rules.specs.Rules.{refusals, number, next, results, refusedReply, acceptedReply, reply}
 use Rattle.rules.specs.Cases.{outcome, emptyList, signed, oneSet, oneOfEach, freshSnapshot, twoInterfaces, cases, CasesHold}
 
 pub cases-hold : CasesHold
-unfolding outcome cases emptyList signed oneSet oneOfEach freshSnapshot twoInterfaces order bytesNumber encode field words throughZero firstBinding bindingsUpTo bindingsOf joined sameWords isPart twoParts listLength frontAnswer listAnswer propertyAnswer propertiesAnswer extentsAnswer contextHead contextAnswer allZero elementFront elementEnd elementAnswer fixedSize objectAnswer headAnswer plainAnswer extendedFront extendedAnswer formAnswer layoutBy layoutAnswer namesNil referenceAnswer keep some every firstOr distinct tabulate holding insert rising bytesBefore listsLength sound sorted inRow exporterBytes objectBytes interfaceBytes setBytes sections readRow readNumber readExporter readObject readInterface readSet entriesOf placed isSnapshot refusals number next results refusedReply acceptedReply reply
+unfolding outcome cases emptyList signed oneSet oneOfEach freshSnapshot twoInterfaces order bytesNumber encode field words throughZero firstBinding bindingsUpTo bindingsOf joined sameWords
+    isPart twoParts listLength frontAnswer listAnswer propertyAnswer propertiesAnswer extentsAnswer contextHead contextAnswer allZero elementFront elementEnd elementAnswer fixedSize
+    objectAnswer headAnswer plainAnswer extendedFront extendedAnswer formAnswer layoutBy layoutAnswer namesNil referenceAnswer keep some every firstOr distinct tabulate holding insert rising
+    bytesBefore listsLength sound sorted inRow exporterBytes objectBytes interfaceBytes setBytes sections readRow readNumber readExporter readObject readInterface readSet entriesOf placed
+    isSnapshot refusals number next results refusedReply acceptedReply reply
 cases-hold = refl

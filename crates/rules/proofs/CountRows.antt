@@ -64,7 +64,7 @@ module _ (e : Entries) (i : Guid) (s : sound e ≡ true) (h : interfaceRow e i <
   -- the IPID is no other interface's
   ipid-gone : every (λ (r : Interface). not (sameGuid i (r .ipid))) (withoutInterface e i .interfaces) ≡ true
   ipid-gone =
-      cc (entry-remove sameGuid guid-decides (λ (r : Interface). r .ipid) noInterface i (e .interfaces) h (interfaces-distinct e s), keep-passes (λ (r : Interface). not (sameGuid i (r .ipid))) (e .interfaces))
+      rw (← entry-remove sameGuid guid-decides (λ (r : Interface). r .ipid) noInterface i (e .interfaces) h (interfaces-distinct e s)) (keep-passes _ (e .interfaces))
 
   module _ (c p q : ℕ) where
     -- release changes the counts in the interface's row

@@ -22,7 +22,8 @@ use Rattle.rules.specs.Entries.{Object, Interface, PingSet, Entries, oid
 use Rattle.rules.specs.Calls.{Call, editing, Counting, adding, releasing, add, release}
 use Rattle.rules.specs.Items.{Item, itemCall}
 use Rattle.rules.specs.Sound.{sound, held, hasInterface}
-use Rattle.rules.specs.Rules.{isLiveObject, isLiveInterface, noInterface, interfaceOf, passesCount, noClient, atInterface, dropEmpty, increased, decreased, flag, releaseValues, refusals, number, next, results, refusedReply, acceptedReply, reply}
+use Rattle.rules.specs.Rules.{isLiveObject, isLiveInterface, noInterface, interfaceOf, passesCount, noClient, atInterface, dropEmpty, increased}
+use Rattle.rules.specs.Rules.{decreased, flag, releaseValues, refusals, number, next, results, refusedReply, acceptedReply, reply}
 use Rattle.rules.specs.EitherOrder.{callDone, takenIn, interfaceWent, objectWent, CountCall, callOf, before, behind, objectOf, BothLast, SameAnswer, OrderIrrelevant}
 use Rattle.rules.proofs.SoundLaws.{sound-fields}
 use Rattle.rules.proofs.Stepping.{reply-number}
@@ -115,7 +116,8 @@ at-plain i f p =
     }
 
 -- changed interfaces name the same objects
-named-changed : (ns : List ℕ) (h : Interface → Interface) → Plain h → (is : List Interface) → every (λ (r : Interface). among ns (r .object)) is ≡ true → every (λ (r : Interface). among ns (r .object)) (map h is) ≡ true
+named-changed : (ns : List ℕ) (h : Interface → Interface) → Plain h → (is : List Interface)
+    → every (λ (r : Interface). among ns (r .object)) is ≡ true → every (λ (r : Interface). among ns (r .object)) (map h is) ≡ true
 named-changed ns h p is t = every-map (λ (r : Interface). among ns (r .object)) h is ∙ (λ u. every (λ (r : Interface). among ns (p .object r u)) is) ∙ t
 
 -- some object's interface after a change and a choice is one of before
@@ -186,7 +188,12 @@ module _ (i j : Guid) (apart : sameGuid i j ≡ false) where
       -- what fails after the first change fails after the second
       fails : every (λ (r : Interface). held r || not (held (at j g r))) (map (at i f) (e .interfaces)) ≡ true
       fails =
-          cc (every-map (λ (r : Interface). held r || not (held (at j g r))) (at i f) (e .interfaces), every-mono held (λ r. held (at i f r) || not (held (at j g (at i f r)))) (λ r t. ⊎-elim (λ a. let w : at j g (at i f r) ≡ at i f r = ap (λ (b : Bool). cond b (g (at i f r)) (at i f r)) (ap (sameGuid j) (at-plain i f pf .ipid r) ∙ not-both (r .ipid) a) in ap (λ (x : Interface). held (at i f r) || not (held x)) w ∙ or-not (held (at i f r))) (λ a. let w : at i f r ≡ r = ap (λ (b : Bool). cond b (f r) r) a in ap (λ (x : Interface). held x || not (held (at j g x))) w ∙ ap (λ (b : Bool). b || not (held (at j g r))) t) (true-or-false (sameGuid i (r .ipid)))) (e .interfaces) counted)
+          every-map _ (at i f) _
+          ∙ every-mono held _ (λ r t.
+          ⊎-elim
+          (λ a. let w : at j g (at i f r) ≡ at i f r = cc (at-plain i f pf .ipid r, not-both (r .ipid) a) in rw w (or-not (held (at i f r))))
+          (λ a. let w : at i f r ≡ r = rw a in rw (w, t))
+          (true-or-false (sameGuid i (r .ipid)))) (e .interfaces) counted
         where
           or-not : (b : Bool) → (b || not b) ≡ true
           or-not true = refl
@@ -196,7 +203,7 @@ module _ (i j : Guid) (apart : sameGuid i j ≡ false) where
       drop-later : dropEmpty (atInterface j g (dropEmpty (atInterface i f e))) ≡ dropEmpty (atInterface j g (atInterface i f e))
       drop-later =
           ap (λ (x : Entries). dropEmpty (atInterface j g x)) (drop-form (atInterface i f e) first)
-          ∙ drop-form (atInterface j g (servedBy is e)) (named-changed (idsOf (keep (hasIn is) (e .objects))) (at j g) (at-plain j g pg) is (live-left (e .objects) is (every-kept _ held (map (at i f) (e .interfaces)) first)))
+          ∙ drop-form (atInterface j g (servedBy is e)) (named-changed _ (at j g) (at-plain j g pg) is (live-left (e .objects) is (every-kept _ held _ first)))
           ∙ served-twice is held (at j g) (at-plain j g pg) e
           ∙ ap (λ (l : List Interface). servedBy l e) (keep-through held (at j g) (map (at i f) (e .interfaces)) fails)
           ∙ sym (drop-form (atInterface j g (atInterface i f e)) (named-changed (oids e) (at j g) (at-plain j g pg) (map (at i f) (e .interfaces)) first))
@@ -217,7 +224,8 @@ module _ (i j : Guid) (apart : sameGuid i j ≡ false) where
 
       changed-entry : interfaceOf (dropEmpty (atInterface j g e)) i ≡ interfaceOf e i
       changed-entry =
-          cc (drop-form (atInterface j g e) (named-changed (oids e) (at j g) (at-plain j g pg) (e .interfaces) named), through-first held (at j g) (λ r. sameGuid i (r .ipid)) same-ipid fixed noInterface (e .interfaces) counted)
+          ap (λ (x : Entries). interfaceOf x i) (drop-form (atInterface j g e) (named-changed (oids e) (at j g) (at-plain j g pg) (e .interfaces) named))
+          ∙ through-first held (at j g) (λ r. sameGuid i (r .ipid)) same-ipid fixed noInterface (e .interfaces) counted
 
 -- ---- the calls
 
@@ -254,7 +262,8 @@ at-none i e =
     map-same (x ∷ xs) = ap (λ (m : List Interface). x ∷ m) (map-same xs)
 
 -- accepted or not, a call changes its interface, and what is empty then goes
-next-drop : (w : Counting) (c : ℕ) (t : Item) (e : Entries) → sound e ≡ true → number (itemCall w c t) e ≡ 0 → next (itemCall w c t) e ≡ dropEmpty (atInterface (t .ipid) (moves w c (t .public) (t .private)) e)
+next-drop : (w : Counting) (c : ℕ) (t : Item) (e : Entries) → sound e ≡ true → number (itemCall w c t) e ≡ 0
+    → next (itemCall w c t) e ≡ dropEmpty (atInterface (t .ipid) (moves w c (t .public) (t .private)) e)
 unfolding next
 next-drop adding c t e s z = sym (full-kept (atInterface (t .ipid) (increased c (t .public) (t .private)) e) (keeps (itemCall adding c t) e s z))
 next-drop releasing c t e s z = refl
@@ -278,12 +287,12 @@ module _ (a b : CountCall) (d : Apart a b) (e : Entries) (s : sound e ≡ true) 
   live-same : isLiveInterface (callDone (callOf b) e) (a .item .ipid) ≡ isLiveInterface e (a .item .ipid)
   live-same =
       let g = sound-fields e s in
-      cc (done-drop b e s, changed-live (a .item .ipid) (b .item .ipid) (d .apart) (λ r. r) (changeIf b (accepts b e)) none-plain (change-plain b (accepts b e)) e (g .interfaceObjectsLive) (g .interfacesHeld))
+      rw (done-drop b e s) (changed-live _ _ (d .apart) (λ r. r) _ none-plain (change-plain b (accepts b e)) e (g .interfaceObjectsLive) (g .interfacesHeld))
 
   entry-same : interfaceOf (callDone (callOf b) e) (a .item .ipid) ≡ interfaceOf e (a .item .ipid)
   entry-same =
       let g = sound-fields e s in
-      cc (done-drop b e s, changed-entry (a .item .ipid) (b .item .ipid) (d .apart) (λ r. r) (changeIf b (accepts b e)) none-plain (change-plain b (accepts b e)) e (g .interfaceObjectsLive) (g .interfacesHeld))
+      rw (done-drop b e s) (changed-entry _ _ (d .apart) (λ r. r) _ none-plain (change-plain b (accepts b e)) e (g .interfaceObjectsLive) (g .interfacesHeld))
 
 -- a call's number by what it looks at
 number-from : (w : Counting) (c : ℕ) (t : Item) (e e′ : Entries) → isLiveInterface e′ (t .ipid) ≡ isLiveInterface e (t .ipid) → interfaceOf e′ (t .ipid) ≡ interfaceOf e (t .ipid)
@@ -303,11 +312,12 @@ both-done : (a b : CountCall) → Apart a b → Apart b a → (e : Entries) → 
     ≡ dropEmpty (atInterface (b .item .ipid) (changeIf b (accepts b e)) (atInterface (a .item .ipid) (changeIf a (accepts a e)) e))
 both-done a b d d′ e s =
     let g = sound-fields e s in
-    cc (done-drop b (callDone (callOf a) e) (sound-done (callOf a) e s), number-same b a d′ e s, done-drop a e s, drop-later (a .item .ipid) (b .item .ipid) (d .apart) (changeIf a (accepts a e)) (changeIf b (accepts b e)) (change-plain a (accepts a e)) (change-plain b (accepts b e)) e (g .interfaceObjectsLive) (g .interfacesHeld))
+    rw (done-drop b _ (sound-done (callOf a) e s), number-same b a d′ e s, done-drop a e s)
+    (drop-later _ _ (d .apart) _ _ (change-plain a (accepts a e)) (change-plain b (accepts b e)) e (g .interfaceObjectsLive) (g .interfacesHeld))
 
 same-entries : (a b : CountCall) → Apart a b → Apart b a → (e : Entries) → sound e ≡ true → callDone (callOf b) (callDone (callOf a) e) ≡ callDone (callOf a) (callDone (callOf b) e)
 same-entries a b d d′ e s =
-    cc (both-done a b d d′ e s, at-swap (a .item .ipid) (b .item .ipid) (d .apart) (changeIf a (accepts a e)) (changeIf b (accepts b e)) (change-plain a (accepts a e)) (change-plain b (accepts b e)) e, both-done b a d′ d e s)
+    both-done a b d d′ e s ∙ ap dropEmpty (at-swap _ _ (d .apart) _ _ (change-plain a (accepts a e)) (change-plain b (accepts b e)) e) ∙ sym (both-done b a d′ d e s)
 
 -- ---- the answers
 
@@ -324,7 +334,8 @@ add-values c i p q e = by (eqb (number (editing (add c i p q)) e) 0)
     by false = refl
 
 -- what a release answers, accepted and refused
-release-values : (c : ℕ) (i : Guid) (p q : ℕ) (e : Entries) → eqb (number (editing (release c i p q)) e) 0 ≡ true → reply (editing (release c i p q)) e .values ≡ releaseValues c i p q e (callDone (editing (release c i p q)) e)
+release-values : (c : ℕ) (i : Guid) (p q : ℕ) (e : Entries) → eqb (number (editing (release c i p q)) e) 0 ≡ true
+    → reply (editing (release c i p q)) e .values ≡ releaseValues c i p q e (callDone (editing (release c i p q)) e)
 unfolding reply acceptedReply refusedReply results
 release-values c i p q e t = cc t
 
@@ -456,7 +467,8 @@ module _ (a b : CountCall) (d : Apart a b) (d′ : Apart b a) (e : Entries) (s :
       let la = went-loud a e (k .first) in
       let lb = went-loud b afterFirst (sym (same-answer b a d′ d e s .interface) ∙ k .second) in
       let same : interfaceOf afterFirst (b .item .ipid) .object ≡ objectOf a e = ap (λ (r : Interface). r .object) (entry-same b a d′ e s) ∙ sym (k .one) in (
-        la .object ∙ ap (λ (n : ℕ). flag (not (isLiveObject afterFirst n))) (sym same) ∙ ap (λ (x : Bool). flag (not x)) (object-live afterFirst (sound-done (callOf a) e s) (b .item .ipid) (lb .live)),
+        la .object ∙ ap (λ (n : ℕ). flag (not (isLiveObject afterFirst n))) (sym same)
+            ∙ ap (λ (x : Bool). flag (not x)) (object-live afterFirst (sound-done (callOf a) e s) (b .item .ipid) (lb .live)),
         lb .object ∙ ap (λ (n : ℕ). flag (not (isLiveObject (callDone (callOf b) afterFirst) n))) same ∙ ap (λ (x : Bool). flag (not x)) (k .gone),
       )
 

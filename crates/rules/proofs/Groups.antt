@@ -105,7 +105,7 @@ sets-replaced e n ss g s = record { exporters = g .exporters; objects = g .objec
 pub serving-objects : (os : List Object) (is : List Interface) → every (among (map (λ (i : Interface). i .object) is)) (map (λ (o : Object). o .oid) os)
     ≡ every (λ (o : Object). some (λ (i : Interface). eqb (o .oid) (i .object)) is) os
 serving-objects os is =
-    cc (every-map (among (map (λ (i : Interface). i .object) is)) (λ (o : Object). o .oid) os, every-ext (λ (o : Object). among (map (λ (i : Interface). i .object) is) (o .oid)) (λ (o : Object). some (λ (i : Interface). eqb (o .oid) (i .object)) is) (λ o. some-map (eqb (o .oid)) (λ (i : Interface). i .object) is) os)
+    every-map _ _ os ∙ every-ext _ _ (λ o. some-map (eqb (o .oid)) _ is) os
 
 -- the fields by groups
 fields-grouped : (e : Entries) → Sound e → Grouped e

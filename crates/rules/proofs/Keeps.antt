@@ -13,7 +13,8 @@ use Rattle.bindings.specs.Bindings.{listAnswer}
 use Rattle.lists.specs.Lists.{every, distinct, holding, among}
 use Rattle.lists.specs.Guids.{sameGuid}
 use Rattle.rules.specs.Entries.{Entries, exporterPlaces, fresh, oxids, oids, listsLength}
-use Rattle.rules.specs.Calls.{starting, looking, editing, Counting, adding, releasing, reset, enterExporter, removeExporter, enterObject, enterInterface, add, release, dropClient, countList, simplePing, complexPing, clock, resolve, resolveFiltered, census, members, nextStop, writeSnapshot, loadSnapshot}
+use Rattle.rules.specs.Calls.{starting, looking, editing, Counting, adding, releasing, reset, enterExporter, removeExporter, enterObject}
+use Rattle.rules.specs.Calls.{enterInterface, add, release, dropClient, countList, simplePing, complexPing, clock, loadSnapshot}
 use Rattle.rules.specs.Items.{Item, itemsOf, itemCall}
 use Rattle.rules.specs.Sound.{longestList, storeBytes, sound}
 use Rattle.rules.specs.Snapshot.{entriesOf, isSnapshot}

@@ -1,5 +1,5 @@
 -- What the pings leave is what they leave by the row of the set.
-use Prim.Native.Nat.{ℕ, _+_, _<_}
+use Prim.Native.Nat.{ℕ, _<_}
 use mathlib.Core.Path.{_≡_, refl, ap, _∙_}
 use mathlib.Core.Bool.{true, false}
 use mathlib.Core.List.{List, [], _∷_}
@@ -55,7 +55,8 @@ module _ (e : Entries) (sd : sound e ≡ true) where
   -- the set that is made stands last
   new-row : setRow (makeSet e) (e .next) ≡ length (e .sets)
   new-row =
-      cc (map-append (λ (p : PingSet). p .number) (e .sets) (newSet e ∷ []), first-right (eqb (e .next)) (setNumbers e) (e .next ∷ []) (or-false (eqb (e .next) 0) (among (setNumbers e) (e .next)) (next-free e (grouped e sd)) .1), first-here (eqb (e .next)) (e .next) [] (eq-eqb (e .next) (e .next) refl), add-zero (length (setNumbers e)), length-map (e .sets) (λ (p : PingSet). p .number))
+      let free = or-false (eqb (e .next) 0) _ (next-free e (grouped e sd)) .1 in
+      rw (map-append, first-right (eqb (e .next)) (setNumbers e) (e .next ∷ []) free, first-here (eqb (e .next)) (e .next) [] (eq-eqb (e .next) _ refl), add-zero, length-map)
 
   module _ (s n : ℕ) (adds dels : List ℕ) where
     -- a complex ping of a live set

@@ -8,7 +8,7 @@ use lib.Dec.{eqb}
 use Rattle.kinds.specs.Refusals.{order}
 use Rattle.kinds.proofs.Refusing.{by-test}
 use Rattle.lists.specs.Lists.{keep, some, firstOr}
-use Rattle.rules.specs.Entries.{Exporter, Entries}
+use Rattle.rules.specs.Entries.{Exporter}
 use Rattle.rules.specs.Rules.{noExporter, refusals, number, next, results, refusedReply, acceptedReply, reply}
 use Rattle.rules.specs.Removing.{OthersResolve}
 

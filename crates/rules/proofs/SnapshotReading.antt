@@ -15,7 +15,8 @@ use Rattle.lists.specs.Lists.{tabulate}
 use Rattle.lists.proofs.Tests.{holding-head, holding-tail}
 use Rattle.lists.proofs.Lists.{tabulate-ext}
 use Rattle.rules.specs.Entries.{Exporter, Object, Interface, PingSet, Entries}
-use Rattle.rules.specs.Snapshot.{inRow, section, exporterBytes, objectBytes, interfaceBytes, setBytes, sections, Front, readRow, readSection, readNumber, readExporter, readObject, readInterface, readSet, entriesOf, placed}
+use Rattle.rules.specs.Snapshot.{inRow, section, exporterBytes, objectBytes, interfaceBytes, setBytes, sections, Front, readRow}
+use Rattle.rules.specs.Snapshot.{readSection, readNumber, readExporter, readObject, readInterface, readSet, entriesOf, placed}
 use Rattle.rules.specs.Swapping.{Each, ExporterFits, ObjectFits, InterfaceFits, SetFits, Fits, ReadsBack}
 use Rattle.rules.proofs.OneByOne.{field-back}
 

@@ -15,7 +15,8 @@ use Rattle.lists.proofs.Lists.{length-keep, keep-map}
 use Rattle.lists.proofs.Order.{rising-in, length-rising}
 use Rattle.lists.proofs.Rising.{sum-rising, kept-rising}
 use Rattle.rules.specs.Entries.{Exporter, Object, Interface, PingSet, Entries, oids, listsLength}
-use Rattle.rules.specs.Snapshot.{objectBefore, interfaceBefore, exporterBefore, setBefore, membersInOrder, sorted, inRow, section, exporterBytes, objectBytes, interfaceBytes, setBytes, sections, placed}
+use Rattle.rules.specs.Snapshot.{objectBefore, interfaceBefore, exporterBefore, setBefore, membersInOrder, sorted, inRow}
+use Rattle.rules.specs.Snapshot.{section, exporterBytes, objectBytes, interfaceBytes, setBytes, sections, placed}
 use Rattle.rules.specs.Swapping.{Each, SnapshotLength, SnapshotInside}
 use Rattle.rules.proofs.SoundLaws.{sound-fields, clause-at}
 use Rattle.rules.proofs.SnapshotReading.{length-uniform, length-numbers}

@@ -10,7 +10,8 @@ use Rattle.kinds.proofs.Refusing.{same-test}
 use Rattle.lists.specs.Lists.{holding}
 use Rattle.lists.proofs.Tests.{and-left, and-right, holding-nil, holding-cons, holding-head, holding-tail}
 use Rattle.rules.specs.Entries.{Entries, oxids, oids, ipids, setNumbers}
-use Rattle.rules.specs.Sound.{proper, properGuids, interfaceObjectsLive, objectExportersLive, objectsHaveInterfaces, interfacesHeld, setMembersLive, heardBefore, pingedBefore, heardRecently, pingedRecently, setsBelowNext, listsKept, listsInside, sound, groups}
+use Rattle.rules.specs.Sound.{proper, properGuids, interfaceObjectsLive, objectExportersLive, objectsHaveInterfaces, interfacesHeld, setMembersLive}
+use Rattle.rules.specs.Sound.{heardBefore, pingedBefore, heardRecently, pingedRecently, setsBelowNext, listsKept, listsInside, sound, groups}
 use Rattle.rules.specs.Contract.{Memory, rightLengths, soundMemory, SoundTable}
 
 -- the clause at an index of clauses that hold

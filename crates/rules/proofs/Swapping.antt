@@ -19,7 +19,8 @@ use Rattle.lists.proofs.Lists.{every-at, every-append, every-from-at, length-ta
 use Rattle.lists.proofs.Elements.{tabulate-in}
 use Rattle.rules.specs.Entries.{Exporter, Object, Interface, PingSet, Entries, Ordered}
 use Rattle.rules.specs.Sound.{sound}
-use Rattle.rules.specs.Snapshot.{sorted, inRow, section, exporterBytes, objectBytes, interfaceBytes, setBytes, sections, snapshotBytes, Front, readRow, readSection, readNumber, readExporter, readObject, readInterface, readSet, entriesOf, placed, allBytes, isSnapshot}
+use Rattle.rules.specs.Snapshot.{sorted, inRow, section, exporterBytes, objectBytes, interfaceBytes, setBytes, sections, snapshotBytes, Front, readRow}
+use Rattle.rules.specs.Snapshot.{readSection, readNumber, readExporter, readObject, readInterface, readSet, entriesOf, placed, allBytes, isSnapshot}
 use Rattle.rules.specs.Swapping.{Each, ExporterFits, ObjectFits, InterfaceFits, SetFits, Fits, OneForm, SoundSnapshot, Loads, Swaps, LoadsOrdered}
 use Rattle.rules.proofs.SoundLaws.{clause-at, none, _and_}
 use Rattle.rules.proofs.SnapshotReading.{encoded-front, reads-back}

@@ -13,8 +13,11 @@ use Rattle.bindings.specs.Filter.{filtered}
 use Rattle.references.specs.References.{referenceAnswer, referenceAt, isCustom, tailOf}
 use Rattle.lists.specs.Lists.{keep, some, every, firstOr, among}
 use Rattle.lists.specs.Guids.{nil, sameGuid}
-use Rattle.rules.specs.Entries.{Exporter, Object, Interface, PingSet, Entries, exporterPlaces, objectPlaces, interfacePlaces, setPlaces, countLimit, sequenceLimit, fresh, oxids, oids, setNumbers, interfaceIpids, ipids, listsLength, withClock, withNext, withExporters, withObjects, withInterfaces, withSets, heardAt, publicOf, privateOf, atCount, atCounts, pingedAt, withSequence, withMembers, withMembersOf}
-use Rattle.rules.specs.Calls.{Call, starting, looking, editing, Counting, adding, releasing, reset, enterExporter, removeExporter, enterObject, enterInterface, add, release, dropClient, countList, simplePing, complexPing, clock, resolve, resolveFiltered, census, members, nextStop, writeSnapshot, loadSnapshot, Reply, Results, only}
+use Rattle.rules.specs.Entries.{Exporter, Object, Interface, PingSet, Entries, exporterPlaces, objectPlaces, interfacePlaces, setPlaces, countLimit, sequenceLimit}
+use Rattle.rules.specs.Entries.{fresh, oxids, oids, setNumbers, interfaceIpids, ipids, listsLength, withClock, withNext, withExporters, withObjects, withInterfaces}
+use Rattle.rules.specs.Entries.{withSets, heardAt, publicOf, privateOf, atCount, atCounts, pingedAt, withSequence, withMembers, withMembersOf}
+use Rattle.rules.specs.Calls.{Call, starting, looking, editing, Counting, adding, releasing, reset, enterExporter, removeExporter, enterObject, enterInterface, add, release, dropClient}
+use Rattle.rules.specs.Calls.{countList, simplePing, complexPing, clock, resolve, resolveFiltered, census, members, nextStop, writeSnapshot, loadSnapshot, Reply, Results, only}
 use Rattle.rules.specs.Items.{Item, itemSize, itemCount, itemsOf, itemCall}
 use Rattle.rules.specs.Sound.{longestList, storeBytes, held, hasInterface, heardWithin, pingedWithin}
 use Rattle.rules.specs.Snapshot.{snapshotBytes, entriesOf, isSnapshot}
