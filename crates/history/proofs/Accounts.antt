@@ -23,7 +23,7 @@ remaining-at (suc n) (a ∷ xs) = remaining-at n xs
 -- no count is left exactly if each account is used up
 pub none-left : (xs : List Account) → some (λ (n : ℕ). not (eqb n 0)) (map remaining xs) ≡ not (every (λ (a : Account). leb (a .granted) (a .taken)) xs)
 none-left xs =
-    cc (some-map (λ (n : ℕ). not (eqb n 0)) remaining xs, some-not (λ (a : Account). not (eqb (remaining a) 0)) xs, every-ext (λ (a : Account). not (not (eqb (remaining a) 0))) (λ (a : Account). leb (a .granted) (a .taken)) (λ a. twice (eqb (remaining a) 0) ∙ less (a .granted) (a .taken)) xs)
+    some-map _ remaining xs ∙ some-not _ xs ∙ ap not (every-ext _ _ (λ a. twice (eqb (remaining a) 0) ∙ less (a .granted) (a .taken)) xs)
   where
     twice : (b : Bool) → not (not b) ≡ b
     twice true = refl

@@ -8,7 +8,8 @@ use lib.Dec.{eqb}
 use Rattle.kinds.proofs.Refusing.{by-test}
 use Rattle.lists.specs.Lists.{tabulate}
 use Rattle.lists.proofs.Lists.{map-append, map-tabulate, length-tabulate, tabulate-ext, tabulate-getD}
-use Rattle.rules.specs.Calls.{Call, starting, looking, editing, Counting, reset, enterExporter, removeExporter, enterObject, enterInterface, add, release, dropClient, countList, simplePing, complexPing, clock, resolve, resolveFiltered, census, members, nextStop, writeSnapshot, loadSnapshot}
+use Rattle.rules.specs.Calls.{Call, starting, looking, editing, Counting, reset, enterExporter, removeExporter, enterObject, enterInterface, add, release, dropClient}
+use Rattle.rules.specs.Calls.{countList, simplePing, complexPing, clock, resolve, resolveFiltered, census, members, nextStop, writeSnapshot, loadSnapshot}
 use Rattle.rules.specs.Items.{itemAt, itemCount, itemsOf, itemCall}
 use Rattle.rules.specs.Rules.{itemNumbers, number, results, acceptedReply, refusedReply, reply}
 use Rattle.rules.proofs.Stepping.{reply-number}
@@ -62,7 +63,8 @@ same-items w c s b h k e =
     size : length ns ≡ itemCount s
     size = length-numbers w c (itemsOf s) (live h) ∙ length-tabulate (itemCount s) (itemAt s)
 
-    calls : map (λ (a : Answered). a .call) (tabulate (itemCount s) (λ i. record { call = itemCall w c (itemAt s i); number = getD (reply (countList w c s b) (live h) .buffer) i 0 })) ≡ map (itemCall w c) (itemsOf s)
+    calls : let r = reply (countList w c s b) (live h) in
+        map (λ (a : Answered). a .call) (tabulate (itemCount s) (λ i. record { call = itemCall w c (itemAt s i); number = getD (r .buffer) i 0 })) ≡ map (itemCall w c) (itemsOf s)
     calls = map-tabulate (λ (a : Answered). a .call) (itemCount s) _ ∙ sym (map-tabulate (itemCall w c) (itemCount s) (itemAt s))
 
     list-fed : feed h (countList w c s b) ≡ itemsFed w c (itemsOf s) h

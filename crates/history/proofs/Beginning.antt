@@ -21,7 +21,9 @@ use Rattle.rules.specs.Rules.{noExporter, noObject}
 use Rattle.rules.proofs.SoundLaws.{Sound, sound-fields}
 use Rattle.rules.proofs.ByRow.{oids-distinct}
 use Rattle.rules.proofs.Keeps.{fresh-sound}
-use Rattle.history.specs.History.{ExporterLife, ObjectLife, InterfaceLife, SetLife, placeOf, exporterAt, objectAt, begunWith, interfaceHeld, setHeld, begin, remaining, atZero, interfacesAtZero, exporterRemoved, unheard, objectGone, liveExporters, liveObjects, liveInterface, liveSet, noExporterLife, noObjectLife, exporterEntry, objectEntry, interfaceEntry, setEntry, live}
+use Rattle.history.specs.History.{ExporterLife, ObjectLife, InterfaceLife, SetLife, placeOf, exporterAt, objectAt, begunWith, interfaceHeld, setHeld}
+use Rattle.history.specs.History.{begin, remaining, atZero, interfacesAtZero, exporterRemoved, unheard, objectGone, liveExporters, liveObjects}
+use Rattle.history.specs.History.{liveInterface, liveSet, noExporterLife, noObjectLife, exporterEntry, objectEntry, interfaceEntry, setEntry, live}
 use Rattle.history.specs.Runs.{BeginsAt}
 use Rattle.history.proofs.Lives.{Serials, Named, serials-snoc, life-found, covered, serialOfExporter, serialOfObject, Kept}
 use Rattle.history.proofs.Accounts.{none-left}
@@ -167,7 +169,7 @@ module _ (e : Entries) (s : sound e ≡ true) where
       let live = every-in (λ (j : Interface). among (oids e) (j .object)) (r .1) (sound-clauses .interfaceObjectsLive) in
       let own : eqb k (placeOf (oids e) (i .object)) ≡ true = place-only (oids e) (i .object) live k (oids-distinct e s) (omega arith) ∙ ap (λ (n : ℕ). eqb n (i .object)) (oid-at k b) ∙ r .2 in
       let zero = every-in (λ (p : InterfaceLife). not (eqb (p .object) k) || atZero p) (Memᴰ·map (interfaceHeld e) (r .1)) t in
-      absurd (true≢false (sym zero ∙ both (placeOf (oids e) (i .object)) k (atZero (interfaceHeld e i)) (sym (eqb-true k _ own)) (held-left e i (every-in held (r .1) (sound-clauses .interfacesHeld))))))
+      absurd (true≢false (sym zero ∙ both _ k _ (sym (eqb-true k _ own)) (held-left e i (every-in held (r .1) (sound-clauses .interfacesHeld))))))
       (λ f. f)
       (true-or-false (interfacesAtZero (begin e) (objectAt e k)))
     where
@@ -205,7 +207,7 @@ module _ (e : Entries) (s : sound e ≡ true) where
   begin-objects : map (objectEntry (begin e)) (liveObjects (begin e)) ≡ e .objects
   unfolding exporter-named
   begin-objects =
-      cc (all-live, map-tabulate (objectEntry (begin e)) (length (e .objects)) (objectAt e), tabulate-ext (length (e .objects)) (λ k. objectEntry (begin e) (objectAt e k)) (λ k. getD (e .objects) k noObject) entry, tabulate-getD (e .objects) noObject)
+      rw (all-live, map-tabulate) (tabulate-ext _ _ _ entry ∙ tabulate-getD (e .objects) noObject)
     where
       entry : (k : ℕ) → k < length (e .objects) → objectEntry (begin e) (objectAt e k) ≡ getD (e .objects) k noObject
       entry k b u =
@@ -248,12 +250,23 @@ module _ (e : Entries) (s : sound e ≡ true) where
   begin-interfaces : map (interfaceEntry (begin e)) (keep (liveInterface (begin e)) (begin e .interfaces)) ≡ e .interfaces
   unfolding begin
   begin-interfaces =
-      cc (keep-all (liveInterface (begin e)) (map (interfaceHeld e) (e .interfaces)) (in-every (liveInterface (begin e)) (map (interfaceHeld e) (e .interfaces)) (λ l m. let r = map-in (interfaceHeld e) (e .interfaces) m in ap (liveInterface (begin e)) (r .2) ∙ begin-live (r .0) (r .1))), map-map (interfaceEntry (begin e)) (interfaceHeld e) (e .interfaces), map-ext-in (λ i. interfaceEntry (begin e) (interfaceHeld e i)) (λ i. i) (e .interfaces) begin-interface, map-id (e .interfaces))
+      ap (map (interfaceEntry (begin e)))
+      (keep-all _ _ (in-every _ _ (λ l m. let r = map-in (interfaceHeld e) (e .interfaces) m in ap (liveInterface (begin e)) (r .2) ∙ begin-live (r .0) (r .1))))
+      ∙ map-map (interfaceEntry (begin e)) (interfaceHeld e) (e .interfaces)
+      ∙ map-ext-in _ (λ i. i) _ begin-interface
+      ∙ map-id _
 
   -- the members of a set, in the order of the objects
   begin-members : (p : PingSet) → In p (e .sets) → setEntry (begin e) (setHeld e p) .members ≡ keep (among (p .members)) (oids e)
   begin-members p m =
-      cc (all-live, keep-ext-in (λ (o : ObjectLife). among (setHeld e p .members) (o .serial)) (λ (o : ObjectLife). among (p .members) (o .oid)) (tabulate (length (e .objects)) (objectAt e)) (λ o n. let r = tabulate-in (length (e .objects)) (objectAt e) n in ap (λ (q : ObjectLife). among (setHeld e p .members) (q .serial)) (r .2) ∙ member (r .0) (r .1) ∙ ap (λ (q : ObjectLife). among (p .members) (q .oid)) (sym (r .2))), keep-map (among (p .members)) (λ (o : ObjectLife). o .oid) (tabulate (length (e .objects)) (objectAt e)), map-tabulate (λ (o : ObjectLife). o .oid) (length (e .objects)) (objectAt e), map-tabulate (λ (o : Object). o .oid) (length (e .objects)) (λ k. getD (e .objects) k noObject), tabulate-getD (e .objects) noObject)
+      rw all-live
+      (ap (map (λ (o : ObjectLife). o .oid))
+      (keep-ext-in _ (λ (o : ObjectLife). among (p .members) (o .oid)) _ (λ o n.
+      let r = tabulate-in (length (e .objects)) (objectAt e) n in
+      ap (λ (q : ObjectLife). among (setHeld e p .members) (q .serial)) (r .2) ∙ member (r .0) (r .1) ∙ ap (λ (q : ObjectLife). among (p .members) (q .oid)) (sym (r .2))))
+      ∙ sym (keep-map _ _ _)
+      ∙ ap (keep (among (p .members)))
+      (map-tabulate _ _ _ ∙ sym (map-tabulate (λ (o : Object). o .oid) _ _) ∙ ap (map (λ (o : Object). o .oid)) (tabulate-getD (e .objects) noObject)))
     where
       -- of one member
       one : (k : ℕ) → k < length (e .objects) → (q : ℕ) → In q (p .members) → eqb k (placeOf (oids e) q) ≡ eqb (objectAt e k .oid) q
@@ -265,7 +278,10 @@ module _ (e : Entries) (s : sound e ≡ true) where
       -- of all
       member : (k : ℕ) → k < length (e .objects) → among (setHeld e p .members) k ≡ among (p .members) (objectAt e k .oid)
       member k b =
-          cc (some-map (eqb k) (placeOf (oids e)) (p .members), same-test (some (λ q. eqb k (placeOf (oids e) q)) (p .members)) (among (p .members) (objectAt e k .oid)) (λ t. let r = some-in (λ q. eqb k (placeOf (oids e) q)) (p .members) t in in-some (eqb (objectAt e k .oid)) (r .1) (sym (one k b (r .0) (r .1)) ∙ r .2)) (λ t. let r = some-in (eqb (objectAt e k .oid)) (p .members) t in in-some (λ q. eqb k (placeOf (oids e) q)) (r .1) (one k b (r .0) (r .1) ∙ r .2)))
+          some-map (eqb k) (placeOf (oids e)) (p .members)
+          ∙ same-test _ _
+          (λ t. let r = some-in _ (p .members) t in in-some (eqb (objectAt e k .oid)) (r .1) (sym (one k b (r .0) (r .1)) ∙ r .2))
+          (λ t. let r = some-in _ (p .members) t in in-some (λ q. eqb k (placeOf (oids e) q)) (r .1) (one k b (r .0) (r .1) ∙ r .2))
 
   module _ (ordered : Ordered e) where
     begin-set : (p : PingSet) → In p (e .sets) → setEntry (begin e) (setHeld e p) ≡ p
@@ -280,7 +296,13 @@ module _ (e : Entries) (s : sound e ≡ true) where
     begin-sets : map (setEntry (begin e)) (keep (liveSet (begin e)) (begin e .sets)) ≡ e .sets
     unfolding begin
     begin-sets =
-        cc (keep-all (liveSet (begin e)) (map (setHeld e) (e .sets)) (in-every (liveSet (begin e)) (map (setHeld e) (e .sets)) (λ l m. let r = map-in (setHeld e) (e .sets) m in ap (liveSet (begin e)) (r .2) ∙ every-in (pingedWithin (e .clock)) (r .1) (sound-clauses .pingedRecently))), map-map (setEntry (begin e)) (setHeld e) (e .sets), map-ext-in (λ p. setEntry (begin e) (setHeld e p)) (λ p. p) (e .sets) begin-set, map-id (e .sets))
+        ap (map (setEntry (begin e)))
+        (keep-all _ _ (in-every _ _ (λ l m.
+        let r = map-in (setHeld e) (e .sets) m in
+        ap (liveSet (begin e)) (r .2) ∙ every-in (pingedWithin (e .clock)) (r .1) (sound-clauses .pingedRecently))))
+        ∙ map-map (setEntry (begin e)) (setHeld e) (e .sets)
+        ∙ map-ext-in _ (λ p. p) _ begin-set
+        ∙ map-id _
 
 -- a history that begins at sound entries has exactly these for its live entries
 pub live-begin : BeginsAt
@@ -304,7 +326,7 @@ kept-begin e s ordered =
       objects = object-serials e s;
       exported = λ o m. let r = tabulate-in (length (e .objects)) (objectAt e) m in
           rw (ap (λ (p : ObjectLife). p .exporter) (r .2))
-          (exporter-named e s (getD (e .objects) (r .0) noObject .exporter) (every-in (λ (p : Object). among (oxids e) (p .exporter)) (object-in e s (r .0) (r .1)) (sound-fields e s .objectExportersLive)));
+          (exporter-named e s _ (every-in (λ (p : Object). among (oxids e) (p .exporter)) (object-in e s (r .0) (r .1)) (sound-fields e s .objectExportersLive)));
       owned = λ l m. let r = map-in (interfaceHeld e) (e .interfaces) m in
           rw (ap (λ (p : InterfaceLife). p .object) (r .2)) (object-named e s (r .0 .object) (object-live e s (r .0) (r .1)));
       bounded = λ l m. let r = map-in (interfaceHeld e) (e .interfaces) m in

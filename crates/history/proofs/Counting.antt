@@ -19,7 +19,8 @@ use Rattle.rules.specs.Sound.{sound, held, hasInterface}
 use Rattle.rules.specs.Rules.{anyIpid, number, next, atInterfaces, withoutObjects, dropEmpty}
 use Rattle.rules.proofs.Keeps.{keeps}
 use Rattle.rules.proofs.NothingGoes.{full-kept}
-use Rattle.history.specs.History.{ObjectLife, Account, InterfaceLife, History, atZero, interfacesAtZero, exporterRemoved, unheard, objectGone, liveExporters, liveObjects, liveInterface, exporterEntry, objectEntry, interfaceEntry, live, atAccount, atAccounts, atLiveInterfaces, lived}
+use Rattle.history.specs.History.{ObjectLife, Account, InterfaceLife, History, atZero, interfacesAtZero, exporterRemoved, unheard, objectGone, liveExporters}
+use Rattle.history.specs.History.{liveObjects, liveInterface, exporterEntry, objectEntry, interfaceEntry, live, atAccount, atAccounts, atLiveInterfaces, lived}
 use Rattle.lists.proofs.Elements.{In, map-in, in-some, some-in, keep-in, in-keep, keep-ext-in, kept-changed, one-in}
 use Rattle.history.proofs.Lives.{Kept, kept-from, Bounded, still}
 use Rattle.history.proofs.Accounts.{none-left, Moves, moved-counts, moved-bounds, grants, takes, takes-all}
@@ -106,7 +107,8 @@ module _ (h : History) (k : Kept h) (meant : Guid → Bool) (f : InterfaceLife �
       ⊎-elim
       (λ t.
       let e : o .serial ≡ l .object = sym (eqb-true (l .object) (o .serial) t) in
-      (λ u. not (atZero l) && in-some (λ (p : ObjectLife). eqb (p .serial) (l .object)) m (eq-eqb (o .serial) (l .object) e) u && eq-eqb (o .oid) (interfaceEntry h l .object) (sym (owner-oid h k l o m e)) u)
+      let live = in-some (λ (p : ObjectLife). eqb (p .serial) (l .object)) m (eq-eqb _ _ e) in
+      (λ u. not (atZero l) && live u && eq-eqb (o .oid) (interfaceEntry h l .object) (sym (owner-oid h k l o m e)) u)
       ∙ and-true (not (atZero l) && true)
       ∙ and-true (not (atZero l))
       ∙ sym (ap (λ (b : Bool). b && not (atZero l)) t))
@@ -147,7 +149,11 @@ module _ (h : History) (k : Kept h) (meant : Guid → Bool) (f : InterfaceLife �
   -- the objects that have an interface left
   change-objects : liveObjects (atLiveInterfaces meant f h) ≡ keep (λ o. hasInterface leftEntries (objectEntry h o)) (liveObjects h)
   change-objects =
-      cc (keep-ext-in (λ o. not (objectGone (atLiveInterfaces meant f h) o)) (λ o. not (objectGone h o) && hasInterface leftEntries (objectEntry h o)) (h .objects) (λ o m. dropped (interfacesAtZero h o) (interfacesAtZero (atLiveInterfaces meant f h) o) (exporterRemoved h o) (unheard h o) (hasInterface leftEntries (objectEntry h o)) (λ t. change-zero o ∙ every-mono (λ (l : InterfaceLife). not (eqb (l .object) (o .serial)) || atZero l) (λ l. not (eqb (l .object) (o .serial)) || atZero (change l)) (λ l. zero-stays o l) (h .interfaces) t) (λ t. change-served o (in-keep (λ p. not (objectGone h p)) m (ap not t)))), keep-keep (λ o. hasInterface leftEntries (objectEntry h o)) (λ o. not (objectGone h o)) (h .objects))
+      keep-ext-in _ _ _ (λ o m.
+      dropped (interfacesAtZero h o) _ (exporterRemoved h o) (unheard h o) _
+      (λ t. change-zero o ∙ every-mono _ _ (zero-stays o) (h .interfaces) t)
+      (λ t. change-served o (in-keep (λ p. not (objectGone h p)) m (ap not t))))
+      ∙ sym (keep-keep _ _ _)
     where
       dropped : (z z′ r u s : Bool) → (z ≡ true → z′ ≡ true) → ((z || r || u) ≡ false → not z′ ≡ s) → not (z′ || r || u) ≡ (not (z || r || u) && s)
       dropped true z′ r u s a b = ap (λ (c : Bool). not (c || r || u)) (a refl)

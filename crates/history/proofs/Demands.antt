@@ -95,7 +95,7 @@ module _ (h : History) (k : Kept h) where
       whole : (l : InterfaceLife) (n : ℕ) → Bounded l → eqb (getD (map remaining (l .accounts)) n 0 + accountOf n l .taken) (accountOf n l .granted) ≡ true
       whole l n b =
           let c = leb-true (accountOf n l .taken) (accountOf n l .granted) (every-at-or covered (l .accounts) noAccount n refl (b .each)) in
-          eq-eqb _ (accountOf n l .granted) (ap (λ (m : ℕ). m + accountOf n l .taken) (remaining-at n (l .accounts)) ∙ (let q : accountOf n l .granted - accountOf n l .taken + accountOf n l .taken ≡ accountOf n l .granted = omega arith in q))
+          eq-eqb _ (accountOf n l .granted) (let q = remaining-at n (l .accounts) in omega arith)
 
   -- a life is there exactly if it is not gone
   there : (o : ObjectLife) → In o (h .objects) → (isLiveObject (live h) (o .oid) && isLatest h o) ≡ not (objectGone h o)

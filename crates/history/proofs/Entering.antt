@@ -19,7 +19,9 @@ use Rattle.rules.specs.Entries.{Object, Interface, Entries, ipids, withExporter
 use Rattle.rules.specs.Calls.{editing, enterExporter, enterObject, enterInterface}
 use Rattle.rules.specs.Sound.{sound}
 use Rattle.rules.specs.Rules.{enteredCounts, number, next, refusals, isLiveExporter, isLiveObject}
-use Rattle.history.specs.History.{ExporterLife, ObjectLife, Account, InterfaceLife, History, remaining, atZero, interfacesAtZero, exporterRemoved, unheard, objectGone, liveExporters, liveObjects, liveInterface, liveSet, noExporterLife, noObjectLife, exporterEntry, objectEntry, interfaceEntry, setEntry, live, withExporterLives, withObjectLives, withInterfaceLives, noAccount, enteredInterface, exporterSerial, objectSerial, lived}
+use Rattle.history.specs.History.{ExporterLife, ObjectLife, Account, InterfaceLife, History, remaining, atZero, interfacesAtZero, exporterRemoved, unheard, objectGone}
+use Rattle.history.specs.History.{liveExporters, liveObjects, liveInterface, liveSet, noExporterLife, noObjectLife, exporterEntry, objectEntry, interfaceEntry, setEntry, live}
+use Rattle.history.specs.History.{withExporterLives, withObjectLives, withInterfaceLives, noAccount, enteredInterface, exporterSerial, objectSerial, lived}
 use Rattle.lists.proofs.Elements.{In, in-some, in-none, keep-in, in-last, snoc-in, map-ext-in, keep-ext-in, first-sole, some-sole, one-in, sole-by}
 use Rattle.history.proofs.Steps.{interfacesOver, setsOver, clock-live, now-heard, Step, stepped}
 use Rattle.history.proofs.Lives.{serialOfExporter, serialOfObject, serials-snoc, named-snoc, life-found, life-found-snoc, bounded-entered, Kept}
@@ -50,7 +52,10 @@ module _ (h : History) (k : Kept h) (n : ExporterLife) (s : n .serial ≡ length
   -- each names the exporter that it named
   exporter-entries : map (objectEntry withExporter) (liveObjects withExporter) ≡ map (objectEntry h) (liveObjects h)
   exporter-entries =
-      cc (exporter-objects, map-ext-in (objectEntry withExporter) (objectEntry h) (liveObjects h) (λ o m u. record { oid = o .oid; exporter = (ap (λ (p : ExporterLife). p .oxid) (life-found-snoc serialOfExporter noExporterLife (h .exporters) n (o .exporter) (k .exporters) s (k .exported o (live-object h m .0)))) u; noping = o .noping; heard = o .heard }))
+      rw exporter-objects
+      (map-ext-in _ _ _ (λ o m u.
+      let x = life-found-snoc serialOfExporter noExporterLife (h .exporters) n (o .exporter) (k .exporters) s (k .exported o (live-object h m .0)) in
+      record { oid = o .oid; exporter = x u .oxid; noping = o .noping; heard = o .heard }))
 
   -- the live entries with the exporter
   pub exporter-entered : live withExporter ≡ withExporters (live h .exporters ++ (exporterEntry n ∷ [])) (live h)
@@ -364,7 +369,7 @@ unfolding number refusals
 object-accepted e o x i iid n np a =
     let r = passed _ 3 _ (omega arith) a in
     let s = passed _ 4 _ (omega arith) (r .1) in
-    (or-right (eqb o 0) (isLiveObject e o) (or-left (eqb o 0 || isLiveObject e o) (sameGuid i nil || some (sameGuid i) (ipids e)) (r .0)), not-false (isLiveExporter e x) (s .0), passed _ 7 _ (omega arith) (s .1) .0)
+    (or-right (eqb o 0) _ (or-left _ (sameGuid i nil || some (sameGuid i) (ipids e)) (r .0)), not-false _ (s .0), passed _ 7 _ (omega arith) (s .1) .0)
 
 -- enter object
 pub object-step : (h : History) → Kept h → (o x : ℕ) (i iid : Guid) (n : ℕ) (np : Bool) → number (editing (enterObject o x i iid n np)) (live h) ≡ 0 → Step (editing (enterObject o x i iid n np)) h

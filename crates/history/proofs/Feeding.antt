@@ -4,7 +4,8 @@ use mathlib.Core.Bool.{Bool, true, false, cond}
 use lib.Dec.{eqb}
 use borrow.Author.Tests.{eqb-true}
 use Rattle.kinds.proofs.Refusing.{by-test}
-use Rattle.rules.specs.Calls.{Call, starting, looking, editing, reset, enterExporter, removeExporter, enterObject, enterInterface, add, release, dropClient, countList, simplePing, complexPing, clock, resolve, resolveFiltered, census, members, nextStop, writeSnapshot, loadSnapshot}
+use Rattle.rules.specs.Calls.{Call, starting, looking, editing, reset, enterExporter, removeExporter, enterObject, enterInterface}
+use Rattle.rules.specs.Calls.{add, release, dropClient, countList, simplePing, complexPing, clock, loadSnapshot}
 use Rattle.rules.specs.Items.{itemsOf}
 use Rattle.rules.specs.Snapshot.{entriesOf}
 use Rattle.rules.specs.Rules.{number, next}

@@ -16,11 +16,14 @@ use Rattle.lists.proofs.Distinct.{Decides, eqb-decides, same-eq}
 use Rattle.lists.specs.Lists.{holding}
 use Rattle.lists.proofs.Guids.{guid-decides}
 use Rattle.lists.proofs.Elements.{In, every-in, in-every, in-some, some-in, in-keep, map-in, snoc-in, one-in, first-sole}
-use Rattle.rules.specs.Calls.{Call, starting, looking, editing, Counting, adding, releasing, reset, enterExporter, removeExporter, enterObject, enterInterface, add, release, dropClient, countList, simplePing, complexPing, clock, resolve, resolveFiltered, census, members, nextStop, writeSnapshot, loadSnapshot}
+use Rattle.rules.specs.Calls.{Call, starting, looking, editing, Counting, adding, releasing, enterExporter, removeExporter, enterObject}
+use Rattle.rules.specs.Calls.{enterInterface, add, release, dropClient, countList, simplePing, complexPing, clock, members}
 use Rattle.rules.specs.Items.{Item, itemsOf, itemCall}
 use Rattle.rules.specs.Rules.{anyIpid, number}
 use Rattle.rules.proofs.SoundLaws.{none, _and_}
-use Rattle.history.specs.History.{ExporterLife, ObjectLife, InterfaceLife, SetLife, History, begins, atZero, interfacesAtZero, exporterRemoved, unheardSince, unheard, objectGone, liveObjects, liveInterface, liveSet, noObjectLife, live, withSetLives, removedLife, heardLife, atAccount, atAccounts, granting, taking, takingAll, pingedLife, changed, atLiveInterfaces, atLiveSet, objectSerials, isMember, pingLives, startSet, countLived, itemFed, itemsFed, lived, feed, feedAll, along, implies, staysGone}
+use Rattle.history.specs.History.{ExporterLife, ObjectLife, InterfaceLife, SetLife, History, begins, atZero, interfacesAtZero, exporterRemoved, unheardSince, unheard, objectGone, liveObjects}
+use Rattle.history.specs.History.{liveInterface, liveSet, noObjectLife, live, withSetLives, removedLife, heardLife, atAccount, atAccounts, granting, taking, takingAll, pingedLife, changed}
+use Rattle.history.specs.History.{atLiveInterfaces, atLiveSet, objectSerials, isMember, pingLives, startSet, countLived, itemFed, itemsFed, lived, feed, feedAll, along, implies, staysGone}
 use Rattle.history.specs.Runs.{unbegun, historyOf, noneBegins, StaysGone}
 use Rattle.history.proofs.Lives.{Kept, serialOfObject}
 use Rattle.history.proofs.Beginning.{kept-fresh}

@@ -1,6 +1,6 @@
 -- Distinct live identifiers mean one live life for each.
 use Prim.Native.Nat.{ℕ}
-use mathlib.Core.Path.{_≡_, refl, sym, ap, _∙_}
+use mathlib.Core.Path.{_≡_, refl, ap, _∙_}
 use mathlib.Core.Bool.{Bool, true, false, not}
 use mathlib.Core.List.{List, map}
 use borrow.Author.Tests.{not-true}
@@ -13,7 +13,8 @@ use Rattle.lists.proofs.Elements.{In, keep-in, Sole, kept-sole, sole-by, sole-k
 use Rattle.rules.specs.Entries.{Exporter, Object, Interface, PingSet}
 use Rattle.rules.specs.Rules.{isLiveExporter, isLiveObject, isLiveSet}
 use Rattle.rules.proofs.ByRow.{oxids-distinct, oids-distinct, sets-distinct, interfaces-distinct}
-use Rattle.history.specs.History.{ExporterLife, ObjectLife, InterfaceLife, SetLife, History, objectGone, liveExporters, liveObjects, liveInterface, liveSet, noObjectLife, exporterEntry, objectEntry, interfaceEntry, setEntry, live, objectSerials}
+use Rattle.history.specs.History.{ExporterLife, ObjectLife, InterfaceLife, SetLife, History, objectGone, liveExporters, liveObjects, liveInterface}
+use Rattle.history.specs.History.{liveSet, noObjectLife, exporterEntry, objectEntry, interfaceEntry, setEntry, live, objectSerials}
 use Rattle.history.proofs.Lives.{Kept, serialOfObject, life-found}
 
 -- a live object is an object that is not gone
@@ -24,7 +25,7 @@ live-object h {o} m = let r = keep-in (λ p. not (objectGone h p)) (h .objects) 
 pub among-oids : (h : History) → distinct eqb (map (λ (o : ObjectLife). o .oid) (liveObjects h)) ≡ true → (r : ObjectLife → Bool) (o : ObjectLife) → In o (liveObjects h)
     → among (map (λ (p : ObjectLife). p .oid) (keep r (liveObjects h))) (o .oid) ≡ r o
 among-oids h u r o m =
-    cc (some-map (eqb (o .oid)) (λ (p : ObjectLife). p .oid) (keep r (liveObjects h)), kept-sole (λ (p : ObjectLife). eqb (o .oid) (p .oid)) (sole-key eqb eqb-decides (λ (p : ObjectLife). p .oid) (o .oid) u m refl) r)
+    some-map _ _ _ ∙ kept-sole (λ (p : ObjectLife). eqb (o .oid) (p .oid)) (sole-key eqb eqb-decides (λ (p : ObjectLife). p .oid) (o .oid) u m refl) r
 
 module _ (h : History) (k : Kept h) where
   -- ---- the life of a live identifier
@@ -71,4 +72,4 @@ module _ (h : History) (k : Kept h) where
   -- of the live objects with one of these OIDs: a serial is one where its object's OID is one of these
   pub among-serials : (ids : List ℕ) (o : ObjectLife) → In o (liveObjects h) → among (objectSerials h ids) (o .serial) ≡ among ids (o .oid)
   among-serials ids o m =
-      cc (some-map (eqb (o .serial)) serialOfObject (keep (λ (p : ObjectLife). among ids (p .oid)) (liveObjects h)), kept-sole (λ (p : ObjectLife). eqb (o .serial) (p .serial)) (sole-key eqb eqb-decides serialOfObject (o .serial) one-serial m refl) (λ p. among ids (p .oid)))
+      some-map _ serialOfObject _ ∙ kept-sole _ (sole-key eqb eqb-decides serialOfObject (o .serial) one-serial m refl) (λ p. among ids (p .oid))

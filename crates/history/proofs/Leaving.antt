@@ -16,7 +16,8 @@ use Rattle.rules.specs.Calls.{editing, removeExporter, clock}
 use Rattle.rules.specs.Sound.{sound, heardWithin, pingedWithin}
 use Rattle.rules.specs.Rules.{number, next, refusals, withoutObjects}
 use Rattle.rules.proofs.LeavingKeeps.{clock-next}
-use Rattle.history.specs.History.{ExporterLife, ObjectLife, InterfaceLife, SetLife, History, atZero, interfacesAtZero, exporterRemoved, unheard, objectGone, liveExporters, liveObjects, liveInterface, liveSet, noExporterLife, exporterEntry, objectEntry, interfaceEntry, setEntry, live, atClock, withExporterLives, removedLife, lived}
+use Rattle.history.specs.History.{ExporterLife, ObjectLife, InterfaceLife, SetLife, History, atZero, interfacesAtZero, exporterRemoved, unheard, objectGone, liveExporters, liveObjects}
+use Rattle.history.specs.History.{liveInterface, liveSet, noExporterLife, exporterEntry, objectEntry, interfaceEntry, setEntry, live, atClock, withExporterLives, removedLife, lived}
 use Rattle.lists.proofs.Elements.{In, some-in, keep-in, map-ext-in, keep-ext-in, kept-changed, first-unread, first-sole, some-sole, kept-sole}
 use Rattle.history.proofs.Lives.{serialOfExporter, named-sole, Kept, kept-from, still}
 use Rattle.history.proofs.Identities.{live-sole, owner-oid, one-oid, among-oids}
@@ -129,12 +130,13 @@ module _ (h : History) (k : Kept h) (t : ℕ) (later : h .clock ≤ t) where
   -- the objects that are in time
   clock-objects : liveObjects (atClock t h) ≡ keep (λ o. heardWithin t (objectEntry h o)) (liveObjects h)
   clock-objects =
-      cc (keep-ext (λ o. not (objectGone (atClock t h) o)) (λ o. not (objectGone h o) && heardWithin t (objectEntry h o)) (λ o. later-gone (interfacesAtZero h o) (exporterRemoved h o) (o .noping) (leb 360 (h .clock - o .heard)) (leb 360 (t - o .heard)) (overdue-later (h .clock) t (o .heard) later)) (h .objects), keep-keep (λ o. heardWithin t (objectEntry h o)) (λ o. not (objectGone h o)) (h .objects))
+      keep-ext _ _ (λ o. later-gone (interfacesAtZero h o) (exporterRemoved h o) (o .noping) _ _ (overdue-later (h .clock) t (o .heard) later)) (h .objects) ∙ sym (keep-keep _ _ _)
 
   -- the sets that are
   clock-sets : keep (pingedWithin t) (setsOver (h .clock) (liveObjects h) (h .sets)) ≡ setsOver t (liveObjects h) (h .sets)
   clock-sets =
-      cc (keep-map (pingedWithin t) (setEntry h) (keep (liveSet h) (h .sets)), keep-keep (λ s. pingedWithin t (setEntry h s)) (liveSet h) (h .sets), keep-ext (λ s. liveSet h s && pingedWithin t (setEntry h s)) (λ s. pingedWithin t (setEntry h s)) (λ s. both-later (leb 360 (h .clock - s .pinged)) (leb 360 (t - s .pinged)) (overdue-later (h .clock) t (s .pinged) later)) (h .sets))
+      keep-map (pingedWithin t) (setEntry h) _
+      ∙ ap (map (setEntry h)) (keep-keep _ _ (h .sets) ∙ keep-ext _ _ (λ s. both-later _ _ (overdue-later (h .clock) t (s .pinged) later)) (h .sets))
 
   -- the live entries at the later time
   clock-entries : live (atClock t h) ≡ withoutObjects (heardWithin t) (withClock t (withSets (keep (pingedWithin t) (live h .sets)) (live h)))
@@ -220,13 +222,16 @@ module _ (h : History) (k : Kept h) (x : ℕ) where
   -- the objects of other exporters
   removal-objects : liveObjects withoutExporter ≡ keep (λ o. otherExporter (objectEntry h o)) (liveObjects h)
   removal-objects =
-      cc (keep-ext-in (λ o. not (objectGone withoutExporter o)) (λ o. not (objectGone h o) && otherExporter (objectEntry h o)) (h .objects) removal-gone, keep-keep (λ o. otherExporter (objectEntry h o)) (λ o. not (objectGone h o)) (h .objects))
+      keep-ext-in _ _ _ removal-gone ∙ sym (keep-keep _ _ _)
 
   -- the other exporters
   removal-exporters : map exporterEntry (liveExporters withoutExporter) ≡ keep (λ (p : Exporter). not (eqb x (p .oxid))) (live h .exporters)
   unfolding live
   removal-exporters =
-      cc (kept-changed removal (λ p. not (p .removed)) (λ p. not (p .removed)) exporterEntry exporterEntry (λ p. not (eqb x (p .oxid))) (λ p. p) (h .exporters) (λ p m. ap not (removal-removed p) ∙ nor (eqb x (p .oxid)) (p .removed)) (λ p m a b. ap exporterEntry (ap (λ (c : Bool). cond c (removedLife p) p) (not-true (eqb x (p .oxid)) b))), map-id (keep (λ (p : Exporter). not (eqb x (p .oxid))) (map exporterEntry (liveExporters h))))
+      kept-changed removal (λ p. not (p .removed)) _ exporterEntry exporterEntry (λ p. not (eqb x (p .oxid))) (λ p. p) (h .exporters)
+      (λ p m. ap not (removal-removed p) ∙ nor (eqb x (p .oxid)) (p .removed))
+      (λ p m a b. ap (λ (c : Bool). exporterEntry (cond c (removedLife p) p)) (not-true (eqb x (p .oxid)) b))
+      ∙ map-id _
     where
       nor : (a b : Bool) → not (a || b) ≡ (not b && not a)
       nor true b = sym (and-false (not b))

@@ -19,7 +19,9 @@ use Rattle.rules.specs.Sound.{sound}
 use Rattle.rules.specs.Rules.{number, next, refusals, isLiveSet, noSet, setOf, tooMany, atSet, ping, newMembers, makeSet}
 use Rattle.rules.proofs.Groups.{grouped, sound-grouped}
 use Rattle.rules.proofs.PingingKeeps.{set-made}
-use Rattle.history.specs.History.{remaining, ObjectLife, SetLife, History, atZero, interfacesAtZero, exporterRemoved, unheard, objectGone, liveExporters, liveObjects, liveInterface, liveSet, noObjectLife, exporterEntry, objectEntry, interfaceEntry, setEntry, live, withObjectLives, withSetLives, heardLife, pingedLife, changed, atLiveSet, objectSerials, isMember, pingLives, startSet, lived}
+use Rattle.history.specs.History.{remaining, ObjectLife, SetLife, History, atZero, interfacesAtZero, exporterRemoved, unheard, objectGone, liveExporters}
+use Rattle.history.specs.History.{liveObjects, liveInterface, liveSet, noObjectLife, exporterEntry, objectEntry, interfaceEntry, setEntry, live, withObjectLives}
+use Rattle.history.specs.History.{withSetLives, heardLife, pingedLife, changed, atLiveSet, objectSerials, isMember, pingLives, startSet, lived}
 use Rattle.lists.proofs.Elements.{In, map-in, snoc-in, in-none, keep-in, in-keep, keep-ext-in, changed-kept, first-unread, Sole, first-sole, some-sole, sole-keep, sole-map}
 use Rattle.history.proofs.Lives.{Kept, kept-from, serialOfObject, still}
 use Rattle.history.proofs.Identities.{live-object, found-set, one-oid, among-oids, among-serials}
@@ -77,7 +79,9 @@ module _ (h : History) (u : distinct eqb (map (λ (p : ObjectLife). p .oid) (liv
   member-same : (o : ObjectLife) → In o (liveObjects h) → isMember h s o ≡ among (setOf (live h) s .members) (o .oid)
   unfolding live
   member-same o m =
-      cc (some-sole (λ (q : SetLife). eqb s (q .number) && liveSet h q) (sole-keep (λ (q : SetLife). eqb s (q .number)) (liveSet h) w) (λ q. among (q .members) (o .serial)), among-oids h u (λ (q : ObjectLife). among (p .members) (q .serial)) o m, first-sole (λ (q : PingSet). eqb s (q .number)) noSet (sole-map (λ (q : PingSet). eqb s (q .number)) (setEntry h) w))
+      some-sole _ (sole-keep _ (liveSet h) w) (λ q. among (q .members) (o .serial))
+      ∙ sym (among-oids h u (λ (q : ObjectLife). among (p .members) (q .serial)) o m)
+      ∙ ap (λ (q : PingSet). among (q .members) (o .oid)) (sym (first-sole _ noSet (sole-map (λ (q : PingSet). eqb s (q .number)) (setEntry h) w)))
 
   -- a live member is heard now
   abbrev hearing : ObjectLife → ObjectLife
@@ -105,7 +109,7 @@ module _ (h : History) (u : distinct eqb (map (λ (p : ObjectLife). p .oid) (liv
   -- the live objects are the same, some heard now
   heard-objects : liveObjects withHeard ≡ map hearing (liveObjects h)
   heard-objects =
-      cc (keep-map (λ o. not (objectGone withHeard o)) hearing (h .objects), keep-ext (λ o. not (objectGone withHeard (hearing o))) (λ o. not (objectGone h o)) (λ o. ap not (hearing-gone o)) (h .objects))
+      keep-map _ hearing _ ∙ ap (map hearing) (keep-ext _ _ (λ o. ap not (hearing-gone o)) (h .objects))
 
   -- the interfaces are the same
   heard-interfaces : interfacesOver (map hearing (liveObjects h)) (map hearing (h .objects)) (h .interfaces) ≡ interfacesOver (liveObjects h) (h .objects) (h .interfaces)
@@ -291,7 +295,8 @@ unfolding live some
 start-entries h =
     ap (λ (ss : List PingSet). withNext (h .next + 1) (withSets ss (live h)))
     (ap (map (setEntry h))
-    (keep-snoc (liveSet h) (h .sets) _ ∙ ap (λ (b : Bool). keep (liveSet h) (h .sets) ++ cond (not b) (record { number = h .next; sequence = 0; pinged = h .clock; members = [] } ∷ []) []) (now-heard (h .clock)))
+    (keep-snoc (liveSet h) (h .sets) _
+    ∙ ap (λ (b : Bool). keep (liveSet h) (h .sets) ++ cond (not b) (record { number = h .next; sequence = 0; pinged = h .clock; members = [] } ∷ []) []) (now-heard (h .clock)))
     ∙ map-append (setEntry h) (keep (liveSet h) (h .sets)) _
     ∙ ap (λ (ms : List ℕ). map (setEntry h) (keep (liveSet h) (h .sets)) ++ (record { number = h .next; sequence = 0; pinged = h .clock; members = ms } ∷ []))
     (ap (map (λ (o : ObjectLife). o .oid)) (keep-none (λ (o : ObjectLife). false) (liveObjects h) (in-none (λ (o : ObjectLife). false) (liveObjects h) (λ o m. refl)))))

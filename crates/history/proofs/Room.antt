@@ -19,7 +19,8 @@ use Rattle.references.specs.References.{isCustom, isExtended, objectAnswer, ele
 use Rattle.lists.proofs.Tests.{below-or-not}
 use Rattle.rules.specs.Entries.{Exporter, Entries, listsLength, exporterPlaces, objectPlaces, interfacePlaces, setPlaces}
 use Rattle.rules.proofs.ListsLength.{bytes-joined}
-use Rattle.rules.specs.Calls.{Call, starting, looking, editing, reset, enterExporter, removeExporter, enterObject, enterInterface, add, release, dropClient, countList, simplePing, complexPing, clock, resolve, resolveFiltered, census, members, nextStop, writeSnapshot, loadSnapshot}
+use Rattle.rules.specs.Calls.{Call, starting, looking, editing, reset, enterExporter, removeExporter, enterObject, enterInterface, add, release, dropClient}
+use Rattle.rules.specs.Calls.{countList, simplePing, complexPing, clock, resolve, resolveFiltered, census, members, nextStop, writeSnapshot, loadSnapshot}
 use Rattle.rules.specs.Rules.{refusals, number}
 use Rattle.rules.specs.Contract.{Memory}
 use Rattle.table_view.specs.View.{view}

@@ -11,7 +11,7 @@ use Rattle.kinds.specs.declared.Guid.{Guid}
 use Rattle.kinds.specs.Refusals.{order}
 use Rattle.lists.proofs.Tests.{true-or-false, same-or-not, and-left, and-right}
 use Rattle.rules.specs.Entries.{Entries}
-use Rattle.rules.specs.Calls.{Call, starting, looking, editing, reset, enterExporter, removeExporter, enterObject, enterInterface, add, release, dropClient, countList, simplePing, complexPing, clock, resolve, resolveFiltered, census, members, nextStop, writeSnapshot, loadSnapshot, Reply}
+use Rattle.rules.specs.Calls.{Call, starting, looking, editing, reset, release, countList, clock, loadSnapshot, Reply}
 use Rattle.rules.specs.Sound.{sound}
 use Rattle.rules.specs.Rules.{refusals, number, next, results, refusedReply, acceptedReply, reply, releaseValues, clockValues}
 use Rattle.rules.specs.Contract as contract

@@ -9,7 +9,8 @@ use Rattle.kinds.specs.declared.Guid.{Guid}
 use Rattle.lists.specs.Lists.{keep, some, every, firstOr, firstIndex, tabulate, among, holding}
 use Rattle.lists.specs.Guids.{nil, sameGuid}
 use Rattle.rules.specs.Entries.{Exporter, Object, Interface, PingSet, Entries, fresh, oxids, oids}
-use Rattle.rules.specs.Calls.{Call, starting, looking, editing, Counting, adding, releasing, reset, enterExporter, removeExporter, enterObject, enterInterface, add, release, dropClient, countList, simplePing, complexPing, clock, resolve, resolveFiltered, census, members, nextStop, writeSnapshot, loadSnapshot, Reply}
+use Rattle.rules.specs.Calls.{Call, starting, looking, editing, Counting, adding, releasing, reset, enterExporter, removeExporter, enterObject}
+use Rattle.rules.specs.Calls.{enterInterface, add, release, dropClient, countList, simplePing, complexPing, clock, members, loadSnapshot, Reply}
 use Rattle.rules.specs.Items.{Item, itemsOf, itemCall}
 use Rattle.rules.specs.Contract.{lengthsOnly}
 use Rattle.rules.specs.Snapshot.{entriesOf}

@@ -11,13 +11,15 @@ use Rattle.bindings.specs.Bindings.{joined}
 use Rattle.lists.specs.Lists.{keep, every, distinct, some, tabulate}
 use Rattle.lists.specs.Guids.{sameGuid}
 use Rattle.rules.specs.Entries.{Exporter, Object, Interface, PingSet, Entries, fresh, oxids, oids, setNumbers, ipids, Ordered, countOf, exporterPlaces, objectPlaces, interfacePlaces, setPlaces}
-use Rattle.rules.specs.Calls.{Call, starting, looking, editing, reset, enterExporter, removeExporter, enterObject, enterInterface, add, release, dropClient, countList, simplePing, complexPing, clock, resolve, resolveFiltered, census, members, nextStop, writeSnapshot, loadSnapshot, Reply}
+use Rattle.rules.specs.Calls.{Call, starting, looking, editing, enterExporter, removeExporter, enterObject, enterInterface}
+use Rattle.rules.specs.Calls.{add, release, dropClient, countList, simplePing, complexPing, clock, members, Reply}
 use Rattle.rules.specs.Items.{itemAt, itemCount, itemCall}
 use Rattle.rules.specs.Sound.{sound}
 use Rattle.rules.specs.Rules.{isLiveExporter, isLiveObject, interfaceOf, refusals, number, releaseValues, clockValues}
 use Rattle.rules.specs.Contract.{Memory}
 use Rattle.table_view.specs.View.{view, soundMemory, Performed}
-use Rattle.history.specs.History.{ObjectLife, InterfaceLife, History, begin, begins, interfacesAtZero, exporterRemoved, unheard, liveInterface, live, feed, feedAll, replies, numbers, staysGone, accountOf}
+use Rattle.history.specs.History.{ObjectLife, InterfaceLife, History, begin, begins, interfacesAtZero, exporterRemoved}
+use Rattle.history.specs.History.{unheard, liveInterface, live, feed, feedAll, replies, numbers, staysGone, accountOf}
 
 -- ---- the sentences of demand 3, as tests
 

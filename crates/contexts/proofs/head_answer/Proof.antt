@@ -1,52 +1,65 @@
-use mathlib.Core.Path.{sym, _∙_}
+-- `head_answer`: the rows of `headAnswer`, in their order.
+use Prim.Native.Nat.{ℕ, _<_, _≤_}
+use mathlib.Core.Path.{_≡_, sym, _∙_}
+use mathlib.Core.List.{List}
 use borrow.Author.Tests.{lt-ltb, le-ltb}
+use lib.ListN.{length}
 use Rattle.kinds.specs.Refusals.{order}
 use Rattle.kinds.proofs.Refusing.{ne-differ, eq-differ, last-row}
-use Rattle.contexts.specs.Contexts.{headAnswer}
+use Rattle.fields.specs.Fields.{field}
+use Rattle.contexts.specs.Contexts.{extentsAnswer, headAnswer}
 use borrow.Author.Needs.{needs}
 use Rattle.contexts.proofs.head_answer.Statement.{statement}
 use Rattle.contexts.proofs.head_answer.Tie as tie
 
-returns : tie.Need-returns
-unfolding headAnswer order
-returns c = simp (lt-ltb _ _ (c .if1 .taken))
+module _ (s : List ℕ) where
+  major-short : length s < 2 → 13 ≡ headAnswer s
+  unfolding headAnswer order
+  major-short h = simp (lt-ltb _ _ h)
 
-returns-2 : tie.Need-returns-2
-unfolding headAnswer order
-returns-2 c = simp (le-ltb _ _ (c .before .before .if1 .left), ne-differ _ _ (λ z. c .if2 .taken (c .before .read-u16 .ensures ∙ z)))
+  module _ (a : 2 ≤ length s) (x : ℕ) (major : x ≡ field s 0 2) where
+    major-other : (x ≡ 1 → ⊥) → 14 ≡ headAnswer s
+    unfolding headAnswer order
+    major-other h = simp (le-ltb _ _ a, ne-differ _ _ (λ z. h (major ∙ z)))
 
-returns-3 : tie.Need-returns-3
-unfolding headAnswer order
-returns-3 c = simp (le-ltb _ _ (c .before .before .before .if1 .left), eq-differ _ _ (sym (c .before .before .read-u16 .ensures) ∙ c .before .if2 .left), lt-ltb _ _ (c .if3 .taken))
+    module _ (d : x ≡ 1) where
+      minor-short : length s < 4 → 13 ≡ headAnswer s
+      unfolding headAnswer order
+      minor-short h = simp (le-ltb _ _ a, eq-differ _ _ (sym major ∙ d), lt-ltb _ _ h)
 
-returns-4 : tie.Need-returns-4
-unfolding headAnswer order
-returns-4 c = simp (le-ltb _ _ (c .before .before .before .before .before .if1 .left), eq-differ _ _ (sym (c .before .before .before .before .read-u16 .ensures) ∙ c .before .before .before .if2 .left), le-ltb _ _ (c .before .before .if3 .left), ne-differ _ _ (λ z. c .if4 .taken (c .before .read-u162 .ensures ∙ z)))
+      module _ (b : 4 ≤ length s) (y : ℕ) (minor : y ≡ field s 2 2) where
+        minor-other : (y ≡ 1 → ⊥) → 14 ≡ headAnswer s
+        unfolding headAnswer order
+        minor-other h = simp (le-ltb _ _ a, eq-differ _ _ (sym major ∙ d), le-ltb _ _ b, ne-differ _ _ (λ z. h (minor ∙ z)))
 
-returns-5 : tie.Need-returns-5
-unfolding headAnswer order
-returns-5 c = simp (le-ltb _ _ (c .before .before .before .before .before .before .if1 .left), eq-differ _ _ (sym (c .before .before .before .before .before .read-u16 .ensures) ∙ c .before .before .before .before .if2 .left), le-ltb _ _ (c .before .before .before .if3 .left), eq-differ _ _ (sym (c .before .before .read-u162 .ensures) ∙ c .before .if4 .left), lt-ltb _ _ (c .if5 .taken))
+        module _ (e : y ≡ 1) where
+          flags-short : length s < 24 → 13 ≡ headAnswer s
+          unfolding headAnswer order
+          flags-short h = simp (le-ltb _ _ a, eq-differ _ _ (sym major ∙ d), le-ltb _ _ b, eq-differ _ _ (sym minor ∙ e), lt-ltb _ _ h)
 
-returns-6 : tie.Need-returns-6
-unfolding headAnswer order
-returns-6 c = simp (le-ltb _ _ (c .before .before .before .before .before .before .before .before .if1 .left), eq-differ _ _ (sym (c .before .before .before .before .before .before .before .read-u16 .ensures) ∙ c .before .before .before .before .before .before .if2 .left), le-ltb _ _ (c .before .before .before .before .before .if3 .left), eq-differ _ _ (sym (c .before .before .before .before .read-u162 .ensures) ∙ c .before .before .before .if4 .left), le-ltb _ _ (c .before .before .if5 .left), ne-differ _ _ (λ z. c .if6 .taken (c .before .read-u32 .ensures ∙ z)))
+          module _ (l : 24 ≤ length s) (n : ℕ) (flags : n ≡ field s 20 4) where
+            flags-other : (n ≡ 2 → ⊥) → 14 ≡ headAnswer s
+            unfolding headAnswer order
+            flags-other h =
+                simp (le-ltb _ _ a, eq-differ _ _ (sym major ∙ d), le-ltb _ _ b, eq-differ _ _ (sym minor ∙ e), le-ltb _ _ l, ne-differ _ _ (λ z. h (flags ∙ z)))
 
-returns-7 : tie.Need-returns-7
-unfolding headAnswer order
-returns-7 c = simp (le-ltb _ _ (c .before .before .before .before .before .before .before .before .before .if1 .left), eq-differ _ _ (sym (c .before .before .before .before .before .before .before .before .read-u16 .ensures) ∙ c .before .before .before .before .before .before .before .if2 .left), le-ltb _ _ (c .before .before .before .before .before .before .if3 .left), eq-differ _ _ (sym (c .before .before .before .before .before .read-u162 .ensures) ∙ c .before .before .before .before .if4 .left), le-ltb _ _ (c .before .before .before .if5 .left), eq-differ _ _ (sym (c .before .before .read-u32 .ensures) ∙ c .before .if6 .left)) (c .extents-answer .ensures ∙ sym (last-row _))
+            extents-next : n ≡ 2 → (r : ℕ) → r ≡ extentsAnswer s → r ≡ headAnswer s
+            unfolding headAnswer order
+            extents-next f r h =
+                simp (le-ltb _ _ a, eq-differ _ _ (sym major ∙ d), le-ltb _ _ b, eq-differ _ _ (sym minor ∙ e), le-ltb _ _ l, eq-differ _ _ (sym flags ∙ f)) (h ∙ sym (last-row _))
 
 pub head-answer-spec : {M : Type 1} → statement M
 head-answer-spec =
     tie.close
     (tie.spec
-    returns
+    (λ c. search major-short)
     (λ c κs. search needs)
-    returns-2
-    returns-3
+    (λ c. search major-other)
+    (λ c. search minor-short)
     (λ c κs. search needs)
-    returns-4
-    returns-5
+    (λ c. search minor-other)
+    (λ c. search flags-short)
     (λ c κs. search needs)
-    returns-6
+    (λ c. search flags-other)
     (λ c κs. search needs)
-    returns-7)
+    (λ c. search extents-next))

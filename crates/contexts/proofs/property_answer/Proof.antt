@@ -1,54 +1,57 @@
-use mathlib.Core.Path.{sym, ap, _∙_}
-use borrow.Author.Tests.{lt-ltb, le-ltb, not-true, not-false}
-use Rattle.kinds.specs.Refusals.{order}
-use Rattle.contexts.specs.Contexts.{propertyAnswer, isPropertyFlags}
-use Prim.Native.Nat.{_+_, _<_, _≤_}
+-- `property_answer`: the rows of `propertyAnswer`, in their order.
+use Prim.Native.Nat.{ℕ, _+_, _<_, _≤_}
+use mathlib.Core.Path.{_≡_, sym, ap, _∙_}
+use mathlib.Core.Bool.{Bool, true, false, not}
+use mathlib.Core.List.{List}
 use native.Mathlib.Omega.{arith}
+use borrow.Author.Tests.{lt-ltb, le-ltb, not-true, not-false}
 use lib.ListN.{length}
+use Rattle.kinds.specs.Refusals.{order}
 use Rattle.fields.specs.Fields.{field}
+use Rattle.contexts.specs.Contexts.{propertyLength, propertyAnswer, isPropertyFlags}
 use borrow.Author.Needs.{needs}
 use Rattle.contexts.proofs.property_answer.Statement.{statement}
 use Rattle.contexts.proofs.property_answer.Tie as tie
 
-returns : tie.Need-returns
-unfolding propertyAnswer order
-returns c = simp (lt-ltb _ _ (c .if1 .taken))
+module _ (t : List ℕ) where
+  short : length t < 36 → 13 ≡ propertyAnswer t
+  unfolding propertyAnswer order
+  short h = simp (lt-ltb _ _ h)
 
-returns-2 : tie.Need-returns-2
-unfolding propertyAnswer order
-returns-2 c = simp (le-ltb _ _ (c .before .before .before .if1 .left), ap isPropertyFlags (sym (c .before .before .read-u32 .ensures)) ∙ sym (c .before .is-property-flags .ensures) ∙ not-true _ (c .if2 .taken))
+  module _ (a : 36 ≤ length t) (x : ℕ) (flags : x ≡ field t 32 4) (b : Bool) (judged : b ≡ isPropertyFlags x) where
+    other-flags : not b ≡ true → 14 ≡ propertyAnswer t
+    unfolding propertyAnswer order
+    other-flags h = simp (le-ltb _ _ a, ap isPropertyFlags (sym flags) ∙ sym judged ∙ not-true _ h)
 
-returns-3 : tie.Need-returns-3
-unfolding propertyAnswer order
-returns-3 c = simp (le-ltb _ _ (c .before .before .before .before .if1 .left), ap isPropertyFlags (sym (c .before .before .before .read-u32 .ensures)) ∙ sym (c .before .before .is-property-flags .ensures) ∙ not-false _ (c .before .if2 .left), lt-ltb _ _ (c .if3 .taken))
+    module _ (good : not b ≡ false) where
+      size-short : length t < 40 → 13 ≡ propertyAnswer t
+      unfolding propertyAnswer order
+      size-short h = simp (le-ltb _ _ a, ap isPropertyFlags (sym flags) ∙ sym judged ∙ not-false _ good, lt-ltb _ _ h)
 
-returns-4 : tie.Need-returns-4
-unfolding propertyAnswer order
-returns-4 c =
-    let size = c .before .read-u322 .ensures in
-    let t = c .before .before .before .before .before .before .before .before .args .t .now in
-    let short : length t < 40 + field t 36 4 = omega arith in
-    simp (le-ltb _ _ (c .before .before .before .before .before .before .if1 .left), ap isPropertyFlags (sym (c .before .before .before .before .before .read-u32 .ensures)) ∙ sym (c .before .before .before .before .is-property-flags .ensures) ∙ not-false _ (c .before .before .before .if2 .left), le-ltb _ _ (c .before .before .if3 .left), lt-ltb _ _ short)
+      module _ (l : 40 ≤ length t) (n : ℕ) (size : n ≡ field t 36 4) where
+        data-short : length t < 40 + n → 13 ≡ propertyAnswer t
+        unfolding propertyAnswer order
+        data-short h =
+            let w : length t < propertyLength t = omega arith in
+            simp (le-ltb _ _ a, ap isPropertyFlags (sym flags) ∙ sym judged ∙ not-false _ good, le-ltb _ _ l, lt-ltb _ _ w)
 
-returns-5 : tie.Need-returns-5
-unfolding propertyAnswer order
-returns-5 c =
-    let size = c .before .read-u322 .ensures in
-    let t = c .before .before .before .before .before .before .before .before .args .t .now in
-    let room : 40 + field t 36 4 ≤ length t = omega arith in
-    simp (le-ltb _ _ (c .before .before .before .before .before .before .if1 .left), ap isPropertyFlags (sym (c .before .before .before .before .before .read-u32 .ensures)) ∙ sym (c .before .before .before .before .is-property-flags .ensures) ∙ not-false _ (c .before .before .before .if2 .left), le-ltb _ _ (c .before .before .if3 .left), le-ltb _ _ room)
+        done : 40 + n ≤ length t → 0 ≡ propertyAnswer t
+        unfolding propertyAnswer order
+        done h =
+            let w : propertyLength t ≤ length t = omega arith in
+            simp (le-ltb _ _ a, ap isPropertyFlags (sym flags) ∙ sym judged ∙ not-false _ good, le-ltb _ _ l, le-ltb _ _ w)
 
 pub property-answer-spec : {M : Type 1} → statement M
 property-answer-spec =
     tie.close
     (tie.spec
-    returns
+    (λ c. search short)
     (λ c κs. search needs)
     (λ c κs. search needs)
-    returns-2
-    returns-3
+    (λ c. search other-flags)
+    (λ c. search size-short)
     (λ c κs. search needs)
     (λ c. search needs)
     (λ c. search needs)
-    returns-4
-    returns-5)
+    (λ c. search data-short)
+    (λ c. search done))
