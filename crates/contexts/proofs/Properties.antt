@@ -11,7 +11,8 @@ use Rattle.kinds.specs.Refusals.{differ, order}
 use Rattle.kinds.proofs.Refusing.{by-test, ne-differ, eq-differ, differ-false, passed, passed-on, last-row}
 use Rattle.fields.specs.Fields.{field, encode}
 use Rattle.fields.proofs.Fields.{take-rest}
-use Rattle.contexts.specs.Contexts.{isPropertyFlags, propertyLength, propertyAnswer, propertiesAnswer, extentsAnswer, headAnswer, contextAnswer, contentPlace, propertyPlace, headBytes, writePropertyAnswer, writeContextAnswer}
+use Rattle.contexts.specs.Contexts.{isPropertyFlags, propertyLength, propertyAnswer, propertiesAnswer, extentsAnswer, headAnswer}
+use Rattle.contexts.specs.Contexts.{contextAnswer, contentPlace, propertyPlace, headBytes, writePropertyAnswer, writeContextAnswer}
 use Rattle.contexts.specs.declared.Context.{Context}
 use Rattle.contexts.specs.declared.Property.{Property}
 use Rattle.bindings.specs.declared.Place.{Place}

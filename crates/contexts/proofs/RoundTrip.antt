@@ -1,22 +1,23 @@
 -- Round trips of contexts over their layout.
 use Prim.Native.Nat.{ℕ, suc, zero, _+_, _-_, _<_, _≤_}
 use mathlib.Core.Path.{_≡_, refl, sym, ap, _∙_}
-use mathlib.Core.Bool.{Bool, true, false, cond, not}
+use mathlib.Core.Bool.{cond}
 use mathlib.Core.List.{List, [], _∷_, _++_, append-assoc}
 use native.Mathlib.Omega.{arith}
 use borrow.Author.Tests.{ltb-false, le-ltb, eq-eqb}
-use lib.Dec.{ltb, eqb}
+use lib.Dec.{ltb}
 use lib.ListN.{length, take, drop, getD, length-append, length-drop, take-append-drop}
 use lib.Seq.{take-at, drop-at, drop-drop, length-take-le}
 use Rattle.kinds.specs.Refusals.{order}
 use Rattle.kinds.proofs.Refusing.{eq-differ, passed, passed-on, last-row}
 use Rattle.fields.specs.Fields.{field, encode, guidBytes, Bytes}
 use Rattle.fields.proofs.Fields.{drop-bytes, field-part, guid-part, field-then, guid-then}
-use Rattle.contexts.specs.Contexts.{Held, propertyBytes, headBytes, propertiesBytes, contextBytes, contextAt, propertyAt, propertyLength, propertyContent, propertiesAt, propertyAnswer, propertiesAnswer, headAnswer, contextAnswer, isPropertyFlags, contentPlace, propertyPlace, readProperty}
+use Rattle.contexts.specs.Contexts.{Held, propertyBytes, headBytes, propertiesBytes, contextBytes, contextAt, propertyAt, propertyLength, propertyContent, propertiesAt}
+use Rattle.contexts.specs.Contexts.{propertyAnswer, propertiesAnswer, headAnswer, contextAnswer, isPropertyFlags, contentPlace, propertyPlace, readProperty}
 use Rattle.bindings.specs.declared.Place.{Place}
 use Rattle.bindings.specs.Bindings.{refusal, bytesAt}
 use Rattle.bindings.proofs.ListBytes.{by-bool}
-use Rattle.contexts.specs.RoundTrips.{Fits, Narrow, Proper, AllProper, none, more, ContextWriteThenRead, ContextReadThenWrite, ContextWriterAsReader, Shows, PropertyK}
+use Rattle.contexts.specs.RoundTrips.{Fits, Narrow, AllProper, none, more, ContextWriteThenRead, ContextReadThenWrite, ContextWriterAsReader, PropertyK}
 use Rattle.contexts.specs.declared.Context.{Context}
 use Rattle.contexts.proofs.Properties.{Accepted, accepted, accept, Headed, headed, head-accept}
 

@@ -6,7 +6,8 @@ use mathlib.Core.List.{List, [], _∷_, _++_}
 use lib.ListN.{length, drop, getD}
 use Rattle.fields.specs.Fields.{Bytes, GuidFits}
 use Rattle.bindings.specs.Bindings.{refusal, bytesAt}
-use Rattle.contexts.specs.Contexts.{Held, isPropertyFlags, propertyBytes, propertiesBytes, contextBytes, contextAt, propertiesAt, propertyAnswer, propertiesAnswer, contextAnswer, propertyPlace, readProperty}
+use Rattle.contexts.specs.Contexts.{Held, isPropertyFlags, propertyBytes, propertiesBytes, contextBytes, contextAt, propertiesAt}
+use Rattle.contexts.specs.Contexts.{propertyAnswer, propertiesAnswer, contextAnswer, propertyPlace, readProperty}
 use Rattle.contexts.specs.declared.Context.{Context}
 
 -- a context whose numbers fit their widths

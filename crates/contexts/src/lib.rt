@@ -8,7 +8,9 @@ ghost use Prim.Native.Nat.{_≤_};
 ghost use lib.ListN.{length, drop};
 ghost use Rattle.bindings.specs.Bindings.{PartOf};
 ghost use Rattle.fields.specs.Fields.{written, stored};
-ghost use Rattle.contexts.specs.Contexts.{isMarshaler, isPropertyFlags, propertyAnswer, propertiesAnswer, extentsAnswer, headAnswer, contextAnswer, contextAt, readContext, propertyAt, contentPlace, propertyPlace, readProperty, headBytes, propertyBytes, contextBytes, writePropertyAnswer, writeProperty, writeContextAnswer, writeContext, noContext, noProperty};
+ghost use Rattle.contexts.specs.Contexts.{isMarshaler, isPropertyFlags, propertyAnswer, propertiesAnswer, extentsAnswer, headAnswer, contextAnswer};
+ghost use Rattle.contexts.specs.Contexts.{contextAt, readContext, propertyAt, contentPlace, propertyPlace, readProperty, headBytes, propertyBytes};
+ghost use Rattle.contexts.specs.Contexts.{contextBytes, writePropertyAnswer, writeProperty, writeContextAnswer, writeContext, noContext, noProperty};
 
 // The fields of a context that are not fixed.
 #[repr(C)]

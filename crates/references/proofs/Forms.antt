@@ -19,7 +19,8 @@ use Rattle.bindings.proofs.ListAnswers.{Within, within-binding}
 use Rattle.contexts.specs.Contexts.{propertyPlace, isMarshaler}
 use Rattle.contexts.proofs.Properties.{property-within}
 use Rattle.elements.specs.Elements.{signature, elementAnswer}
-use Rattle.references.specs.References.{byForm, isForm, isCustom, fixedSize, headAnswer, plainAnswer, formAnswer, layoutBy, layoutAnswer, listEnd, elementStart, extendedSignature, extendedFront, extendedAnswer, referenceAnswer, referenceAt, tailEnd, tailPlace, tailOf, moved, referenceBinding, contextPlace}
+use Rattle.references.specs.References.{byForm, isForm, isCustom, fixedSize, headAnswer, plainAnswer, formAnswer, layoutBy, layoutAnswer, listEnd, elementStart, extendedSignature}
+use Rattle.references.specs.References.{extendedFront, extendedAnswer, referenceAnswer, referenceAt, tailEnd, tailPlace, tailOf, moved, referenceBinding, contextPlace}
 
 -- where the list of an extended reference ends, by its N
 pub list-end : (s : List ℕ) → 72 + 2 * field s 68 2 ≡ listEnd s
@@ -251,7 +252,9 @@ within-reference s p k =
     by-test (Within (length s)) (eqb (referenceAnswer s) 0) _ _
     (λ e. by-test (Within (length s)) (isCustom (field s 4 4)) _ _
     (λ z. omega arith)
-    (λ z. within-more _ _ (moved (fixedSize (field s 4 4)) (bindingAt (tailOf s) p k)) (tail-length s (eqb-true _ _ e)) (within-moved (length (tailOf s)) (fixedSize (field s 4 4)) (bindingAt (tailOf s) p k) (within-binding (tailOf s) p k))))
+    (λ z.
+    let b = bindingAt (tailOf s) p k in
+    within-more _ _ (moved (fixedSize (field s 4 4)) b) (tail-length s (eqb-true _ _ e)) (within-moved (length (tailOf s)) (fixedSize (field s 4 4)) b (within-binding (tailOf s) p k))))
     (λ e. omega arith)
 
 -- the place of a property's data lies in s

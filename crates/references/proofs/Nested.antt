@@ -11,7 +11,8 @@ use lib.Seq.{drop-drop}
 use Rattle.kinds.proofs.Refusing.{by-test, passed-on}
 use Rattle.lists.proofs.Tests.{and-left, and-right}
 use Rattle.fields.specs.Fields.{field}
-use Rattle.references.specs.References.{blockAt, isForm, listEnd, elementStart, contentStart, contentLength, contentOf, headAnswer, extendedFront, extendedAnswer, formAnswer, layoutBy, layoutAnswer, hasNil, nilGiven, namesNil, isExtended, referenceAnswer, elementPlace}
+use Rattle.references.specs.References.{blockAt, isForm, listEnd, elementStart, contentStart, contentLength, contentOf, headAnswer, extendedFront, extendedAnswer}
+use Rattle.references.specs.References.{formAnswer, layoutBy, layoutAnswer, hasNil, nilGiven, namesNil, isExtended, referenceAnswer, elementPlace}
 use Rattle.elements.specs.Elements.{isReference, elementFront, elementContent, contentAnswer, elementAnswer}
 use Rattle.references.specs.Parts.{ElementFound}
 use Rattle.bindings.specs.Bindings.{refusal}

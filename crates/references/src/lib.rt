@@ -11,7 +11,9 @@ ghost use mathlib.Core.Bool.{true};
 ghost use lib.ListN.{length};
 ghost use Rattle.bindings.specs.Bindings.{refusal, PartOf};
 ghost use Rattle.elements.specs.Elements.{elementAnswer};
-ghost use Rattle.references.specs.References.{fixedSize, isNoPing, isForm, hasNil, namesNil, blockAt, noBlock, noReference, standard, handler, custom, extended, referenceAt, objectAnswer, headAnswer, plainAnswer, listEnd, extendedFront, layoutAnswer, answerWithin, referenceAnswer, readReference, tailPlace, referenceBinding, contentStart, contentLength, elementPlace, contextPlace};
+ghost use Rattle.references.specs.References.{fixedSize, isNoPing, isForm, hasNil, namesNil, blockAt, noBlock, noReference, standard, handler, custom, extended};
+ghost use Rattle.references.specs.References.{referenceAt, objectAnswer, headAnswer, plainAnswer, listEnd, extendedFront, layoutAnswer, answerWithin, referenceAnswer};
+ghost use Rattle.references.specs.References.{readReference, tailPlace, referenceBinding, contentStart, contentLength, elementPlace, contextPlace};
 ghost use Rattle.references.specs.Parts.{ElementFound};
 
 // The standard object block (STDOBJREF).

@@ -21,7 +21,8 @@ loop-holds : tie.Need-loop-holds Inv-loop μ-loop
 loop-holds c = (c .before .pre .0, c .before .pre .1, refl)
 
 -- the property that is read, and the others
-next : (c : tie.After-read-u32 Inv-loop μ-loop) → Next (c .before .before .before .loop .left) (c .before .before .before .before .before .args .s .now) (c .before .before .before .loop .at) (c .read-u32 .result)
+next : (c : tie.After-read-u32 Inv-loop μ-loop) → let l = c .before .before .before in
+    Next (l .loop .left) (l .before .before .args .s .now) (l .loop .at) (c .read-u32 .result)
 next c = let l = c .before .before .before .loop in next-property _ _ _ _ (omega arith) (l .inv .0) (l .inv .1) (c .read-u32 .ensures)
 
 add-t15 : tie.Need-add-t15 Inv-loop μ-loop
@@ -33,7 +34,7 @@ add-t16 c = let x = next (c .before) in omega arith
 returns : tie.Need-returns Inv-loop μ-loop
 returns c =
     let l = c .before .before .before .before .loop in
-    rw (next (c .before) .same) (sym (place-here (l .left) (drop (l .at) (c .before .before .before .before .before .before .args .s .now)) (l .skip) (l .at) (omega arith) (c .if1 .taken)) ∙ l .inv .2)
+    rw (next (c .before) .same) (sym (place-here (l .left) _ (l .skip) (l .at) (omega arith) (c .if1 .taken)) ∙ l .inv .2)
 
 add-at : tie.Need-add-at Inv-loop μ-loop
 add-at c = let x = next (c .before) in omega arith
@@ -42,7 +43,8 @@ loop-again : tie.Need-loop-again Inv-loop μ-loop
 loop-again c =
     let l = c .before .before .before .before .loop in
     let x = next (c .before) in
-    (omega arith, rw (x .same, ← drop-drop) (x .rest), rw (x .same, ← drop-drop) (sym (place-later (l .left) (drop (l .at) (c .before .before .before .before .before .before .args .s .now)) (l .skip) (l .at) (omega arith) (omega arith)) ∙ l .inv .2))
+    let later = place-later (l .left) (drop (l .at) (c .before .before .before .before .before .before .args .s .now)) (l .skip) (l .at) (omega arith) (omega arith) in
+    (omega arith, rw (x .same, ← drop-drop) (x .rest), rw (x .same, ← drop-drop) (sym later ∙ l .inv .2))
 
 returns-2 : tie.Need-returns-2 Inv-loop μ-loop
 returns-2 c =

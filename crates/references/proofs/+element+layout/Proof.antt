@@ -1,12 +1,18 @@
 -- The cycle {element, layout}: the measure is twice the depth that is left, and one more for an element.
-use Prim.Native.Nat.{ℕ, _+_, _*_, _<_}
-use mathlib.Core.Path.{sym, _∙_}
+use Prim.Native.Nat.{ℕ, _+_, _-_, _*_, _<_, _≤_}
+use mathlib.Core.Path.{_≡_, sym, _∙_}
+use mathlib.Core.Bool.{Bool, true, false, not}
+use mathlib.Core.List.{List}
 use native.Mathlib.Omega.{arith}
 use native.Mathlib.Nat.{add-sub-cancel-left}
 use borrow.Author.Needs.{needs}
 use borrow.Author.Tests.{not-true, not-false}
+use lib.ListN.{length, take, drop}
+use Rattle.fields.specs.Fields.{field}
 use Rattle.fields.proofs.Fields.{take-rest}
+use Rattle.elements.specs.Elements.{contentSize, elementContent, isReference, elementFront, elementEnd, elementAnswer}
 use Rattle.elements.proofs.ElementAnswers.{content-within, element-short, element-other, element-refused, element-inner}
+use Rattle.references.specs.References.{listEnd, headAnswer, plainAnswer, extendedFront, layoutAnswer}
 use Rattle.references.proofs.Forms.{headed, opened, extended-room, layout-none, layout-head, layout-plain, layout-front, layout-element}
 use borrow.Fn.Kinds.{In}
 use borrow.Fn.PlainCycle.{Measures, is, falls, and}
@@ -77,154 +83,103 @@ layout-claims t = (
   element.Post,
 )
 
-element-element-front-requires : (t : ℕ) → element-lts.Need-element-front-requires (element-claims t) (element-at t) element.Post
-element-element-front-requires t c κs = search needs
+-- ---- `element`
 
-element-returns : (t : ℕ) → element-lts.Need-returns (element-claims t) (element-at t) element.Post
-element-returns t c = c .before .element-front .ensures ∙ sym (element-short _ _ (λ z. c .if1 .taken (c .before .element-front .ensures ∙ z)))
+module _ (t : List ℕ) (d front : ℕ) (judged : front ≡ elementFront t) where
+  front-refused : (front ≡ 0 → ⊥) → front ≡ elementAnswer (layoutAnswer d) t
+  front-refused h = judged ∙ sym (element-short _ _ (λ z. h (judged ∙ z)))
 
-element-read-u32-requires : (t : ℕ) → element-lts.Need-read-u32-requires (element-claims t) (element-at t) element.Post
-element-read-u32-requires t c κs = search needs
+  module _ (good : front ≡ 0) (n : ℕ) (size : n ≡ contentSize t) where
+    -- the part that the code takes
+    content : take (24 + n - 24) (drop 24 t) ≡ elementContent t
+    content = rw (add-sub-cancel-left 24 n, size)
 
-element-cast-to : (t : ℕ) → element-lts.Need-cast-to (element-claims t) (element-at t) element.Post
-element-cast-to t c = omega arith
+    within : 24 + n ≤ length t
+    within = let w = content-within t (sym judged ∙ good) in omega arith
 
-element-add-to : (t : ℕ) → element-lts.Need-add-to (element-claims t) (element-at t) element.Post
-element-add-to t c = omega arith
+    module _ (b : Bool) (tested : b ≡ isReference (take (24 + n - 24) (drop 24 t))) where
+      other-data : not b ≡ true → (r : ℕ) → r ≡ elementEnd t → r ≡ elementAnswer (layoutAnswer d) t
+      other-data h r e = e ∙ sym (element-other _ _ (sym judged ∙ good) (sym (rw content at tested) ∙ not-true _ h))
 
-element-sub-is-reference : (t : ℕ) → element-lts.Need-sub-is-reference (element-claims t) (element-at t) element.Post
-element-sub-is-reference t c = omega arith
+      module _ (yes : not b ≡ false) (k : ℕ) (inner : k ≡ layoutAnswer d (take (24 + n - 24) (drop 24 t))) where
+        inner-refused : (k ≡ 0 → ⊥) → k ≡ elementAnswer (layoutAnswer d) t
+        inner-refused h =
+            let e = rw content at inner in e ∙ sym (element-refused _ _ (sym judged ∙ good) (sym (rw content at tested) ∙ not-false _ yes) (λ z. h (e ∙ z)))
 
-element-part-is-reference-start : (t : ℕ) → element-lts.Need-part-is-reference-start (element-claims t) (element-at t) element.Post
-element-part-is-reference-start t c = omega arith
+        inner-done : k ≡ 0 → (r : ℕ) → r ≡ elementEnd t → r ≡ elementAnswer (layoutAnswer d) t
+        inner-done h r e = e ∙ sym (element-inner _ _ (sym judged ∙ good) (sym (rw content at tested) ∙ not-false _ yes) (sym (rw content at inner) ∙ h))
 
-element-part-is-reference-end : (t : ℕ) → element-lts.Need-part-is-reference-end (element-claims t) (element-at t) element.Post
-element-part-is-reference-end t c = let w = content-within _ (sym (c .before .before .element-front .ensures) ∙ c .before .if1 .left) in let size = c .read-u32 .ensures in omega arith
+-- ---- `layout`
 
-element-is-reference-requires : (t : ℕ) → element-lts.Need-is-reference-requires (element-claims t) (element-at t) element.Post
-element-is-reference-requires t c κs = search needs
+module _ (s : List ℕ) (d : ℕ) (some : d ≡ 0 → ⊥) (head : ℕ) (judged : head ≡ headAnswer s) where
+  head-refused : (head ≡ 0 → ⊥) → head ≡ layoutAnswer d s
+  head-refused h = judged ∙ sym (layout-head _ _ (omega arith) (λ z. h (judged ∙ z)))
 
-element-element-end-requires : (t : ℕ) → element-lts.Need-element-end-requires (element-claims t) (element-at t) element.Post
-element-element-end-requires t c κs = sym (c .before .before .before .before .before .element-front .ensures) ∙ c .before .before .before .before .if1 .left
+  module _ (good : head ≡ 0) (f : ℕ) (flags : f ≡ field s 4 4) where
+    plain-form : (f ≡ 8 → ⊥) → (r : ℕ) → r ≡ plainAnswer s → r ≡ layoutAnswer d s
+    plain-form h r e = e ∙ sym (layout-plain _ _ (omega arith) (sym judged ∙ good) (λ z. h (flags ∙ z)))
 
-element-returns-2 : (t : ℕ) → element-lts.Need-returns-2 (element-claims t) (element-at t) element.Post
-element-returns-2 t c = c .element-end .ensures ∙ sym (element-other _ _ (sym (c .before .before .before .before .before .before .element-front .ensures) ∙ c .before .before .before .before .before .if1 .left) (sym (rw (add-sub-cancel-left 24 (c .before .before .before .before .read-u32 .result), c .before .before .before .before .read-u32 .ensures) at (c .before .before .is-reference .ensures)) ∙ not-true _ (c .before .if2 .taken)))
+    module _ (extended : f ≡ 8) (front : ℕ) (opens : front ≡ extendedFront s) where
+      opening-refused : (front ≡ 0 → ⊥) → front ≡ layoutAnswer d s
+      opening-refused h = opens ∙ sym (layout-front _ _ (omega arith) (sym judged ∙ good) (sym flags ∙ extended) (λ z. h (opens ∙ z)))
 
-element-sub-layout : (t : ℕ) → element-lts.Need-sub-layout (element-claims t) (element-at t) element.Post
-element-sub-layout t c = omega arith
+      element-last : front ≡ 0 → (end : ℕ) → end ≡ listEnd s → (r : ℕ) → r ≡ elementAnswer (layoutAnswer (d - 1)) (take (length s - (end + 8)) (drop (end + 8) s))
+          → r ≡ layoutAnswer d s
+      element-last h end ends r e = rw (take-rest s (end + 8), ends) at e ∙ sym (layout-element _ _ (omega arith) (sym judged ∙ good) (sym flags ∙ extended) (sym opens ∙ h))
 
-element-part-layout-start : (t : ℕ) → element-lts.Need-part-layout-start (element-claims t) (element-at t) element.Post
-element-part-layout-start t c = omega arith
+-- the fixed fields are there
+fixed-room : (s : List ℕ) (head : ℕ) → head ≡ headAnswer s → head ≡ 0 → (f : ℕ) → f ≡ field s 4 4 → f ≡ 8 → 68 ≤ length s
+fixed-room s head judged good f flags e = extended-room _ (sym flags ∙ e) (headed _ (sym judged ∙ good) .fixed)
 
-element-part-layout-end : (t : ℕ) → element-lts.Need-part-layout-end (element-claims t) (element-at t) element.Post
-element-part-layout-end t c = let w = content-within _ (sym (c .before .before .before .before .before .element-front .ensures) ∙ c .before .before .before .before .if1 .left) in let size = c .before .before .before .read-u32 .ensures in omega arith
+-- the element begins inside
+begins : (s : List ℕ) (front : ℕ) → front ≡ extendedFront s → front ≡ 0 → (end : ℕ) → end ≡ listEnd s → end + 8 ≤ length s
+begins s front e h end ends = let room = opened s (sym e ∙ h) .room in omega arith
 
-element-layout-requires : (t : ℕ) → element-lts.Need-layout-requires (element-claims t) (element-at t) element.Post
-element-layout-requires t c κs = (omega (arith, c .before .before .before .before .before .before .before .before .pre .0), tt)
+-- an answer 0 of the code is one of the rule
+ended : (t : List ℕ) (r : ℕ) → r ≡ elementFront t → r ≡ 0 → elementFront t ≡ 0
+ended t r e h = sym e ∙ h
 
-element-returns-3 : (t : ℕ) → element-lts.Need-returns-3 (element-claims t) (element-at t) element.Post
-element-returns-3 t c =
-    let e = rw (add-sub-cancel-left 24 (c .before .before .before .before .before .before .read-u32 .result), c .before .before .before .before .before .before .read-u32 .ensures) at (c .before .layout .ensures) in
-    e ∙ sym (element-refused _ _ (sym (c .before .before .before .before .before .before .before .before .element-front .ensures) ∙ c .before .before .before .before .before .before .before .if1 .left) (sym (rw (add-sub-cancel-left 24 (c .before .before .before .before .before .before .read-u32 .result), c .before .before .before .before .before .before .read-u32 .ensures) at (c .before .before .before .before .is-reference .ensures)) ∙ not-false _ (c .before .before .before .if2 .left)) (λ z. c .if3 .taken (e ∙ z)))
-
-element-element-end-requires-2 : (t : ℕ) → element-lts.Need-element-end-requires-2 (element-claims t) (element-at t) element.Post
-element-element-end-requires-2 t c κs = sym (c .before .before .before .before .before .before .before .before .element-front .ensures) ∙ c .before .before .before .before .before .before .before .if1 .left
-
-element-returns-4 : (t : ℕ) → element-lts.Need-returns-4 (element-claims t) (element-at t) element.Post
-element-returns-4 t c =
-    let e = rw (add-sub-cancel-left 24 (c .before .before .before .before .before .before .before .read-u32 .result), c .before .before .before .before .before .before .before .read-u32 .ensures) at (c .before .before .layout .ensures) in
-    c .element-end2 .ensures ∙ sym (element-inner _ _ (sym (c .before .before .before .before .before .before .before .before .before .element-front .ensures) ∙ c .before .before .before .before .before .before .before .before .if1 .left) (sym (rw (add-sub-cancel-left 24 (c .before .before .before .before .before .before .before .read-u32 .result), c .before .before .before .before .before .before .before .read-u32 .ensures) at (c .before .before .before .before .before .is-reference .ensures)) ∙ not-false _ (c .before .before .before .before .if2 .left)) (sym e ∙ c .before .if3 .left))
-
-layout-returns : (t : ℕ) → layout-lts.Need-returns (layout-claims t) (layout-at t) layout.Post
-layout-returns t c = sym (layout-none _ _ (c .if1 .taken))
-
-layout-head-answer-requires : (t : ℕ) → layout-lts.Need-head-answer-requires (layout-claims t) (layout-at t) layout.Post
-layout-head-answer-requires t c κs = search needs
-
-layout-returns-2 : (t : ℕ) → layout-lts.Need-returns-2 (layout-claims t) (layout-at t) layout.Post
-layout-returns-2 t c = c .before .head-answer .ensures ∙ sym (layout-head _ _ (omega arith) (λ z. c .if2 .taken (c .before .head-answer .ensures ∙ z)))
-
-layout-read-u32-requires : (t : ℕ) → layout-lts.Need-read-u32-requires (layout-claims t) (layout-at t) layout.Post
-layout-read-u32-requires t c κs = search needs
-
-layout-plain-answer-requires : (t : ℕ) → layout-lts.Need-plain-answer-requires (layout-claims t) (layout-at t) layout.Post
-layout-plain-answer-requires t c κs = sym (c .before .before .before .head-answer .ensures) ∙ c .before .before .if2 .left
-
-layout-returns-3 : (t : ℕ) → layout-lts.Need-returns-3 (layout-claims t) (layout-at t) layout.Post
-layout-returns-3 t c = c .plain-answer .ensures ∙ sym (layout-plain _ _ (omega arith) (sym (c .before .before .before .before .head-answer .ensures) ∙ c .before .before .before .if2 .left) (λ z. c .before .if3 .taken (c .before .before .read-u32 .ensures ∙ z)))
-
-layout-extended-front-requires : (t : ℕ) → layout-lts.Need-extended-front-requires (layout-claims t) (layout-at t) layout.Post
-layout-extended-front-requires t c κs = extended-room _ (sym (c .before .read-u32 .ensures) ∙ c .if3 .left) (headed _ (sym (c .before .before .before .head-answer .ensures) ∙ c .before .before .if2 .left) .fixed)
-
-layout-returns-4 : (t : ℕ) → layout-lts.Need-returns-4 (layout-claims t) (layout-at t) layout.Post
-layout-returns-4 t c = c .before .extended-front .ensures ∙ sym (layout-front _ _ (omega arith) (sym (c .before .before .before .before .before .head-answer .ensures) ∙ c .before .before .before .before .if2 .left) (sym (c .before .before .before .read-u32 .ensures) ∙ c .before .before .if3 .left) (λ z. c .if4 .taken (c .before .extended-front .ensures ∙ z)))
-
-layout-list-end-requires : (t : ℕ) → layout-lts.Need-list-end-requires (layout-claims t) (layout-at t) layout.Post
-layout-list-end-requires t c κs = search needs
-
-layout-add-start : (t : ℕ) → layout-lts.Need-add-start (layout-claims t) (layout-at t) layout.Post
-layout-add-start t c = omega (arith, c .list-end .ensures .1)
-
-layout-sub-element : (t : ℕ) → layout-lts.Need-sub-element (layout-claims t) (layout-at t) layout.Post
-layout-sub-element t c = let room = (opened _ (sym (c .before .before .extended-front .ensures) ∙ c .before .if4 .left)) .room in let end = c .list-end .ensures .0 in omega arith
-
-layout-part-element-start : (t : ℕ) → layout-lts.Need-part-element-start (layout-claims t) (layout-at t) layout.Post
-layout-part-element-start t c = let room = (opened _ (sym (c .before .before .extended-front .ensures) ∙ c .before .if4 .left)) .room in let end = c .list-end .ensures .0 in omega arith
-
-layout-part-element-end : (t : ℕ) → layout-lts.Need-part-element-end (layout-claims t) (layout-at t) layout.Post
-layout-part-element-end t c = search needs
-
-layout-sub-element-2 : (t : ℕ) → layout-lts.Need-sub-element-2 (layout-claims t) (layout-at t) layout.Post
-layout-sub-element-2 t c = omega arith
-
-layout-element-requires : (t : ℕ) → layout-lts.Need-element-requires (layout-claims t) (layout-at t) layout.Post
-layout-element-requires t c κs = (omega (arith, c .before .before .before .before .before .before .before .before .before .before .pre .0), tt)
-
-layout-returns-5 : (t : ℕ) → layout-lts.Need-returns-5 (layout-claims t) (layout-at t) layout.Post
-layout-returns-5 t c =
-    let s = c .before .before .before .before .before .before .before .before .before .before .before .args .s .now in
-    let end = c .before .before .list-end .ensures .0 in
-    let e = rw (take-rest s (c .before .before .list-end .result + 8), end) at (c .element .ensures) in
-    e ∙ sym (layout-element _ _ (omega arith) (sym (c .before .before .before .before .before .before .before .before .head-answer .ensures) ∙ c .before .before .before .before .before .before .before .if2 .left) (sym (c .before .before .before .before .before .before .read-u32 .ensures) ∙ c .before .before .before .before .before .if3 .left) (sym (c .before .before .before .before .extended-front .ensures) ∙ c .before .before .before .if4 .left))
+headed-done : (s : List ℕ) (r : ℕ) → r ≡ headAnswer s → r ≡ 0 → headAnswer s ≡ 0
+headed-done s r e h = sym e ∙ h
 
 pub +element+layout-spec : {M : Type 1} → statement M
 +element+layout-spec = close μ-element μ-layout (λ t. element-lts.spec (element-claims t)
     (element-at t)
     element.Post
-    (element-element-front-requires t)
-    (element-returns t)
-    (element-read-u32-requires t)
-    (element-cast-to t)
-    (element-add-to t)
-    (element-sub-is-reference t)
-    (element-part-is-reference-start t)
-    (element-part-is-reference-end t)
-    (element-is-reference-requires t)
-    (element-element-end-requires t)
-    (element-returns-2 t)
-    (element-sub-layout t)
-    (element-part-layout-start t)
-    (element-part-layout-end t)
-    (element-layout-requires t)
-    (element-returns-3 t)
-    (element-element-end-requires-2 t)
-    (element-returns-4 t))
+    (λ c κs. search needs)
+    (λ c. search front-refused)
+    (λ c κs. search needs)
+    (λ c. omega arith)
+    (λ c. omega arith)
+    (λ c. omega arith)
+    (λ c. omega arith)
+    (λ c. search within)
+    (λ c κs. search needs)
+    (λ c κs. search ended)
+    (λ c. search other-data)
+    (λ c. omega arith)
+    (λ c. omega arith)
+    (λ c. search within)
+    (λ c κs. (omega (arith, c .before .before .before .before .before .before .before .before .pre .0), tt))
+    (λ c. search inner-refused)
+    (λ c κs. search ended)
+    (λ c. search inner-done))
     λ t. layout-lts.spec (layout-claims t)
     (layout-at t)
     layout.Post
-    (layout-returns t)
-    (layout-head-answer-requires t)
-    (layout-returns-2 t)
-    (layout-read-u32-requires t)
-    (layout-plain-answer-requires t)
-    (layout-returns-3 t)
-    (layout-extended-front-requires t)
-    (layout-returns-4 t)
-    (layout-list-end-requires t)
-    (layout-add-start t)
-    (layout-sub-element t)
-    (layout-part-element-start t)
-    (layout-part-element-end t)
-    (layout-sub-element-2 t)
-    (layout-element-requires t)
-    (layout-returns-5 t)
+    (λ c. sym (layout-none _ _ (c .if1 .taken)))
+    (λ c κs. search needs)
+    (λ c. search head-refused)
+    (λ c κs. search needs)
+    (λ c κs. search headed-done)
+    (λ c. search plain-form)
+    (λ c κs. search fixed-room)
+    (λ c. search opening-refused)
+    (λ c κs. search needs)
+    (λ c. omega (arith, c .list-end .ensures .1))
+    (λ c. search begins)
+    (λ c. search begins)
+    (λ c. search needs)
+    (λ c. omega arith)
+    (λ c κs. (omega (arith, c .before .before .before .before .before .before .before .before .before .before .pre .0), tt))
+    (λ c. search element-last)

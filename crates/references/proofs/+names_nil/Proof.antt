@@ -1,10 +1,16 @@
 -- The cycle {names_nil}: the measure is the depth that is left.
-use Prim.Native.Nat.{ℕ, _<_}
-use mathlib.Core.Path.{sym, _∙_}
+use Prim.Native.Nat.{ℕ, _+_, _-_, _<_, _≤_}
+use mathlib.Core.Path.{_≡_, sym, _∙_}
+use mathlib.Core.Bool.{Bool, true, false, not}
+use mathlib.Core.List.{List}
 use native.Mathlib.Omega.{arith}
 use borrow.Author.Needs.{needs}
 use borrow.Author.Tests.{not-true, not-false}
-use Rattle.references.proofs.Nested.{level-form, inside, content-slice, content-end, nil-none, nil-custom, nil-here, nil-plain, nil-other, nil-inner}
+use lib.ListN.{length, take, drop}
+use Rattle.fields.specs.Fields.{field}
+use Rattle.elements.specs.Elements.{isReference}
+use Rattle.references.specs.References.{listEnd, blockAt, layoutAnswer, hasNil, namesNil}
+use Rattle.references.proofs.Nested.{level-form, Inside, inside, content-slice, content-end, nil-none, nil-custom, nil-here, nil-plain, nil-other, nil-inner}
 use borrow.Fn.Kinds.{In}
 use borrow.Fn.PlainCycle.{Measures, is, falls, and}
 use Rattle.references.proofs.names_nil.Reads as names-nil
@@ -42,99 +48,77 @@ names-nil-claims t = (
   names-nil.Post,
 )
 
-names-nil-returns : (t : ℕ) → names-nil-lts.Need-returns (names-nil-claims t) (names-nil-at t) names-nil.Post
-names-nil-returns t c = sym (nil-none _ _ (c .if1 .taken))
+-- with levels left and the flags read
+module _ (s : List ℕ) (d : ℕ) (accepted : layoutAnswer d s ≡ 0) (some : d ≡ 0 → ⊥) (f : ℕ) (flags : f ≡ field s 4 4) where
+  custom : f ≡ 4 → false ≡ namesNil d s
+  custom h = sym (nil-custom _ _ (omega arith) (sym flags ∙ h))
 
-names-nil-read-u32-requires : (t : ℕ) → names-nil-lts.Need-read-u32-requires (names-nil-claims t) (names-nil-at t) names-nil.Post
-names-nil-read-u32-requires t c κs = search needs
+  module _ (block : f ≡ 4 → ⊥) (b : Bool) (judged : b ≡ hasNil (blockAt s 24)) where
+    here : b ≡ true → true ≡ namesNil d s
+    here h = sym (nil-here _ _ (omega arith) (level-form _ _ (omega arith) accepted) (λ z. block (flags ∙ z)) (sym judged ∙ h))
 
-names-nil-returns-2 : (t : ℕ) → names-nil-lts.Need-returns-2 (names-nil-claims t) (names-nil-at t) names-nil.Post
-names-nil-returns-2 t c = sym (nil-custom _ _ (omega arith) (sym (c .before .read-u32 .ensures) ∙ c .if2 .taken))
+    module _ (named : b ≡ false) where
+      plain : (f ≡ 8 → ⊥) → false ≡ namesNil d s
+      plain h = sym (nil-plain _ _ (omega arith) (level-form _ _ (omega arith) accepted) (λ z. block (flags ∙ z)) (sym judged ∙ named) (λ z. h (flags ∙ z)))
 
-names-nil-nil-block-requires : (t : ℕ) → names-nil-lts.Need-nil-block-requires (names-nil-claims t) (names-nil-at t) names-nil.Post
-names-nil-nil-block-requires t c κs = search needs
+      module _ (extended : f ≡ 8) (e n : ℕ) (ends : e ≡ listEnd s) (size : n ≡ field s (e + 32 - 8) 4)
+          (r : Bool) (tested : r ≡ isReference (take (e + 32 + n - (e + 32)) (drop (e + 32) s))) where
+        other-data : not r ≡ true → false ≡ namesNil d s
+        other-data h = sym (nil-other _ _ (omega arith) (sym flags ∙ extended) (sym judged ∙ named) (sym (rw (content-slice s e n ends size) at tested) ∙ not-true _ h))
 
-names-nil-returns-3 : (t : ℕ) → names-nil-lts.Need-returns-3 (names-nil-claims t) (names-nil-at t) names-nil.Post
-names-nil-returns-3 t c = sym (nil-here _ _ (omega arith) (level-form _ _ (omega arith) (c .before .before .before .before .before .before .pre .1)) (λ z. c .before .before .if2 .left (c .before .before .before .read-u32 .ensures ∙ z)) (sym (c .before .nil-block .ensures) ∙ c .if3 .taken))
+        inner-names : not r ≡ false → (x : Bool) → x ≡ namesNil (d - 1) (take (e + 32 + n - (e + 32)) (drop (e + 32) s)) → x ≡ namesNil d s
+        inner-names h x g =
+            rw (content-slice s e n ends size) at g
+            ∙ sym (nil-inner _ _ (omega arith) (sym flags ∙ extended) (sym judged ∙ named) (sym (rw (content-slice s e n ends size) at tested) ∙ not-false _ h))
 
-names-nil-returns-4 : (t : ℕ) → names-nil-lts.Need-returns-4 (names-nil-claims t) (names-nil-at t) names-nil.Post
-names-nil-returns-4 t c = sym (nil-plain _ _ (omega arith) (level-form _ _ (omega arith) (c .before .before .before .before .before .before .before .pre .1)) (λ z. c .before .before .before .if2 .left (c .before .before .before .before .read-u32 .ensures ∙ z)) (sym (c .before .before .nil-block .ensures) ∙ c .before .if3 .left) (λ z. c .if4 .taken (c .before .before .before .before .read-u32 .ensures ∙ z)))
+-- the data of the element
+module _ (s : List ℕ) (d : ℕ) (accepted : layoutAnswer d s ≡ 0) (some : d ≡ 0 → ⊥) (f : ℕ) (flags : f ≡ field s 4 4) (extended : f ≡ 8)
+    (e n : ℕ) (ends : e ≡ listEnd s) (size : n ≡ field s (e + 32 - 8) 4) where
+  inside-data : Inside d s
+  inside-data = inside _ _ (omega arith) accepted (sym flags ∙ extended)
 
-names-nil-list-end-requires : (t : ℕ) → names-nil-lts.Need-list-end-requires (names-nil-claims t) (names-nil-at t) names-nil.Post
-names-nil-list-end-requires t c κs = search needs
+  data-within : e + 32 + n ≤ length s
+  unfolding inside-data
+  data-within = content-end s e n ends size (inside-data .within)
 
-names-nil-add-from : (t : ℕ) → names-nil-lts.Need-add-from (names-nil-claims t) (names-nil-at t) names-nil.Post
-names-nil-add-from t c = omega (arith, c .list-end .ensures .1)
-
-names-nil-sub-read-u32 : (t : ℕ) → names-nil-lts.Need-sub-read-u32 (names-nil-claims t) (names-nil-at t) names-nil.Post
-names-nil-sub-read-u32 t c = omega (arith, c .list-end .ensures .1)
-
-names-nil-read-u32-requires-2 : (t : ℕ) → names-nil-lts.Need-read-u32-requires-2 (names-nil-claims t) (names-nil-at t) names-nil.Post
-names-nil-read-u32-requires-2 t c κs = search needs
-
-names-nil-cast-to : (t : ℕ) → names-nil-lts.Need-cast-to (names-nil-claims t) (names-nil-at t) names-nil.Post
-names-nil-cast-to t c = search needs
-
-names-nil-add-to : (t : ℕ) → names-nil-lts.Need-add-to (names-nil-claims t) (names-nil-at t) names-nil.Post
-names-nil-add-to t c = omega (arith, c .before .list-end .ensures .1)
-
-names-nil-sub-is-reference : (t : ℕ) → names-nil-lts.Need-sub-is-reference (names-nil-claims t) (names-nil-at t) names-nil.Post
-names-nil-sub-is-reference t c = omega arith
-
-names-nil-part-is-reference-start : (t : ℕ) → names-nil-lts.Need-part-is-reference-start (names-nil-claims t) (names-nil-at t) names-nil.Post
-names-nil-part-is-reference-start t c = omega arith
-
-names-nil-part-is-reference-end : (t : ℕ) → names-nil-lts.Need-part-is-reference-end (names-nil-claims t) (names-nil-at t) names-nil.Post
-names-nil-part-is-reference-end t c = let w = content-end _ (c .before .list-end .result) (c .read-u322 .result) (c .before .list-end .ensures .0) (c .read-u322 .ensures) ((inside _ _ (omega arith) (c .before .before .before .before .before .before .before .before .before .pre .1) (sym (c .before .before .before .before .before .before .read-u32 .ensures) ∙ c .before .before .if4 .left)) .within) in omega arith
-
-names-nil-is-reference-requires : (t : ℕ) → names-nil-lts.Need-is-reference-requires (names-nil-claims t) (names-nil-at t) names-nil.Post
-names-nil-is-reference-requires t c κs = search needs
-
-names-nil-returns-5 : (t : ℕ) → names-nil-lts.Need-returns-5 (names-nil-claims t) (names-nil-at t) names-nil.Post
-names-nil-returns-5 t c = sym (nil-other _ _ (omega arith) (sym (c .before .before .before .before .before .before .before .before .before .read-u32 .ensures) ∙ c .before .before .before .before .before .if4 .left) (sym (c .before .before .before .before .before .before .before .nil-block .ensures) ∙ c .before .before .before .before .before .before .if3 .left) (sym (rw (content-slice _ (c .before .before .before .before .list-end .result) (c .before .before .before .read-u322 .result) (c .before .before .before .before .list-end .ensures .0) (c .before .before .before .read-u322 .ensures)) at (c .before .is-reference .ensures)) ∙ not-true _ (c .if5 .taken)))
-
-names-nil-sub-names-nil : (t : ℕ) → names-nil-lts.Need-sub-names-nil (names-nil-claims t) (names-nil-at t) names-nil.Post
-names-nil-sub-names-nil t c = omega arith
-
-names-nil-part-names-nil-start : (t : ℕ) → names-nil-lts.Need-part-names-nil-start (names-nil-claims t) (names-nil-at t) names-nil.Post
-names-nil-part-names-nil-start t c = omega arith
-
-names-nil-part-names-nil-end : (t : ℕ) → names-nil-lts.Need-part-names-nil-end (names-nil-claims t) (names-nil-at t) names-nil.Post
-names-nil-part-names-nil-end t c = let w = content-end _ (c .before .before .before .before .list-end .result) (c .before .before .before .read-u322 .result) (c .before .before .before .before .list-end .ensures .0) (c .before .before .before .read-u322 .ensures) ((inside _ _ (omega arith) (c .before .before .before .before .before .before .before .before .before .before .before .before .pre .1) (sym (c .before .before .before .before .before .before .before .before .before .read-u32 .ensures) ∙ c .before .before .before .before .before .if4 .left)) .within) in omega arith
-
-names-nil-sub-names-nil-2 : (t : ℕ) → names-nil-lts.Need-sub-names-nil-2 (names-nil-claims t) (names-nil-at t) names-nil.Post
-names-nil-sub-names-nil-2 t c = omega arith
-
-names-nil-names-nil-requires : (t : ℕ) → names-nil-lts.Need-names-nil-requires (names-nil-claims t) (names-nil-at t) names-nil.Post
-names-nil-names-nil-requires t c κs = (omega (arith, c .before .before .before .before .before .before .before .before .before .before .before .before .before .pre .0), rw (content-slice _ (c .before .before .before .before .before .list-end .result) (c .before .before .before .before .read-u322 .result) (c .before .before .before .before .before .list-end .ensures .0) (c .before .before .before .before .read-u322 .ensures)) ((inside _ _ (omega arith) (c .before .before .before .before .before .before .before .before .before .before .before .before .before .pre .1) (sym (c .before .before .before .before .before .before .before .before .before .before .read-u32 .ensures) ∙ c .before .before .before .before .before .before .if4 .left)) .inner (sym (rw (content-slice _ (c .before .before .before .before .before .list-end .result) (c .before .before .before .before .read-u322 .result) (c .before .before .before .before .before .list-end .ensures .0) (c .before .before .before .before .read-u322 .ensures)) at (c .before .before .is-reference .ensures)) ∙ not-false _ (c .before .if5 .left))))
-
-names-nil-returns-6 : (t : ℕ) → names-nil-lts.Need-returns-6 (names-nil-claims t) (names-nil-at t) names-nil.Post
-names-nil-returns-6 t c = (rw (content-slice _ (c .before .before .before .before .before .before .list-end .result) (c .before .before .before .before .before .read-u322 .result) (c .before .before .before .before .before .before .list-end .ensures .0) (c .before .before .before .before .before .read-u322 .ensures)) at (c .names-nil .ensures)) ∙ sym (nil-inner _ _ (omega arith) (sym (c .before .before .before .before .before .before .before .before .before .before .before .read-u32 .ensures) ∙ c .before .before .before .before .before .before .before .if4 .left) (sym (c .before .before .before .before .before .before .before .before .before .nil-block .ensures) ∙ c .before .before .before .before .before .before .before .before .if3 .left) (sym (rw (content-slice _ (c .before .before .before .before .before .before .list-end .result) (c .before .before .before .before .before .read-u322 .result) (c .before .before .before .before .before .before .list-end .ensures .0) (c .before .before .before .before .before .read-u322 .ensures)) at (c .before .before .before .is-reference .ensures)) ∙ not-false _ (c .before .before .if5 .left)))
+  inner-accepted : (r : Bool) → r ≡ isReference (take (e + 32 + n - (e + 32)) (drop (e + 32) s)) → not r ≡ false
+      → layoutAnswer (d - 1) (take (e + 32 + n - (e + 32)) (drop (e + 32) s)) ≡ 0
+  unfolding inside-data
+  inner-accepted r tested h = rw (content-slice s e n ends size) (inside-data .inner (sym (rw (content-slice s e n ends size) at tested) ∙ not-false _ h))
 
 pub +names-nil-spec : {M : Type 1} → statement M
 +names-nil-spec = close μ-names-nil λ t. names-nil-lts.spec (names-nil-claims t)
     (names-nil-at t)
     names-nil.Post
-    (names-nil-returns t)
-    (names-nil-read-u32-requires t)
-    (names-nil-returns-2 t)
-    (names-nil-nil-block-requires t)
-    (names-nil-returns-3 t)
-    (names-nil-returns-4 t)
-    (names-nil-list-end-requires t)
-    (names-nil-add-from t)
-    (names-nil-sub-read-u32 t)
-    (names-nil-read-u32-requires-2 t)
-    (names-nil-cast-to t)
-    (names-nil-add-to t)
-    (names-nil-sub-is-reference t)
-    (names-nil-part-is-reference-start t)
-    (names-nil-part-is-reference-end t)
-    (names-nil-is-reference-requires t)
-    (names-nil-returns-5 t)
-    (names-nil-sub-names-nil t)
-    (names-nil-part-names-nil-start t)
-    (names-nil-part-names-nil-end t)
-    (names-nil-sub-names-nil-2 t)
-    (names-nil-names-nil-requires t)
-    (names-nil-returns-6 t)
+    (λ c. sym (nil-none _ _ (c .if1 .taken)))
+    (λ c κs. search needs)
+    (λ c. search custom)
+    (λ c κs. search needs)
+    (λ c. search here)
+    (λ c. search plain)
+    (λ c κs. search needs)
+    (λ c. omega (arith, c .list-end .ensures .1))
+    (λ c. omega (arith, c .list-end .ensures .1))
+    (λ c κs. search needs)
+    (λ c. search needs)
+    (λ c. omega (arith, c .before .list-end .ensures .1))
+    (λ c. omega arith)
+    (λ c. omega arith)
+    (λ c. search data-within)
+    (λ c κs. search needs)
+    (λ c. search other-data)
+    (λ c. omega arith)
+    (λ c. omega arith)
+    (λ c.
+    let test = c .before .before .before .before .before in
+    data-within _ _ (test .before .before .before .before .before .before .before .pre .1) (test .before .before .before .before .before .if1 .left) _ (test .before .before .before .before .read-u32 .ensures) (test .if4 .left) _ _ (c .before .before .before .before .list-end .ensures .0) (c .before .before .before .read-u322 .ensures))
+    (λ c. omega arith)
+    (λ c κs.
+    let test = c .before .before .before .before .before .before in
+    let inner = inner-accepted _ _ (test .before .before .before .before .before .before .before .pre .1) (test .before .before .before .before .before .if1 .left) _ (test .before .before .before .before .read-u32 .ensures) (test .if4 .left) _ _ (c .before .before .before .before .before .list-end .ensures .0) in
+    (omega (arith, test .before .before .before .before .before .before .before .pre .0), inner (c .before .before .before .before .read-u322 .ensures) _ (c .before .before .is-reference .ensures) (c .before .if5 .left)))
+    (λ c.
+    let test = c .before .before .before .before .before .before .before in
+    let named = inner-names _ _ (test .before .before .before .before .before .before .before .pre .1) (test .before .before .before .before .before .if1 .left) _ (test .before .before .before .before .read-u32 .ensures) (test .before .before .before .if2 .left) _ (test .before .before .nil-block .ensures) in
+    named (test .before .if3 .left) (test .if4 .left) _ _ (c .before .before .before .before .before .before .list-end .ensures .0) (c .before .before .before .before .before .read-u322 .ensures) _ (c .before .before .before .is-reference .ensures)
+    (c .before .before .if5 .left) _ (c .names-nil .ensures))

@@ -1,90 +1,81 @@
 -- `locate`: the reference's refusals; then the binding's place in the list, moved to where the list begins.
-use Prim.Native.Nat.{_+_, _≤_}
+use Prim.Native.Nat.{ℕ, _+_, _≤_}
 use mathlib.Core.Path.{_≡_, sym, ap, _∙_}
+use mathlib.Core.List.{List}
 use native.Mathlib.Omega.{arith}
 use borrow.Author.Tests.{eq-eqb, ne-eqb}
 use lib.ListN.{length}
 use Rattle.fields.specs.Fields.{field}
-use Rattle.bindings.specs.Bindings.{bindingAt, bytesAt}
+use Rattle.bindings.specs.Bindings.{refusal, bindingAt, bytesAt}
+use Rattle.bindings.specs.declared.Part.{Part}
 use Rattle.bindings.specs.declared.Place.{Place}
 use Rattle.bindings.proofs.ListAnswers.{Within, within-binding}
-use Rattle.references.specs.References.{fixedSize, referenceAnswer, tailOf, moved, referenceBinding}
+use Rattle.references.specs.References.{fixedSize, referenceAnswer, tailPlace, tailOf, moved, referenceBinding}
 use Rattle.references.proofs.Forms.{tail-number, tail-start, tail-within, tail-length, binding-refused, binding-custom, binding-listed}
 use borrow.Author.Needs.{needs}
 use Rattle.references.proofs.locate.Statement.{statement}
 use Rattle.references.proofs.locate.Tie as tie
 
-returns : tie.Need-returns
-returns c =
-    let place = c .before .before .tail-place .ensures in
-    place ∙ sym (binding-refused _ _ _ (λ z. c .if1 .taken (ap (λ (x : Place). x .answer) place ∙ z)))
+-- the place found lies in the tail
+record Room (s : List ℕ) (x y : Place) : Type 0 where
+  order : y .from ≤ y .to
+  end : x .from + y .to ≤ length s
 
-done : (c : tie.Else1) → referenceAnswer (c .before .before .before .before .args .s .now) ≡ 0
-done c = sym (tail-number _) ∙ ap (λ (x : Place). x .answer) (sym (c .before .before .tail-place .ensures)) ∙ c .if1 .left
+module _ (s : List ℕ) (p : Part) (k : ℕ) (x : Place) (placed : x ≡ tailPlace s) where
+  refused : (x .answer ≡ 0 → ⊥) → x ≡ referenceBinding s p k
+  refused h = placed ∙ sym (binding-refused _ _ _ (λ z. h (ap (λ (y : Place). y .answer) placed ∙ z)))
 
-start : (c : tie.Else1) → c .before .before .tail-place .result .from ≡ fixedSize (field (c .before .before .before .before .args .s .now) 4 4)
-start c = ap (λ (x : Place). x .from) (c .before .before .tail-place .ensures) ∙ tail-start _ (done c)
+  module _ (good : x .answer ≡ 0) where
+    done : referenceAnswer s ≡ 0
+    done = sym (tail-number s) ∙ ap (λ (y : Place). y .answer) (sym placed) ∙ good
 
-inside : (c : tie.Else1) → Within (length (c .before .before .before .before .args .s .now)) (c .before .before .tail-place .result)
-inside c = rw (c .before .before .tail-place .ensures) (tail-within _)
+    start : x .from ≡ fixedSize (field s 4 4)
+    start = ap (λ (y : Place). y .from) placed ∙ tail-start s done
 
-returns-2 : tie.Need-returns-2
-returns-2 c = sym (binding-custom _ _ _ (done (c .before .before)) (sym (c .before .read-u32 .ensures) ∙ c .if2 .taken))
+    custom : (f : ℕ) → f ≡ field s 4 4 → f ≡ 4 → refusal 24 ≡ referenceBinding s p k
+    custom f flags h = sym (binding-custom _ _ _ done (sym flags ∙ h))
 
-sub-locate : tie.Need-sub-locate
-sub-locate c = inside (c .before .before) .0
+    module _ (y : Place) (found : y ≡ bindingAt (bytesAt s x) p k) where
+      listed : y ≡ bindingAt (tailOf s) p k
+      listed = found ∙ ap (λ (z : Place). bindingAt (bytesAt s z) p k) placed
 
-part-locate-start : tie.Need-part-locate-start
-part-locate-start c = inside (c .before .before) .0
+      room : Room s x y
+      room =
+          let w = within-binding (tailOf s) p k in
+          let n = tail-length s done in
+          let from = start in
+          rw listed (record { order = omega arith; end = omega arith })
 
-part-locate-end : tie.Need-part-locate-end
-part-locate-end c = inside (c .before .before) .1
+      module _ (f : ℕ) (flags : f ≡ field s 4 4) (other : f ≡ 4 → ⊥) where
+        moves : referenceBinding s p k ≡ moved (x .from) y
+        moves = rw (listed, start) (binding-listed _ _ _ done (λ z. other (flags ∙ z)))
 
-listed : (c : tie.After-locate) → c .locate .result ≡ bindingAt (tailOf (c .before .before .before .before .before .before .before .before .args .s .now)) (c .before .before .before .before .before .before .before .before .args .p) (c .before .before .before .before .before .before .before .before .args .k)
-listed c =
-    let test = c .before .before .before .before in
-    let s = test .before .before .before .before .args .s .now in
-    let a = test .before .before .before .before .args in
-    c .locate .ensures ∙ ap (λ (x : Place). bindingAt (bytesAt s x) (a .p) (a .k)) (test .before .before .tail-place .ensures)
+        none : (y .answer ≡ 0 → ⊥) → y ≡ referenceBinding s p k
+        none h = rw (moves, ne-eqb _ _ h)
 
-found : (c : tie.After-locate) → referenceBinding (c .before .before .before .before .before .before .before .before .args .s .now) (c .before .before .before .before .before .before .before .before .args .p) (c .before .before .before .before .before .before .before .before .args .k) ≡ moved (c .before .before .before .before .before .before .tail-place .result .from) (c .locate .result)
-found c =
-    let test = c .before .before .before .before in
-    rw (listed c, start test) (binding-listed _ _ _ (done test) (λ z. c .before .before .if2 .left (c .before .before .before .read-u32 .ensures ∙ z)))
+        here : y .answer ≡ 0 → record { answer = 0; from = x .from + y .from; to = x .from + y .to } ≡ referenceBinding s p k
+        here h = rw (moves, eq-eqb _ _ h)
 
-room : (c : tie.After-locate) → (c .locate .result .from ≤ c .locate .result .to) × (c .before .before .before .before .before .before .tail-place .result .from + c .locate .result .to ≤ length (c .before .before .before .before .before .before .before .before .args .s .now))
-room c =
-    let test = c .before .before .before .before in
-    let a = test .before .before .before .before .args in
-    let w = within-binding (tailOf (a .s .now)) (a .p) (a .k) in
-    let n = tail-length (a .s .now) (done test) in
-    rw (listed c, start test) (omega arith)
+inside : (s : List ℕ) (x : Place) → x ≡ tailPlace s → Within (length s) x
+inside s x e = rw e (tail-within s)
 
-returns-3 : tie.Need-returns-3
-returns-3 c = rw (found (c .before .before), ne-eqb _ _ (c .if3 .taken))
-
-add-t11 : tie.Need-add-t11
-add-t11 c = let h = room (c .before .before .before) in omega arith
-
-add-t14 : tie.Need-add-t14
-add-t14 c = let h = room (c .before .before .before .before) in omega arith
-
-returns-4 : tie.Need-returns-4
-returns-4 c = rw (found (c .before .before .before .before), eq-eqb _ _ (c .before .before .if3 .left))
+room-here : (c : tie.After-locate) → let t = c .before .before .before .before in
+    Room (t .before .before .before .before .args .s .now) (t .before .before .tail-place .result) (c .locate .result)
+room-here c = search room
 
 pub locate-spec : {M : Type 1} → statement M
 locate-spec =
     tie.close
     (tie.spec
     (λ c κs. search needs)
-    returns
+    (λ c. search refused)
     (λ c κs. search needs)
-    returns-2
-    sub-locate
-    part-locate-start
-    part-locate-end
+    (λ c. search custom)
+    (λ c. inside _ _ (c .before .before .before .before .tail-place .ensures) .0)
+    (λ c. inside _ _ (c .before .before .before .before .tail-place .ensures) .0)
+    (λ c. inside _ _ (c .before .before .before .before .tail-place .ensures) .1)
     (λ c κs. search needs)
-    returns-3
-    add-t11
-    add-t14
-    returns-4)
+    (λ c. search none)
+    (λ c. let h = room-here (c .before .before .before) in omega arith)
+    (λ c. let h = room-here (c .before .before .before .before) in omega arith)
+    (λ c. search here))

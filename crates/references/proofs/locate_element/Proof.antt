@@ -1,23 +1,30 @@
 -- `locate_element`: the rows of `elementPlace`.
-use mathlib.Core.Path.{sym, _∙_}
+use Prim.Native.Nat.{ℕ, _+_}
+use mathlib.Core.Path.{_≡_, sym, _∙_}
+use mathlib.Core.List.{List}
+use Rattle.fields.specs.Fields.{field}
+use Rattle.bindings.specs.Bindings.{refusal}
+use Rattle.bindings.specs.declared.Place.{Place}
+use Rattle.references.specs.References.{contentStart, contentLength, referenceAnswer}
+use Rattle.references.specs.Parts.{ElementFound}
 use Rattle.references.proofs.Nested.{found-refused, found-none, found-content, none-form, none-later}
 use borrow.Author.Needs.{needs}
 use Rattle.references.proofs.locate_element.Statement.{statement}
 use Rattle.references.proofs.locate_element.Tie as tie
 
-returns : tie.Need-returns
-returns c =
-    let n = c .before .before .reference-answer .ensures in
-    rw (c .refused-place .ensures, n) (found-refused _ _ (λ z. c .before .if1 .taken (n ∙ z)))
+module _ (s : List ℕ) (k n : ℕ) (judged : n ≡ referenceAnswer s) (x : Place) where
+  refused-found : (n ≡ 0 → ⊥) → x ≡ refusal n → ElementFound s k x
+  refused-found h e = rw (e, judged) (found-refused _ _ (λ z. h (judged ∙ z)))
 
-returns-2 : tie.Need-returns-2
-returns-2 c = rw (c .refused-place2 .ensures) (found-none _ _ (sym (c .before .before .before .before .reference-answer .ensures) ∙ c .before .before .before .if1 .left) (none-form _ (c .before .before .before .before .before .before .args .k) (λ z. c .before .if2 .taken (c .before .before .read-u32 .ensures ∙ z))))
+  module _ (good : n ≡ 0) (f : ℕ) (flags : f ≡ field s 4 4) where
+    other-form : (f ≡ 8 → ⊥) → x ≡ refusal 24 → ElementFound s k x
+    other-form h e = rw e (found-none _ _ (sym judged ∙ good) (none-form _ k (λ z. h (flags ∙ z))))
 
-returns-3 : tie.Need-returns-3
-returns-3 c = rw (c .refused-place3 .ensures) (found-none _ _ (sym (c .before .before .before .before .before .reference-answer .ensures) ∙ c .before .before .before .before .if1 .left) (none-later _ (c .before .before .before .before .before .before .before .args .k) (sym (c .before .before .before .read-u32 .ensures) ∙ c .before .before .if2 .left) (c .before .if3 .taken)))
+    later : f ≡ 8 → (k ≡ 0 → ⊥) → x ≡ refusal 24 → ElementFound s k x
+    later h z e = rw e (found-none _ _ (sym judged ∙ good) (none-later _ k (sym flags ∙ h) z))
 
-returns-4 : tie.Need-returns-4
-returns-4 c = rw (c .content-place .ensures) (found-content _ _ (sym (c .before .before .before .before .before .reference-answer .ensures) ∙ c .before .before .before .before .if1 .left) (sym (c .before .before .before .read-u32 .ensures) ∙ c .before .before .if2 .left) (c .before .if3 .left))
+    first : f ≡ 8 → k ≡ 0 → x ≡ record { answer = 0; from = contentStart s; to = contentStart s + contentLength s } → ElementFound s k x
+    first h z e = rw e (found-content _ _ (sym judged ∙ good) (sym flags ∙ h) z)
 
 pub locate-element-spec : {M : Type 1} → statement M
 locate-element-spec =
@@ -25,11 +32,11 @@ locate-element-spec =
     (tie.spec
     (λ c κs. search needs)
     (λ c κs. search needs)
-    returns
+    (λ c. search refused-found)
     (λ c κs. search needs)
     (λ c κs. search needs)
-    returns-2
+    (λ c. search other-form)
     (λ c κs. search needs)
-    returns-3
+    (λ c. search later)
     (λ c κs. search needs)
-    returns-4)
+    (λ c. search first))

@@ -1,11 +1,16 @@
 -- `locate_property`: the rows of `contextPlace`.
-use Prim.Native.Nat.{_+_, _≤_}
+use Prim.Native.Nat.{ℕ, _+_, _-_, _≤_}
 use mathlib.Core.Path.{_≡_, sym, ap, _∙_}
+use mathlib.Core.Bool.{Bool, true, false, not}
+use mathlib.Core.List.{List}
 use native.Mathlib.Omega.{arith}
 use borrow.Author.Tests.{eq-eqb, ne-eqb, not-true, not-false}
-use lib.ListN.{length, drop, length-drop}
+use lib.ListN.{length, take, drop, length-drop}
+use Rattle.kinds.specs.declared.Guid.{Guid}
+use Rattle.fields.specs.Fields.{field, guidAt}
 use Rattle.fields.proofs.Fields.{take-rest}
 use Rattle.bindings.specs.Bindings.{refusal}
+use Rattle.bindings.specs.declared.Place.{Place}
 use Rattle.contexts.specs.Contexts.{propertyPlace, isMarshaler}
 use Rattle.contexts.proofs.Properties.{property-within}
 use Rattle.references.specs.References.{moved, referenceAnswer, contextPlace}
@@ -14,59 +19,48 @@ use borrow.Author.Needs.{needs}
 use Rattle.references.proofs.locate_property.Statement.{statement}
 use Rattle.references.proofs.locate_property.Tie as tie
 
-returns : tie.Need-returns
-returns c =
-    let n = c .before .before .reference-answer .ensures in
-    c .refused-place .ensures ∙ ap refusal n ∙ sym (property-refused _ _ (λ z. c .before .if1 .taken (n ∙ z)))
+-- the place found lies in the object data
+record Room (s : List ℕ) (x : Place) : Type 0 where
+  order : x .from ≤ x .to
+  end : 48 + x .to ≤ length s
 
-done : (c : tie.Else1) → referenceAnswer (c .before .before .before .args .s .now) ≡ 0
-done c = sym (c .before .reference-answer .ensures) ∙ c .if1 .left
+module _ (s : List ℕ) (k n : ℕ) (judged : n ≡ referenceAnswer s) (x : Place) where
+  refused : (n ≡ 0 → ⊥) → x ≡ refusal n → x ≡ contextPlace s k
+  refused h e = e ∙ ap refusal judged ∙ sym (property-refused _ _ (λ z. h (judged ∙ z)))
 
-returns-2 : tie.Need-returns-2
-returns-2 c =
-    c .refused-place2 .ensures ∙ sym (property-none _ _ (done (c .before .before .before)) (λ z. c .before .if2 .taken (c .before .before .read-u32 .ensures ∙ z)))
+  module _ (good : n ≡ 0) (f : ℕ) (flags : f ≡ field s 4 4) where
+    no-custom : (f ≡ 4 → ⊥) → x ≡ refusal 24 → x ≡ contextPlace s k
+    no-custom h e = e ∙ sym (property-none _ _ (sym judged ∙ good) (λ z. h (flags ∙ z)))
 
-returns-3 : tie.Need-returns-3
-returns-3 c =
-    let no = ap (λ g. isMarshaler g) (sym (c .before .before .before .read-guid .ensures)) ∙ sym (c .before .before .is-marshaler .ensures) ∙ not-true _ (c .before .if3 .taken) in
-    c .refused-place3 .ensures ∙ sym (property-other _ _ (done (c .before .before .before .before .before .before)) no)
+    module _ (custom : f ≡ 4) (g : Guid) (clsid : g ≡ guidAt s 24) (b : Bool) (tested : b ≡ isMarshaler g) where
+      no-context : not b ≡ true → x ≡ refusal 24 → x ≡ contextPlace s k
+      no-context h e = e ∙ sym (property-other _ _ (sym judged ∙ good) (ap isMarshaler (sym clsid) ∙ sym tested ∙ not-true _ h))
 
-fixed : (c : tie.Else3) → 48 ≤ length (c .before .before .before .before .before .before .before .before .args .s .now)
-fixed c = custom-room _ (sym (c .before .before .before .before .read-u32 .ensures) ∙ c .before .before .before .if2 .left) (accepted _ (done (c .before .before .before .before .before)) .fixed)
+      module _ (yes : not b ≡ false) (found : x ≡ propertyPlace (take (length s - 48) (drop 48 s)) k) where
+        moves : contextPlace s k ≡ moved 48 x
+        moves =
+            property-moved _ _ (sym judged ∙ good) (sym flags ∙ custom) (ap isMarshaler (sym clsid) ∙ sym tested ∙ not-false _ yes)
+            ∙ ap (moved 48) (sym (rw (take-rest s 48) at found))
 
-sub-locate : tie.Need-sub-locate
-sub-locate c = fixed c
+        none : (x .answer ≡ 0 → ⊥) → x ≡ contextPlace s k
+        none h = rw (moves, ne-eqb _ _ h)
 
-part-locate-start : tie.Need-part-locate-start
-part-locate-start c = fixed c
+        here : x .answer ≡ 0 → record { answer = 0; from = 48 + x .from; to = 48 + x .to } ≡ contextPlace s k
+        here h = rw (moves, eq-eqb _ _ h)
 
-found : (c : tie.After-locate) → contextPlace (c .before .before .before .before .before .before .before .before .before .before .args .s .now) (c .before .before .before .before .before .before .before .before .before .before .args .k) ≡ moved 48 (c .locate .result)
-found c =
-    let test = c .before .before in
-    let s = c .before .before .before .before .before .before .before .before .before .before .args .s .now in
-    let yes = ap (λ g. isMarshaler g) (sym (c .before .before .before .before .read-guid .ensures)) ∙ sym (c .before .before .before .is-marshaler .ensures) ∙ not-false _ (test .if3 .left) in
-    let f = sym (c .before .before .before .before .before .before .read-u32 .ensures) ∙ c .before .before .before .before .before .if2 .left in
-    property-moved _ _ (done (c .before .before .before .before .before .before .before)) f yes ∙ ap (moved 48) (sym (c .locate .ensures ∙ ap (λ l. propertyPlace l (c .before .before .before .before .before .before .before .before .before .before .args .k)) (take-rest s 48)))
+module _ (s : List ℕ) (n : ℕ) (judged : n ≡ referenceAnswer s) (good : n ≡ 0) (f : ℕ) (flags : f ≡ field s 4 4) (custom : f ≡ 4) where
+  fixed : 48 ≤ length s
+  fixed = custom-room _ (sym flags ∙ custom) (accepted s (sym judged ∙ good) .fixed)
 
-room : (c : tie.After-locate) → (c .locate .result .from ≤ c .locate .result .to) × (48 + c .locate .result .to ≤ length (c .before .before .before .before .before .before .before .before .before .before .args .s .now))
-room c =
-    let s = c .before .before .before .before .before .before .before .before .before .before .args .s .now in
-    let h = fixed (c .before .before) in
-    let w = property-within (drop 48 s) (c .before .before .before .before .before .before .before .before .before .before .args .k) in
-    let size = length-drop 48 s in
-    rw (c .locate .ensures, take-rest s 48) (omega arith)
+  room : (k : ℕ) (x : Place) → x ≡ propertyPlace (take (length s - 48) (drop 48 s)) k → Room s x
+  room k x e =
+      let h = fixed in
+      let w = property-within (drop 48 s) k in
+      let size = length-drop 48 s in
+      rw (e, take-rest s 48) (record { order = omega arith; end = omega arith })
 
-returns-4 : tie.Need-returns-4
-returns-4 c = rw (found (c .before .before), ne-eqb _ _ (c .if4 .taken))
-
-add-t10 : tie.Need-add-t10
-add-t10 c = let h = room (c .before .before .before) in omega arith
-
-add-t13 : tie.Need-add-t13
-add-t13 c = let h = room (c .before .before .before .before) in omega arith
-
-returns-5 : tie.Need-returns-5
-returns-5 c = rw (found (c .before .before .before .before), eq-eqb _ _ (c .before .before .if4 .left))
+room-here : (c : tie.After-locate) → Room (c .before .before .before .before .before .before .before .before .before .before .args .s .now) (c .locate .result)
+room-here c = search room
 
 pub locate-property-spec : {M : Type 1} → statement M
 locate-property-spec =
@@ -74,19 +68,19 @@ locate-property-spec =
     (tie.spec
     (λ c κs. search needs)
     (λ c κs. search needs)
-    returns
+    (λ c. search refused)
     (λ c κs. search needs)
     (λ c κs. search needs)
-    returns-2
+    (λ c. search no-custom)
     (λ c κs. search needs)
     (λ c κs. search needs)
     (λ c κs. search needs)
-    returns-3
-    sub-locate
-    part-locate-start
+    (λ c. search no-context)
+    (λ c. search fixed)
+    (λ c. search fixed)
     (λ c. search needs)
     (λ c κs. search needs)
-    returns-4
-    add-t10
-    add-t13
-    returns-5)
+    (λ c. search none)
+    (λ c. let h = room-here (c .before .before .before) in omega arith)
+    (λ c. let h = room-here (c .before .before .before .before) in omega arith)
+    (λ c. search here))

@@ -1,10 +1,14 @@
 -- `Context::write`: the head and the properties are a run of writes from the front.
+use Prim.Native.Nat.{ℕ, _+_, _≤_}
 use mathlib.Core.Path.{_≡_, refl, sym, _∙_}
+use mathlib.Core.List.{List}
 use native.Mathlib.Omega.{arith}
 use borrow.Author.Tests.{eq-eqb, ne-eqb}
 use lib.ListN.{length}
+use Rattle.fields.specs.Fields.{written}
 use Rattle.fields.proofs.Fields.{first-bytes, then-bytes}
 use Rattle.contexts.specs.Contexts.{headBytes, contextBytes, writeContextAnswer, writeContext}
+use Rattle.contexts.specs.declared.Context.{Context}
 use Rattle.contexts.proofs.Properties.{length-head, context-room}
 use borrow.Author.Needs.{needs}
 use Rattle.contexts.proofs.Context.write.Statement.{statement}
@@ -17,22 +21,20 @@ returns c =
     let no = c .if1 .taken in
     (simp (ne-eqb _ _ (λ z. no (number ∙ z))) (λ u. record { answer = number u; length = 0 }), simp (ne-eqb _ _ no))
 
-done : (c : tie.Else1) → writeContextAnswer (c .before .before .before .before .args .self) (c .before .before .before .before .args .properties .now) (length (c .before .before .before .before .args .buf .now)) ≡ 0
-done c = sym (c .before .judge .ensures) ∙ c .if1 .left
+module _ (x : Context) (ps b : List ℕ) (n : ℕ) (judged : n ≡ writeContextAnswer x ps (length b)) (good : n ≡ 0) where
+  answered : record { answer = 0; length = 48 + length ps } ≡ writeContext x ps (length b)
+  unfolding writeContext
+  answered = simp (eq-eqb _ _ (sym judged ∙ good))
 
-write-head-requires : tie.Need-write-head-requires
-write-head-requires c κs = let room = context-room _ _ _ (done (c .before)) in omega (arith, room)
+  head-room : 48 ≤ length b
+  head-room = let room = context-room _ _ _ (sym judged ∙ good) in omega arith
 
-returns-2 : tie.Need-returns-2
-unfolding writeContext contextBytes
-returns-2 c =
-    let test = c .before .before .before .before .before .before .before .before in
-    let start = test .before .before .before .before in
-    let x = start .args .properties .now in
-    let room = context-room _ _ _ (done test) in
-    let run = first-bytes (headBytes (start .args .self)) 48 (length-head (start .args .self)) (c .before .before .before .before .before .before .write-head .ensures) in
-    let run2 = then-bytes x (length x) run refl (omega arith) (c .before .before .copy .ensures) in
-    (simp (eq-eqb _ _ (done test)), run2 .holds)
+  -- the writes in a row
+  context-written : (b₁ b₂ : List ℕ) → b₁ ≡ written b 0 (headBytes x) → b₂ ≡ written b₁ 48 ps → b₂ ≡ written b 0 (contextBytes x ps)
+  unfolding contextBytes
+  context-written b₁ b₂ head properties =
+      let room = context-room _ _ _ (sym judged ∙ good) in
+      then-bytes ps (length ps) (first-bytes (headBytes x) 48 (length-head x) head) refl (omega arith) properties .holds
 
 pub write-spec : {M : Type 1} → statement M
 write-spec =
@@ -40,8 +42,8 @@ write-spec =
     (tie.spec
     (λ c κs. search needs)
     returns
-    write-head-requires
+    (λ c κs. search head-room)
     (λ c κs. search needs)
     (λ c. search needs)
     (λ c. search needs)
-    returns-2)
+    (λ c. (search answered, search context-written)))

@@ -1,51 +1,38 @@
 -- `Reference::fields`: a case for each form.
 use Prim.Native.Nat.{ℕ, _+_}
-use mathlib.Core.Path.{sym, ap, _∙_}
-use Rattle.fields.specs.Fields.{guidAt}
-use Rattle.references.specs.References.{standard, handler, custom, extended, referenceAt}
+use mathlib.Core.Path.{_≡_, sym, _∙_}
+use mathlib.Core.List.{List}
+use Rattle.kinds.specs.declared.Guid.{Guid}
+use Rattle.fields.specs.Fields.{field, guidAt}
+use Rattle.references.specs.References.{listEnd, blockAt, noReference, standard, handler, custom, extended, referenceAt}
+use Rattle.references.specs.declared.Block.{Block}
+use Rattle.references.specs.declared.Reference.{Reference}
 use Rattle.references.proofs.Forms.{by-other}
 use borrow.Author.Needs.{needs}
 use Rattle.references.proofs.Reference.fields.Statement.{statement}
 use Rattle.references.proofs.Reference.fields.Tie as tie
 
-returns : tie.Need-returns
-unfolding referenceAt
-returns c =
-    let iid = c .before .before .before in
-    let flags = iid .before .read-u32 .ensures in
-    rw (← flags, c .before .if1 .taken) (c .standard .ensures ∙ (λ u. standard (iid .read-guid .ensures u) (c .before .before .read .ensures u)))
+module _ (s : List ℕ) (f : ℕ) (flags : f ≡ field s 4 4) (i : Guid) (iid : i ≡ guidAt s 8) (r : Reference) where
+  as-custom : f ≡ 4 → (g : Guid) → g ≡ guidAt s 24 → (x y : ℕ) → x ≡ field s 40 4 → y ≡ field s 44 4 → r ≡ custom i g x y → r ≡ referenceAt s
+  unfolding referenceAt
+  as-custom h g clsid x y size reserved e = rw (← flags, h, e, iid, clsid, size, reserved)
 
-returns-2 : tie.Need-returns-2
-unfolding referenceAt
-returns-2 c =
-    let test = c .before .before in
-    let block = test .before .before in
-    let iid = block .before in
-    let flags = iid .before .read-u32 .ensures in
-    rw (← flags, test .if2 .taken) (c .handler .ensures ∙ (λ u. handler (iid .read-guid .ensures u) (block .read .ensures u) (c .before .read-guid2 .ensures u)))
+  other : (f ≡ 1 → ⊥) → (f ≡ 2 → ⊥) → (f ≡ 4 → ⊥) → (f ≡ 8 → ⊥) → r ≡ noReference → r ≡ referenceAt s
+  unfolding referenceAt
+  other a b c d e = rw (← flags) (e ∙ sym (by-other _ _ _ _ _ _ a b c d))
 
-returns-3 : tie.Need-returns-3
-unfolding referenceAt
-returns-3 c =
-    let test = c .before .before .before .before in
-    let iid = test .before .before .before .before in
-    let flags = iid .before .read-u32 .ensures in
-    rw (← flags, test .if3 .taken) (c .custom .ensures ∙ (λ u. custom (iid .read-guid .ensures u) (c .before .before .before .read-guid3 .ensures u) (c .before .before .read-u322 .ensures u) (c .before .read-u323 .ensures u)))
+  module _ (b : Block) (block : b ≡ blockAt s 24) where
+    as-standard : f ≡ 1 → r ≡ standard i b → r ≡ referenceAt s
+    unfolding referenceAt
+    as-standard h e = rw (← flags, h, e, iid, block)
 
-returns-4 : tie.Need-returns-4
-unfolding referenceAt
-returns-4 c =
-    let flags = c .before .before .before .before .before .before .before .before .before .read-u32 .ensures in
-    let s = c .before .before .before .before .before .before .before .before .before .before .before .args .s .now in
-    let element = c .before .read-guid4 .ensures ∙ ap (λ (n : ℕ). guidAt s (n + 8)) (c .before .before .list-end .ensures .0) in
-    rw (← flags, c .before .before .before .if4 .taken) (c .extended .ensures ∙ (λ u. extended (c .before .before .before .before .before .before .before .before .read-guid .ensures u) (c .before .before .before .before .before .before .before .read .ensures u) (element u)))
+    as-handler : f ≡ 2 → (g : Guid) → g ≡ guidAt s 64 → r ≡ handler i b g → r ≡ referenceAt s
+    unfolding referenceAt
+    as-handler h g clsid e = rw (← flags, h, e, iid, block, clsid)
 
-returns-5 : tie.Need-returns-5
-unfolding referenceAt
-returns-5 c =
-    let flags = c .before .before .before .before .before .before .before .read-u32 .ensures in
-    c .zero .ensures
-    ∙ sym (by-other _ _ _ _ _ _ (λ z. c .before .before .before .before .if1 .left (flags ∙ z)) (λ z. c .before .before .before .if2 .left (flags ∙ z)) (λ z. c .before .before .if3 .left (flags ∙ z)) (λ z. c .before .if4 .left (flags ∙ z)))
+    as-extended : f ≡ 8 → (n : ℕ) → n ≡ listEnd s → (g : Guid) → g ≡ guidAt s (n + 8) → r ≡ extended i b g → r ≡ referenceAt s
+    unfolding referenceAt
+    as-extended h n end g id e = rw (← flags, h, e, iid, block, id, end)
 
 pub fields-spec : {M : Type 1} → statement M
 fields-spec =
@@ -55,19 +42,19 @@ fields-spec =
     (λ c κs. search needs)
     (λ c κs. search needs)
     (λ c κs. search needs)
-    returns
+    (λ c. search as-standard)
     (λ c κs. search needs)
     (λ c κs. search needs)
-    returns-2
+    (λ c. search as-handler)
     (λ c κs. search needs)
     (λ c κs. search needs)
     (λ c κs. search needs)
     (λ c κs. search needs)
-    returns-3
+    (λ c. search as-custom)
     (λ c κs. search needs)
     (λ c. search needs)
     (λ c κs. search needs)
     (λ c κs. search needs)
-    returns-4
+    (λ c. search as-extended)
     (λ c κs. search needs)
-    returns-5)
+    (λ c. search other))
