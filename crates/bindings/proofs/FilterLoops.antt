@@ -76,15 +76,18 @@ module _ (protocols s : List ℕ) (at n : ℕ) where
       left : after Strings (words s at n) ≡ words s (at + 2 * m) (n - m)
       left = rw (← e) (drop-words s m at n l)
 
-      requested-next : requested protocols (words s at n) ≡ cond (among protocols (field s at 2)) (firstBinding Strings (words s at n) ∷ requested protocols (words s (at + 2 * m) (n - m))) (requested protocols (words s (at + 2 * m) (n - m)))
+      requested-next : let rest = requested protocols (words s (at + 2 * m) (n - m)) in
+          requested protocols (words s at n) ≡ cond (among protocols (field s at 2)) (firstBinding Strings (words s at n) ∷ rest) rest
       unfolding requested keep firstBinding
       requested-next = rw (← left, next, bindings-more Strings (field s at 2) (words s (at + 2) (n - 1)) z)
 
-      pub requested-more : joined (requested protocols (words s at n)) ≡ chosen (among protocols (field s at 2)) (firstBinding Strings (words s at n)) ++ joined (requested protocols (words s (at + 2 * m) (n - m)))
+      pub requested-more : joined (requested protocols (words s at n))
+          ≡ chosen (among protocols (field s at 2)) (firstBinding Strings (words s at n)) ++ joined (requested protocols (words s (at + 2 * m) (n - m)))
       requested-more = ap joined requested-next ∙ kept-first (among protocols (field s at 2)) (firstBinding Strings (words s at n)) (requested protocols (words s (at + 2 * m) (n - m)))
 
       -- by their towers
-      towers-next : towersOf protocols (words s at n) ≡ cond (among protocols (field s at 2)) (field s at 2 ∷ towersOf protocols (words s (at + 2 * m) (n - m))) (towersOf protocols (words s (at + 2 * m) (n - m)))
+      towers-next : let rest = towersOf protocols (words s (at + 2 * m) (n - m)) in
+          towersOf protocols (words s at n) ≡ cond (among protocols (field s at 2)) (field s at 2 ∷ rest) rest
       unfolding keep firstBinding
       towers-next = rw (← left, next, bindings-more Strings (field s at 2) (words s (at + 2) (n - 1)) z)
 
@@ -111,8 +114,8 @@ module _ (protocols s : List ℕ) (at n : ℕ) where
           ≡ chosen (among protocols (field s at 2)) (take (2 * m) (drop at s)) ++ wordBytes (joined (requested protocols (words s (at + 2 * m) (n - m))))
       bytes-more b room =
           ap wordBytes requested-more
-          ∙ bytes-append (chosen (among protocols (field s at 2)) (firstBinding Strings (words s at n))) _
-          ∙ ap (λ (x : List ℕ). x ++ wordBytes (joined (requested protocols (words s (at + 2 * m) (n - m))))) (bytes-chosen (among protocols (field s at 2)) (firstBinding Strings (words s at n)) _ (first-bytes b room))
+          ∙ bytes-append _ _
+          ∙ ap (λ (x : List ℕ). x ++ wordBytes (joined (requested protocols (words s (at + 2 * m) (n - m))))) (bytes-chosen (among protocols (field s at 2)) _ _ (first-bytes b room))
 
 -- no more than all
 pub counted-most : (b : Bool) (m : ℕ) → cond b m 0 ≤ m
@@ -125,7 +128,8 @@ unfolding wordBytes
 written-empty buf x at e = rw e (written-none buf at)
 
 -- one binding is written where it is requested, and the others after it
-module _ (protocols s : List ℕ) (at n : ℕ) (bytes : Bytes s) (inside : at + 2 * n ≤ length s) (h : 0 < n) (z : field s at 2 ≡ 0 → ⊥) (m : ℕ) (e : m ≡ length (firstBinding Strings (words s at n))) (l : m ≤ n) where
+module _ (protocols s : List ℕ) (at n : ℕ) (bytes : Bytes s) (inside : at + 2 * n ≤ length s) (h : 0 < n) (z : field s at 2 ≡ 0 → ⊥)
+    (m : ℕ) (e : m ≡ length (firstBinding Strings (words s at n))) (l : m ≤ n) where
   first : List ℕ
   first = chosen (among protocols (field s at 2)) (take (2 * m) (drop at s))
 
@@ -140,13 +144,13 @@ module _ (protocols s : List ℕ) (at n : ℕ) (bytes : Bytes s) (inside : at + 
       → to + length (chosen (among protocols (field s at 2)) (take (2 * m) (drop at s))) + 2 * length (joined (requested protocols (words s (at + 2 * m) (n - m)))) ≤ size
   unfolding first rest
   put-room to size room =
-      let k : length first + length rest ≡ 2 * length (joined (requested protocols (words s at n))) = sym (length-append first rest) ∙ ap length (sym whole) ∙ length-bytes (joined (requested protocols (words s at n))) in
+      let k : length first + length rest ≡ 2 * length (joined (requested protocols (words s at n))) = sym (length-append first rest) ∙ ap length (sym whole) ∙ length-bytes _ in
       let r = length-bytes (joined (requested protocols (words s (at + 2 * m) (n - m)))) in
       omega arith
 
   pub put-step : (buf : List ℕ) (to : ℕ) → to + 2 * length (joined (requested protocols (words s at n))) ≤ length buf
-      → written (written buf to (chosen (among protocols (field s at 2)) (take (2 * m) (drop at s)))) (to + length (chosen (among protocols (field s at 2)) (take (2 * m) (drop at s)))) (wordBytes (joined (requested protocols (words s (at + 2 * m) (n - m)))))
-      ≡ written buf to (wordBytes (joined (requested protocols (words s at n))))
+      → let x = chosen (among protocols (field s at 2)) (take (2 * m) (drop at s)) in
+      written (written buf to x) (to + length x) (wordBytes (joined (requested protocols (words s (at + 2 * m) (n - m))))) ≡ written buf to (wordBytes (joined (requested protocols (words s at n))))
   unfolding first rest
   put-step buf to room =
       let k = put-room to (length buf) room in

@@ -7,13 +7,13 @@ use mathlib.Core.Logic.{⊎-elim}
 use native.Mathlib.Omega.{arith}
 use borrow.Author.Tests.{eqb-true, eq-eqb}
 use lib.Dec.{eqb}
-use lib.ListN.{length, getD, length-map}
-use Rattle.lists.specs.Lists.{keep, some, every, among}
+use lib.ListN.{getD, length-map}
+use Rattle.lists.specs.Lists.{keep, among}
 use Rattle.lists.proofs.Tests.{true-or-false}
 use Rattle.lists.proofs.Lists.{every-from-at, some-keep, some-at, some-find, none-some, keep-ext-on, getD-map}
 use Rattle.bindings.specs.Bindings.{bindingsOf, joined, isBare, partWords}
 use Rattle.bindings.specs.ListBytes.{partsBytes}
-use Rattle.bindings.specs.Filter.{isRequested, requested, filtered, towersOf, FilteredByTowers}
+use Rattle.bindings.specs.Filter.{requested, filtered, FilteredByTowers}
 use Rattle.bindings.specs.declared.Part.the-variants.{Strings, Security}
 
 -- a number of a list is requested just where it is among the requested numbers of the list

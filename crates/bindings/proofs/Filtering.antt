@@ -137,11 +137,13 @@ module _ (protocols s : List ℕ) where
       keptWords = joined (requested protocols (partWords s Strings)) ++ (0 ∷ [])
 
       stored-fit : Words16 (joined (bindingsOf Strings (partWords s Strings)))
-      stored-fit = fit-left (joined (bindingsOf Strings (partWords s Strings))) (0 ∷ []) (same-fit (partWords s Strings) _ (part-rows Strings (partWords s Strings) isStrings) (words-fit s 4 (split s) b))
+      stored-fit = fit-left (joined (bindingsOf Strings (partWords s Strings))) (0 ∷ []) (same-fit _ _ (part-rows Strings (partWords s Strings) isStrings) (words-fit s 4 (split s) b))
 
       kept-words-fit : Words16 keptWords
       unfolding keptWords requested
-      kept-words-fit = fit-append (joined (keep (isRequested protocols) (bindingsOf Strings (partWords s Strings)))) (0 ∷ []) (kept-fit (isRequested protocols) (bindingsOf Strings (partWords s Strings)) stored-fit) fit-zero
+      kept-words-fit =
+          fit-append (joined (keep (isRequested protocols) (bindingsOf Strings (partWords s Strings)))) (0 ∷ [])
+          (kept-fit (isRequested protocols) (bindingsOf Strings (partWords s Strings)) stored-fit) fit-zero
 
       security-fit : Words16 (partWords s Security)
       security-fit = words-fit s (4 + 2 * split s) (count s - split s) b
@@ -152,7 +154,8 @@ module _ (protocols s : List ℕ) where
       kept-few =
           let n = kept-length (isRequested protocols) (bindingsOf Strings (partWords s Strings)) in
           let m : split s ≡ length (joined (bindingsOf Strings (partWords s Strings)) ++ (0 ∷ [])) = sym (length-words s 4 (split s)) ∙ ap length (part-rows Strings (partWords s Strings) isStrings) in
-          omega (arith, length-append (joined (bindingsOf Strings (partWords s Strings))) (0 ∷ []), length-append (joined (keep (isRequested protocols) (bindingsOf Strings (partWords s Strings)))) (0 ∷ []))
+          let k = simp length-append at m in
+          simp length-append (omega arith)
 
       few-words : length keptWords + length (partWords s Security) ≤ count s
       few-words = let k = kept-few in let l = accepted s done .held .below in omega (arith, length-words s (4 + 2 * split s) (count s - split s))
@@ -163,7 +166,7 @@ module _ (protocols s : List ℕ) where
       kept-accepted : listAnswer (partsBytes keptWords (partWords s Security)) ≡ 0
       unfolding keptWords requested
       kept-accepted =
-          parts-accepted keptWords (partWords s Security) kept-words-fit security-fit few (kept-part Strings (isRequested protocols) (partWords s Strings) isStrings) (accepted s done .held .part e Security)
+          parts-accepted _ _ kept-words-fit security-fit few (kept-part Strings (isRequested protocols) (partWords s Strings) isStrings) (accepted s done .held .part e Security)
 
       kept-parts : (p : Part) → partWords (partsBytes keptWords (partWords s Security)) p ≡ ofPart p keptWords (partWords s Security)
       kept-parts = parts-words keptWords (partWords s Security) kept-words-fit security-fit few

@@ -41,7 +41,7 @@ first-binding p b rest h =
     let x = secondWords p (b .second) in
     rw (append-assoc x (b .name ++ (0 ∷ [])) rest, append-assoc (b .name) (0 ∷ []) rest, first-words p (b .head) (b .second) (b .name ++ (0 ∷ rest)), through-name (b .name) rest (h .name))
 
-more-bindings : (p : Part) (b : Binding) (rest : List ℕ) → Proper b → bindingsOf p (bindingWords p b ++ rest) ≡ firstBinding p (bindingWords p b ++ rest) ∷ bindingsOf p (after p (bindingWords p b ++ rest))
+more-bindings : (p : Part) (b : Binding) (rest : List ℕ) → Proper b → let ws = bindingWords p b ++ rest in bindingsOf p ws ≡ firstBinding p ws ∷ bindingsOf p (after p ws)
 unfolding bindingWords
 more-bindings p b rest h = bindings-more p (b .head) _ (nonzero (b .head) (h .head))
 

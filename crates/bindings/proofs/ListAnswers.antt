@@ -12,7 +12,8 @@ use lib.Seq.{length-take-le, take-append-seam}
 use Rattle.kinds.specs.Refusals.{order}
 use Rattle.kinds.proofs.Refusing.{true-false, by-test, passed, passed-on}
 use Rattle.fields.proofs.Fields.{field-front}
-use Rattle.bindings.specs.Bindings.{words, firstBinding, bindingsUpTo, bindingsOf, isPart, count, split, partStart, partSize, partWords, isBare, twoParts, listLength, frontAnswer, listAnswer, place, bindingAt}
+use Rattle.bindings.specs.Bindings.{words, firstBinding, bindingsUpTo, bindingsOf, isPart, count, split, partStart, partSize}
+use Rattle.bindings.specs.Bindings.{partWords, isBare, twoParts, listLength, frontAnswer, listAnswer, place, bindingAt}
 use Rattle.bindings.specs.declared.Part.{Part}
 use Rattle.bindings.specs.declared.Part.the-variants.{Strings, Security}
 use Rattle.bindings.specs.declared.Place.{Place}

@@ -191,7 +191,7 @@ with-parts : (s : List ℕ) → Bytes s → listAnswer s ≡ 0 → IsLayout Stri
 unfolding listBytes
 with-parts s b done x y =
     let a = accepted s done in
-    let n : length (partWords s Strings) + length (partWords s Security) ≡ count s = rw (length-words s 4 (split s), length-words s (4 + 2 * split s) (count s - split s)) (let l = a .held .below in omega arith) in
+    let n : length (partWords s Strings) + length (partWords s Security) ≡ count s = rw (length-words, length-words) (let l = a .held .below in omega arith) in
     let f = field-bound s 0 b in
     let few : length (partWords s Strings) + length (partWords s Security) < 65536 = omega arith in
     IsList.made (x .bindings) (y .bindings)
@@ -268,11 +268,11 @@ module _ (strings security : List Binding) (h : Listable strings security) where
   rows p = map (bindingWords p) (ofPart p strings security)
 
   -- the bytes of the bindings stand at the start of their part
-  made-from : (p : Part) → drop (partStart (listBytes strings security) p) (listBytes strings security) ≡ wordBytes (joined (rows p)) ++ ofPart p (wordBytes (0 ∷ []) ++ wordBytes (partLayout Security security)) (wordBytes (0 ∷ []))
+  made-from : (p : Part) → drop (partStart (listBytes strings security) p) (listBytes strings security)
+      ≡ wordBytes (joined (rows p)) ++ ofPart p (wordBytes (0 ∷ []) ++ wordBytes (partLayout Security security)) (wordBytes (0 ∷ []))
   unfolding listBytes rows partLayout
   made-from Strings =
-      drop-four (partLayout Strings strings) (partLayout Security security)
-      ∙ (rw (bytes-append (joined (map (bindingWords Strings) strings)) (0 ∷ [])) (append-assoc (wordBytes (joined (map (bindingWords Strings) strings))) (wordBytes (0 ∷ [])) (wordBytes (partLayout Security security))))
+      drop-four (partLayout Strings strings) (partLayout Security security) ∙ (rw (bytes-append (joined (map (bindingWords Strings) strings)) (0 ∷ []), append-assoc))
   made-from Security =
       rw (made-split strings security h)
       (drop-strings (partLayout Strings strings) (partLayout Security security) ∙ bytes-append (joined (map (bindingWords Security) security)) (0 ∷ []))

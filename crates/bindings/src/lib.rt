@@ -7,7 +7,8 @@ ghost use mathlib.Core.Bool.{true, cond};
 ghost use Prim.Native.Nat.{_+_, _*_, _-_, _<_, _≤_};
 ghost use lib.Dec.{eqb};
 ghost use lib.ListN.{length};
-ghost use Rattle.bindings.specs.Bindings.{words, throughZero, NoZero, headWords, firstBinding, bindingsOf, isPart, twoParts, listLength, frontAnswer, listAnswer, refusal, place, bindingAt, bindingFrom, PartOf};
+ghost use Rattle.bindings.specs.Bindings.{words, throughZero, NoZero, headWords, firstBinding, bindingsOf, isPart, twoParts};
+ghost use Rattle.bindings.specs.Bindings.{listLength, frontAnswer, listAnswer, refusal, place, bindingAt, bindingFrom, PartOf};
 
 // The two parts of a list.
 pub enum Part {

@@ -1,21 +1,22 @@
 -- What the writer refuses by 14 the reader would refuse, by the same number.
 use Prim.Native.Nat.{ℕ, _+_, _-_, _*_, _^_, _<_, _≤_}
-use mathlib.Core.Path.{_≡_, refl, sym, ap, _∙_}
-use mathlib.Core.Bool.{Bool, true, false, cond, not, _&&_, _||_}
+use mathlib.Core.Path.{_≡_, refl, sym, _∙_}
+use mathlib.Core.Bool.{true, false}
 use mathlib.Core.List.{List, [], _∷_, _++_, append-assoc, append-nil}
 use native.Mathlib.Omega.{arith}
 use borrow.Author.Tests.{eq-eqb, ne-eqb, eqb-true, eqb-false, leb-true, leb-false, le-leb, le-ltb, lt-ltb}
-use lib.Dec.{eqb, leb, ltb}
-use lib.ListN.{length, take, drop}
+use lib.Dec.{eqb, leb}
+use lib.ListN.{length, drop}
 use Rattle.kinds.specs.Refusals.{order}
 use Rattle.kinds.proofs.Refusing.{true-false}
-use Rattle.fields.specs.Fields.{field, encode, zeros, longest}
+use Rattle.fields.specs.Fields.{field, encode, zeros}
 use Rattle.fields.proofs.Fields.{length-encode, field-as}
-use Rattle.extensions.specs.Extensions.{pairs, Extent, Array, extentsBytes, pointersBytes, pointedBytes, arrayBytes, pointersAnswer, countAt, arrayAt, countedAnswer, pointedAnswer, frontAnswer, arrayAnswer, extensionsAnswer}
+use Rattle.extensions.specs.Extensions.{pairs, Extent, Array, extentsBytes, pointersBytes, pointedBytes, arrayBytes, pointersAnswer}
+use Rattle.extensions.specs.Extensions.{countAt, arrayAt, countedAnswer, pointedAnswer, frontAnswer, arrayAnswer, extensionsAnswer}
 use Rattle.extension_writer.specs.Writing.{entryWritable, extentsWritable, writable}
-use Rattle.extension_writer.specs.Statements.{Fits, AllNarrow, ReadAs, WriterAsReader}
+use Rattle.extension_writer.specs.Statements.{Fits, AllNarrow, WriterAsReader}
 use Rattle.bindings.proofs.ListBytes.{by-bool}
-use Rattle.extension_writer.proofs.Forward.{Stands, stands, read-back}
+use Rattle.extension_writer.proofs.Forward.{stands, read-back}
 
 -- a null pointer among the pointers is refused by 14
 null-pointer : (s : List ℕ) (p : ℕ) (es : List Extent) (rest : List ℕ) → p ≤ length s → AllNarrow es → extentsWritable es ≡ false
@@ -98,7 +99,8 @@ null-within s at a rest z l y narrow w o =
     let max : field s (at + 16) 4 ≡ pairs n = field-as s (at + 16) 4 (pairs n) (q .here) (q .room) fit in
     let ps = null-pointer s (at + 16 + 4) es _ (q .room) narrow w (q .next) in
     let some : arrayAt s at ≡ 0 → ⊥ = λ e. y (sym (o .pointer) ∙ e) in
-    rw (le-leb _ _ four, o .header, ne-eqb _ _ z, le-leb _ _ eight, o .count, le-ltb _ _ l, le-leb _ _ twelve, o .reserved, le-leb _ _ room, ne-eqb _ _ some, le-leb _ _ (q .room), max, eq-eqb (pairs n) (pairs n) refl, ps)
+    rw (le-leb _ _ four, o .header, ne-eqb _ _ z, le-leb _ _ eight, o .count, le-ltb _ _ l, le-leb _ _ twelve, o .reserved)
+    (rw (le-leb _ _ room, ne-eqb _ _ some, le-leb _ _ (q .room), max, eq-eqb (pairs n) (pairs n) refl, ps))
 
 -- what cannot be written
 broken : (s : List ℕ) (at : ℕ) (a : Array) (rest : List ℕ) → at ≤ length s → Fits a → AllNarrow (a .extents) → length (a .extents) < 2 ^ 32
@@ -116,8 +118,7 @@ broken s at a rest h f narrow few z d w =
     (λ l. many s at a rest z (leb-false _ _ l) o))
     (λ t.
     let y = eqb-false _ _ t in
-    let g : drop at s ≡ encode 4 (a .header) ++ (encode 4 (length (a .extents)) ++ (encode 4 0 ++ (encode 4 (a .pointer) ++ (pointedBytes (a .extents) ++ rest)))) = d ∙ (rw (ne-eqb _ _ z, t) (simp append-assoc)) in
-    let o = own s at a (pointedBytes (a .extents) ++ rest) h f few g in
+    let o = own s at a (pointedBytes (a .extents) ++ rest) h f few (d ∙ (rw (ne-eqb _ _ z, t) (simp append-assoc))) in
     by-bool (leb (length (a .extents)) 32)
     (λ l. null-within s at a rest z (leb-true _ _ l) y narrow (rw (l, t) at bad) o)
     (λ l. many s at a _ z (leb-false _ _ l) o))

@@ -12,7 +12,9 @@ use Rattle.kinds.specs.Refusals.{order}
 use Rattle.kinds.proofs.Refusing.{true-false}
 use Rattle.fields.specs.Fields.{field, encode, guidAt, guidBytes, GuidFits, allZero, longest, rounded, zeros}
 use Rattle.fields.proofs.Fields.{length-encode, length-guid, field-as, guid-as, zeros-zero}
-use Rattle.extensions.specs.Extensions.{pairs, Extent, Array, extentBytes, extentsBytes, pointersBytes, pointedBytes, arrayBytes, paddingAnswer, pointersAnswer, sizeAt, nextAt, extentAnswer, extentsAnswer, startOf, extentsAt, countAt, arrayAt, extentsStart, countedAnswer, pointedAnswer, frontAnswer, arrayAnswer, extensionsAnswer, arrayEnd, extensionsEnd, extensionsCount, extensionsAt}
+use Rattle.extensions.specs.Extensions.{pairs, Extent, Array, extentBytes, extentsBytes, pointersBytes, pointedBytes, arrayBytes, paddingAnswer, pointersAnswer}
+use Rattle.extensions.specs.Extensions.{sizeAt, nextAt, extentAnswer, extentsAnswer, startOf, extentsAt, countAt, arrayAt, extentsStart, countedAnswer}
+use Rattle.extensions.specs.Extensions.{pointedAnswer, frontAnswer, arrayAnswer, extensionsAnswer, arrayEnd, extensionsEnd, extensionsCount, extensionsAt}
 use Rattle.extension_writer.specs.Writing.{extentsWritable, writable}
 use Rattle.extension_writer.specs.Statements.{AllFit, Fits, ReadAs, ReadBack}
 use Rattle.bindings.proofs.ListBytes.{by-bool}
@@ -49,7 +51,8 @@ record ExtentRead (s : List ℕ) (at : ℕ) (e : Extent) (rest : List ℕ) : Typ
 eights-fit : (n : ℕ) → n ≤ longest → (n < 256 ^ 4) × (rounded n < 256 ^ 4)
 eights-fit n h = (omega arith, omega arith)
 
-extent-read : (s : List ℕ) (at : ℕ) (e : Extent) (rest : List ℕ) → at ≤ length s → Entry (e .pointer) (length (e .content)) → GuidFits (e .id) → drop at s ≡ extentBytes e ++ rest → ExtentRead s at e rest
+extent-read : (s : List ℕ) (at : ℕ) (e : Extent) (rest : List ℕ) → at ≤ length s → Entry (e .pointer) (length (e .content)) → GuidFits (e .id)
+    → drop at s ≡ extentBytes e ++ rest → ExtentRead s at e rest
 unfolding extentBytes extentAnswer paddingAnswer order
 extent-read s at e rest h p g d =
     let n = length (e .content) in
@@ -235,11 +238,10 @@ some-read s at a rest h f d w z =
     let y : a .pointer ≡ 0 → length (a .extents) ≡ 0 = λ t. eqb-true _ _ (or-left (not (eqb (a .pointer) 0)) (eqb (length (a .extents)) 0) (e .0) (rw t)) in
     by-bool (eqb (a .pointer) 0)
     (λ t.
-    let g : drop at s ≡ encode 4 (a .header) ++ (encode 4 (length (a .extents)) ++ (encode 4 0 ++ (encode 4 (a .pointer) ++ rest))) = d ∙ (rw (ne-eqb _ _ z, t) (simp (append-assoc, append-nil))) in
-    bare-read s at a rest z (eqb-true _ _ t) (empty (a .extents) (y (eqb-true _ _ t))) (own-read s at a rest h f l y g))
+    let o = own-read s at a rest h f l y (d ∙ (rw (ne-eqb _ _ z, t) (simp (append-assoc, append-nil)))) in
+    bare-read s at a rest z (eqb-true _ _ t) (empty (a .extents) (y (eqb-true _ _ t))) o)
     (λ t.
-    let g : drop at s ≡ encode 4 (a .header) ++ (encode 4 (length (a .extents)) ++ (encode 4 0 ++ (encode 4 (a .pointer) ++ (pointedBytes (a .extents) ++ rest)))) = d ∙ (rw (ne-eqb _ _ z, t) (simp append-assoc)) in
-    let o = own-read s at a (pointedBytes (a .extents) ++ rest) h f l y g in
+    let o = own-read s at a (pointedBytes (a .extents) ++ rest) h f l y (d ∙ (rw (ne-eqb _ _ z, t) (simp append-assoc))) in
     full-read s at a rest _ z (eqb-false _ _ t) o (pointed-read s at (a .extents) rest (o .room) (o .count) l (e .1) (f .ids) (o .next)))
 
 pub read-back : ReadBack

@@ -27,7 +27,7 @@ loop-holds c =
     let m = length-most (c .before .args .entries .now) 0 (length (c .before .args .entries .now) / 4) (p .1) in
     (omega arith, p .1, omega arith, omega arith)
 
-one : (c : tie.In-loop Inv-loop μ-loop) → Entry (getD (c .before .before .before .args .entries .now) (c .before .loop .i + 2) 0) (getD (c .before .before .before .args .entries .now) (c .before .loop .i + 3) 0)
+one : (c : tie.In-loop Inv-loop μ-loop) → let ws = c .before .before .before .args .entries .now in let i = c .before .loop .i in Entry (getD ws (i + 2) 0) (getD ws (i + 3) 0)
 one c = entry _ _ (words-first _ _ _ (omega arith) (c .before .loop .inv .1) .0)
 
 cast-rounded : tie.Need-cast-rounded Inv-loop μ-loop

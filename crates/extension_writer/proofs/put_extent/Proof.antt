@@ -1,34 +1,40 @@
 -- `extensions::put_extent`: the fields, the data and the zeros are a run of writes.
-use Prim.Native.Nat.{ℕ, _+_, _-_}
+use Prim.Native.Nat.{ℕ, _+_, _-_, _≤_}
 use mathlib.Core.Path.{_≡_, refl, _∙_}
 use native.Mathlib.Omega.{arith}
 use lib.ListN.{length, length-replicate}
-use mathlib.Core.List.{append-assoc}
+use mathlib.Core.List.{List, append-assoc}
 use Rattle.fields.proofs.Fields.{first-field, then-field, then-bytes}
 use Rattle.extensions.specs.Extensions.{extentBytes}
 use borrow.Author.Needs.{needs}
 use Rattle.extension_writer.proofs.put_extent.Statement.{statement}
 use Rattle.extension_writer.proofs.put_extent.Tie as tie
-use Rattle.fields.specs.Fields.{rounded, zeros}
+use Rattle.fields.specs.Fields.{written, encode, rounded, zeros}
+
+-- the writes in a row
+module _ (b part : List ℕ) (at low high w : ℕ) (same : w ≡ rounded (length part)) (room : at + 24 + rounded (length part) ≤ length b) (b₁ b₂ b₃ b₄ b₅ b₆ : List ℕ) where
+  extent-written : b₁ ≡ written b at (encode 4 w) → b₂ ≡ written b₁ (at + 4) (encode 8 low) → b₃ ≡ written b₂ (at + 12) (encode 8 high)
+      → b₄ ≡ written b₃ (at + 20) (encode 4 (length part)) → b₅ ≡ written b₄ (at + 24) part → b₆ ≡ written b₅ (at + 24 + length part) (zeros (w - length part))
+      → b₆ ≡ written b at (extentBytes (record { id = record { low = low; high = high }; pointer = 0; content = part }))
+  unfolding extentBytes
+  extent-written size first second count copied padded =
+      let run = then-field 8 low (first-field 4 w size) (omega arith) first in
+      let run2 = then-field 8 high run (omega arith) second in
+      let run3 = then-field 4 (length part) run2 (omega arith) count in
+      let run4 = then-bytes part (length part) run3 refl (omega arith) copied in
+      let place : at + 24 + length part ≡ at + (24 + length part) = omega arith in
+      let run5 = then-bytes (zeros (w - length part)) (w - length part) run4 (length-replicate {A = ℕ} (w - length part) 0) (omega arith) (rw place at padded) in
+      run5 .holds ∙ (rw same (simp append-assoc))
 
 returns : tie.Need-returns
-unfolding extentBytes
 returns c =
-    let a = c .before .before .before .before .before .before .before .before .before .before .before .before .before .before .before .before .before .before .before .before .before .before .before .before .before .before .before .args in
-    let b = a .buf .now in
-    let part = a .part .now in
-    let k = length part in
-    let w = c .before .before .before .before .before .before .before .before .before .before .before .before .before .before .before .before .before .before .before .before .before .before .before .before .rounded .result in
-    let same : w ≡ rounded k = c .before .before .before .before .before .before .before .before .before .before .before .before .before .before .before .before .before .before .before .before .before .before .before .before .rounded .ensures in
-    let room = c .before .before .before .before .before .before .before .before .before .before .before .before .before .before .before .before .before .before .before .before .before .before .before .before .before .before .before .pre .1 in
-    let run = first-field 4 w (c .before .before .before .before .before .before .before .before .before .before .before .before .before .before .before .before .before .before .before .before .before .before .write-u32 .ensures) in
-    let run2 = then-field 8 (a .low) run (omega arith) (c .before .before .before .before .before .before .before .before .before .before .before .before .before .before .before .before .before .before .write-u64 .ensures) in
-    let run3 = then-field 8 (a .high) run2 (omega arith) (c .before .before .before .before .before .before .before .before .before .before .before .before .before .before .write-u642 .ensures) in
-    let run4 = then-field 4 k run3 (omega arith) (c .before .before .before .before .before .before .before .before .before .before .write-u322 .ensures) in
-    let run5 = then-bytes part k run4 refl (omega arith) (c .before .before .before .before .before .before .copy .ensures) in
-    let place : a .at + 24 + k ≡ a .at + (24 + k) = omega arith in
-    let run6 = then-bytes (zeros (w - k)) (w - k) run5 (length-replicate {A = ℕ} (w - k) 0) (omega arith) (rw place at (c .before .before .fill .ensures)) in
-    run6 .holds ∙ (rw same (simp append-assoc))
+    let count = c .before .before .before .before .before .before .before .before .before .before in
+    let second = count .before .before .before .before in
+    let first = second .before .before .before .before in
+    let size = first .before .before .before .before in
+    let whole = size .before .before in
+    extent-written _ _ _ _ _ _ (whole .rounded .ensures) (whole .before .before .before .pre .1) _ _ _ _ _ _ (size .write-u32 .ensures) (first .write-u64 .ensures) (second .write-u642 .ensures)
+    (count .write-u322 .ensures) (c .before .before .before .before .before .before .copy .ensures) (c .before .before .fill .ensures)
 
 pub put-extent-spec : {M : Type 1} → statement M
 put-extent-spec =

@@ -37,7 +37,8 @@ record Next (ws d b : List ℕ) (i left from to : ℕ) : Type 0 where
   sizes : getD ws (i + 3) 0 + sizes ws (i + 4) (left - 1) + from ≤ length d
   room : to + 24 + rounded (getD ws (i + 3) 0) + extentsLength ws (i + 4) (left - 1) ≤ length b
 
-next : (c : tie.In-loop Inv-loop μ-loop) → Next (c .before .before .before .before .before .args .entries .now) (c .before .before .before .before .before .args .contents .now) (c .before .loop .buf) (c .before .loop .i) (c .before .loop .left) (c .before .loop .from) (c .before .loop .to)
+next : (c : tie.In-loop Inv-loop μ-loop) → let a = c .before .before .before .before .before .args in let l = c .before .loop in
+    Next (a .entries .now) (a .contents .now) (l .buf) (l .i) (l .left) (l .from) (l .to)
 next c =
     let l = c .before .loop in
     let ws = c .before .before .before .before .before .args .entries .now in
@@ -60,7 +61,8 @@ put-extent-requires : tie.Need-put-extent-requires Inv-loop μ-loop
 put-extent-requires c κs =
     let h = next (c .before .before .before .before .before) in
     let l = c .before .before .before .before .before .before .loop in
-    let k = part-length (c .before .before .before .before .before .before .before .before .before .before .args .contents .now) (l .from) (getD (c .before .before .before .before .before .before .before .before .before .before .args .entries .now) (l .i + 3) 0) (omega (arith, h .sizes)) in
+    let a = c .before .before .before .before .before .before .before .before .before .before .args in
+    let k = part-length (a .contents .now) (l .from) (getD (a .entries .now) (l .i + 3) 0) (omega (arith, h .sizes)) in
     let fit = h .fit in
     let room = h .room in
     (rw k fit, rw k (omega arith))
@@ -68,7 +70,8 @@ put-extent-requires c κs =
 cast-rounded : tie.Need-cast-rounded Inv-loop μ-loop
 cast-rounded c = let h = next (c .before .before .before .before .before .before .before .before) in omega (arith, h .fit)
 
-whole : (c : tie.After-rounded Inv-loop μ-loop) → c .rounded .result ≡ rounded (getD (c .before .before .before .before .before .before .before .before .before .before .before .before .before .before .args .entries .now) (c .before .before .before .before .before .before .before .before .before .before .loop .i + 3) 0)
+whole : (c : tie.After-rounded Inv-loop μ-loop) → let l = c .before .before .before .before .before .before .before .before .before .before in
+    c .rounded .result ≡ rounded (getD (l .before .before .before .before .args .entries .now) (l .loop .i + 3) 0)
 whole c = c .rounded .ensures
 
 add-to : tie.Need-add-to Inv-loop μ-loop
@@ -82,8 +85,9 @@ add-from c = let h = next (c .before .before .before .before .before .before .be
 
 loop-again : tie.Need-loop-again Inv-loop μ-loop
 loop-again c =
-    let l = c .before .before .before .before .before .before .before .before .before .before .loop in
-    let a = c .before .before .before .before .before .before .before .before .before .before .before .before .before .before .args in
+    let loop = c .before .before .before .before .before .before .before .before .before .before in
+    let l = loop .loop in
+    let a = loop .before .before .before .before .args in
     let ws = a .entries .now in
     let h = next (c .before .before .before .before .before .before .before .before .before) in
     let hs = h .sizes in
@@ -106,7 +110,8 @@ returns : tie.Need-returns Inv-loop μ-loop
 unfolding extentsBytes
 returns c =
     let l = c .before .loop in
-    let none = described-none (c .before .before .before .before .before .args .entries .now) (drop (l .from) (c .before .before .before .before .before .args .contents .now)) (l .i) (l .left) (omega arith) in
+    let a = c .before .before .before .before .before .args in
+    let none = described-none (a .entries .now) (drop (l .from) (a .contents .now)) (l .i) (l .left) (omega arith) in
     sym (written-none (l .buf) (l .to)) ∙ (rw none at (l .inv .5))
 
 pub put-extents-spec : {M : Type 1} → statement M

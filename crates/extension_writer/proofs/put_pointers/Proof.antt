@@ -30,7 +30,7 @@ loop-holds c =
     let p = c .before .before .pre in
     (omega arith, p .0, refl, p .1, refl)
 
-one : (c : tie.In-loop Inv-loop μ-loop) → Entry (getD (c .before .before .before .before .args .entries .now) (c .before .loop .i + 2) 0) (getD (c .before .before .before .before .args .entries .now) (c .before .loop .i + 3) 0)
+one : (c : tie.In-loop Inv-loop μ-loop) → let ws = c .before .before .before .before .args .entries .now in let i = c .before .loop .i in Entry (getD ws (i + 2) 0) (getD ws (i + 3) 0)
 one c = entry _ _ (words-first _ _ _ (omega arith) (c .before .loop .inv .1) .0)
 
 cast-write-u32 : tie.Need-cast-write-u32 Inv-loop μ-loop

@@ -17,7 +17,7 @@ returns c =
     let no = sym (c .before .takes .ensures) ∙ not-true _ (c .if1 .taken) in
     (sym (writing-refused (a .pointer) (a .array) (a .entries .now) (a .contents .now) (a .at) (length (a .buf .now)) no), refl)
 
-able : (c : tie.Else1) → takes (c .before .before .before .before .before .args .pointer) (c .before .before .before .before .before .args .array) (c .before .before .before .before .before .args .entries .now) (c .before .before .before .before .before .args .contents .now) ≡ true
+able : (c : tie.Else1) → let a = c .before .before .before .before .before .args in takes (a .pointer) (a .array) (a .entries .now) (a .contents .now) ≡ true
 able c = sym (c .before .takes .ensures) ∙ not-false _ (c .if1 .left)
 
 fine : (c : tie.Else1) → Good (c .before .before .before .before .before .args .entries .now) (c .before .before .before .before .before .args .contents .now)
@@ -33,9 +33,10 @@ returns-2 c =
     let n = c .before .before .array-length .ensures in
     (sym (writing-short (a .pointer) (a .array) (a .entries .now) (a .contents .now) (a .at) (length (a .buf .now)) (able (c .before .before .before)) (rw n at l)), refl)
 
-room : (c : tie.Else2) → c .before .before .before .before .before .before .before .before .args .at + arrayLength (c .before .before .before .before .before .before .before .before .args .pointer) (c .before .before .before .before .before .before .before .before .args .array) (c .before .before .before .before .before .before .before .before .args .entries .now) ≤ length (c .before .before .before .before .before .before .before .before .args .buf .now)
+room : (c : tie.Else2) → let a = c .before .before .before .before .before .before .before .before .args in a .at + arrayLength (a .pointer) (a .array) (a .entries .now) ≤ length (a .buf .now)
 room c =
-    let l : c .before .before .before .before .before .before .before .before .args .at + c .before .before .array-length .result ≤ length (c .before .before .before .before .before .before .before .before .args .buf .now) = leb-true _ _ (sym (c .before .inside .ensures) ∙ not-false _ (c .if2 .left)) in
+    let a = c .before .before .before .before .before .before .before .before .args in
+    let l : a .at + c .before .before .array-length .result ≤ length (a .buf .now) = leb-true _ _ (sym (c .before .inside .ensures) ∙ not-false _ (c .if2 .left)) in
     let n = c .before .before .array-length .ensures in
     rw n at l
 
@@ -53,9 +54,10 @@ add-t10 c =
 
 returns-3 : tie.Need-returns-3
 returns-3 c =
-    let a = c .before .before .before .before .before .before .before .before .before .before .before .before .args in
-    let n = c .before .before .before .before .before .before .array-length .ensures in
-    (rw n (sym (writing-done (a .pointer) (a .array) (a .entries .now) (a .contents .now) (a .at) (length (a .buf .now)) (able (c .before .before .before .before .before .before .before)) (room (c .before .before .before .before)))), c .before .before .put-array .ensures)
+    let test = c .before .before .before .before in
+    let a = test .before .before .before .before .before .before .before .before .args in
+    let n = test .before .before .array-length .ensures in
+    (rw n (sym (writing-done _ _ _ _ (a .at) (length (a .buf .now)) (able (test .before .before .before)) (room test))), c .before .before .put-array .ensures)
 
 pub write-spec : {M : Type 1} → statement M
 write-spec =

@@ -14,8 +14,9 @@ use Rattle.bindings.proofs.filter.put_filtered.Tie as tie
 
 returns : tie.Need-returns
 returns c =
-    let a = c .before .before .before .before .before .before .before .before .before .before .args in
-    c .before .before .copy .ensures ∙ ap (written (a .buf .now) 0) (sym (no-words (a .protocols .now) (a .s .now) (c .before .before .before .before .before .before .before .before .before .before .pre .0) (sym (c .before .before .before .before .before .before .read-u16 .ensures) ∙ c .before .before .before .before .if1 .taken)))
+    let test = c .before .before .before .before in
+    let st = test .before .before .before .before .before .before in
+    c .before .before .copy .ensures ∙ ap (written (st .args .buf .now) 0) (sym (no-words _ _ (st .pre .0) (sym (test .before .before .read-u16 .ensures) ∙ test .if1 .taken)))
 
 requested-words-requires : tie.Need-requested-words-requires
 unfolding listLength
@@ -30,7 +31,8 @@ bytes c i = omega (arith, c .before .before .before .before .before .before .sha
 
 few : (c : tie.After-requested-words) → c .requested-words .result + 1 + (c .before .before .before .read-u16 .result - c .before .before .read-u162 .result) < 65536
 few c =
-    filtered-count (c .before .before .before .before .before .before .before .args .protocols .now) (c .before .before .before .before .before .before .before .args .s .now) (c .before .before .before .before .before .before .before .pre .0) (some c) (bytes c) _ _ _ (c .before .before .before .read-u16 .ensures) (c .before .before .read-u162 .ensures) (c .requested-words .ensures .0)
+    let st = c .before .before .before .before .before .before .before in
+    filtered-count _ _ (st .pre .0) (some c) (bytes c) _ _ _ (c .before .before .before .read-u16 .ensures) (c .before .before .read-u162 .ensures) (c .requested-words .ensures .0)
 
 sub-write-u16 : tie.Need-sub-write-u16
 sub-write-u16 c = let h = accepted _ (c .before .before .before .before .before .before .before .before .pre .0) in omega arith
@@ -45,29 +47,32 @@ put-requested-requires : tie.Need-put-requested-requires
 unfolding listLength
 put-requested-requires c κs =
     let w = c .before .before .before .before .before .before .before .before .before in
-    let a = w .before .before .before .before .before .before .before .args in
-    let h = accepted _ (w .before .before .before .before .before .before .before .pre .0) in
-    let room = w .before .before .before .before .before .before .before .pre .1 in
+    let st = w .before .before .before .before .before .before .before in
+    let h = accepted _ (st .pre .0) in
+    let room = st .pre .1 in
     let k = w .before .before .read-u162 .ensures in
-    let z = rw (← k) at (filtered-size (a .protocols .now) (a .s .now) (w .before .before .before .before .before .before .before .pre .0) (some w)) in
+    let z = rw (← k) at (filtered-size (st .args .protocols .now) _ (st .pre .0) (some w)) in
     let l₁ = simp length-written at (ap length (c .before .before .before .before .before .before .before .write-u16 .ensures)) in
     let l₂ = simp length-written at (ap length (c .before .before .before .write-u162 .ensures)) in
     (omega arith, omega arith)
 
 sub-copy : tie.Need-sub-copy
 unfolding listLength
-sub-copy c = let h = accepted _ (c .before .before .before .before .before .before .before .before .before .before .before .before .before .before .before .before .before .before .before .before .pre .0) in omega arith
+sub-copy c = let st : tie.Start = search in let h = accepted _ (st .pre .0) in omega arith
 
 part-copy-start : tie.Need-part-copy-start
 unfolding listLength
-part-copy-start c = let h = accepted _ (c .before .before .before .before .before .before .before .before .before .before .before .before .before .before .before .before .before .before .before .before .pre .0) in omega arith
+part-copy-start c = let st : tie.Start = search in let h = accepted _ (st .pre .0) in omega arith
 
 returns-2 : tie.Need-returns-2
 returns-2 c =
-    let w = c .before .before .before .before .before .before .before .before .before .before .before .before .before .before .before .before .before in
-    let a = w .before .before .before .before .before .before .before .args in
-    filtered-written (a .protocols .now) (a .s .now) (w .before .before .before .before .before .before .before .pre .0) (some w) (bytes w) _ _ _ (w .before .before .before .read-u16 .ensures) (w .before .before .read-u162 .ensures) (w .requested-words .ensures .0)
-    (a .buf .now) _ _ _ _ (w .before .before .before .before .before .before .before .pre .1) (c .before .before .before .before .before .before .before .before .before .before .before .before .before .before .before .write-u16 .ensures) (c .before .before .before .before .before .before .before .before .before .before .before .write-u162 .ensures) (c .before .before .before .before .before .before .before .put-requested .ensures) (c .before .before .copy2 .ensures)
+    let split = c .before .before .before .before .before .before .before .before .before .before .before in
+    let count = split .before .before .before .before in
+    let w = count .before .before in
+    let st = w .before .before .before .before .before .before .before in
+    filtered-written _ _ (st .pre .0) (some w) (bytes w) _ _ _ (w .before .before .before .read-u16 .ensures) (w .before .before .read-u162 .ensures) (w .requested-words .ensures .0)
+    (st .args .buf .now) _ _ _ _ (st .pre .1) (count .write-u16 .ensures) (split .write-u162 .ensures)
+    (c .before .before .before .before .before .before .before .put-requested .ensures) (c .before .before .copy2 .ensures)
 
 pub put-filtered-spec : {M : Type 1} → statement M
 put-filtered-spec =

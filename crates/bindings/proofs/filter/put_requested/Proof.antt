@@ -49,7 +49,7 @@ put-requires c κs =
     let r = w .before .before .word .ensures in
     let k : l .i + 2 * m - l .i ≡ 2 * m = omega arith in
     let q : c .is-requested .result ≡ among (a .protocols .now) (field (a .s .now) (l .i) 2) = c .is-requested .ensures ∙ ap (among (a .protocols .now)) r in
-    let room = put-room (a .protocols .now) (a .s .now) (l .i) (l .left) (bytes w) (l .inv .0) (omega arith) (λ z. w .before .if1 .left (r ∙ z)) m (b .0) (omega arith) (l .next) (length (l .buf)) (l .inv .2) in
+    let room = put-room _ _ (l .i) (l .left) (bytes w) (l .inv .0) (omega arith) (λ z. w .before .if1 .left (r ∙ z)) m (b .0) (omega arith) (l .next) (length (l .buf)) (l .inv .2) in
     rw (q, k) (omega arith)
 
 loop-again : tie.Need-loop-again Inv-loop μ-loop
@@ -61,12 +61,13 @@ loop-again c =
     let m = w .binding-words .result in
     let r = w .before .before .word .ensures in
     let k : l .i + 2 * m - l .i ≡ 2 * m = omega arith in
-    let q : c .before .before .before .is-requested .result ≡ among (a .protocols .now) (field (a .s .now) (l .i) 2) = c .before .before .before .is-requested .ensures ∙ ap (among (a .protocols .now)) r in
+    let t = c .before .before .before in
+    let q : t .is-requested .result ≡ among (a .protocols .now) (field (a .s .now) (l .i) 2) = t .is-requested .ensures ∙ ap (among (a .protocols .now)) r in
     let y : List ℕ = chosen (among (a .protocols .now) (field (a .s .now) (l .i) 2)) (take (2 * m) (drop (l .i) (a .s .now))) in
     let p : (c .before .before .put .result ≡ l .next + length y) × (c .before .before .put .last .0 ≡ written (l .buf) (l .next) y) = rw (q, k) at (c .before .before .put .ensures) in
     let n = length-written (l .buf) (l .next) y in
-    let room = put-room (a .protocols .now) (a .s .now) (l .i) (l .left) (bytes w) (l .inv .0) (omega arith) (λ z. w .before .if1 .left (r ∙ z)) m (b .0) (omega arith) (l .next) (length (l .buf)) (l .inv .2) in
-    let step = put-step (a .protocols .now) (a .s .now) (l .i) (l .left) (bytes w) (l .inv .0) (omega arith) (λ z. w .before .if1 .left (r ∙ z)) m (b .0) (omega arith) (l .buf) (l .next) (l .inv .2) in
+    let room = put-room _ _ (l .i) (l .left) (bytes w) (l .inv .0) (omega arith) (λ z. w .before .if1 .left (r ∙ z)) m (b .0) (omega arith) (l .next) (length (l .buf)) (l .inv .2) in
+    let step = put-step _ _ (l .i) (l .left) (bytes w) (l .inv .0) (omega arith) (λ z. w .before .if1 .left (r ∙ z)) m (b .0) (omega arith) (l .buf) (l .next) (l .inv .2) in
     let same : length (c .before .before .put .last .0) ≡ length (l .buf) = ap length (p .1) ∙ n in
     (omega arith, same ∙ l .inv .1, rw (p .0, same) room, rw (p .0, p .1) (step ∙ l .inv .3))
 

@@ -27,7 +27,7 @@ returns-3 c =
     let a = c .before .before .before .before .before .before .before .before .before .before .before .args in
     let done = sym (c .before .before .before .before .before .before .before .list-answer .ensures) ∙ c .before .before .before .before .before .before .if1 .left in
     let size = c .before .before .before .before .before .filtered-length .ensures in
-    (rw size (write-done (a .protocols .now) (a .s .now) (length (a .buf .now)) (answer-done (a .protocols .now) (a .s .now) (length (a .buf .now)) done (omega arith))), c .before .before .put-filtered .ensures)
+    (rw size (write-done _ _ _ (answer-done (a .protocols .now) (a .s .now) (length (a .buf .now)) done (omega arith))), c .before .before .put-filtered .ensures)
 
 pub write-filtered-spec : {M : Type 1} → statement M
 write-filtered-spec =
