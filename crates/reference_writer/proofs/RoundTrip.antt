@@ -16,7 +16,9 @@ use Rattle.fields.specs.Fields.{field, encode, guidAt, guidBytes, stored, Bytes
 use Rattle.fields.proofs.Fields.{guid-fits, field-bound, drop-bytes, part-of, field-part, guid-part, field-then, field-next, guid-then, take-rest, written-front, field-drop}
 use Rattle.bindings.specs.Bindings.{listLength, frontAnswer, listAnswer}
 use Rattle.bindings.proofs.ListAnswers.{list-front, list-front-length, front-list}
-use Rattle.references.specs.References.{noGuid, noBlock, blockAt, extendedSignature, isForm, isExtended, fixedSize, listEnd, elementStart, contentStart, contentLength, contentOf, referenceAt, headAnswer, objectAnswer, plainAnswer, extendedFront, extendedAnswer, formAnswer, layoutBy, layoutAnswer, tailEnd, tailPlace, tailOf, refused, readReference, hasNil, nilGiven, namesNil, referenceAnswer}
+use Rattle.references.specs.References.{noGuid, noBlock, blockAt, extendedSignature, isForm, isExtended, fixedSize, listEnd, elementStart, contentStart}
+use Rattle.references.specs.References.{contentLength, contentOf, referenceAt, headAnswer, objectAnswer, plainAnswer, extendedFront, extendedAnswer, formAnswer}
+use Rattle.references.specs.References.{layoutBy, layoutAnswer, tailEnd, tailPlace, tailOf, refused, readReference, hasNil, nilGiven, namesNil, referenceAnswer}
 use Rattle.reference_writer.specs.Writing.{blockBytes, headerBytes, bodyBytes, elementsBytes, referenceBytes, formed, tailAnswer, writeAnswer, writtenLength, valueAnswer}
 use Rattle.references.specs.declared.Block.{Block}
 use Rattle.elements.specs.Elements.{signature, isReference, elementBytes, contentSize, elementFront, elementContent, elementAnswer, givenAnswer}
@@ -503,7 +505,8 @@ module _ (s : List ℕ) (b : Bytes s) (f : field s 4 4 ≡ 8) (a : Level 7 s) wh
       let k = listLength (drop 68 s) in
       rw (add-sub-cancel-left 68 k) (sym (take-append-drop k (drop 68 s)) ∙ (rw (drop-drop k 68 s, marks-then)))
 
-  extended-then : drop 24 s ≡ blockBytes (blockAt s 24) ++ (encode 4 extendedSignature ++ (take (listEnd s - 68) (drop 68 s) ++ (marks ++ elementBytes (guidAt s (elementStart s)) (take (contentLength s) (drop (contentStart s) s)))))
+  extended-then : drop 24 s ≡ blockBytes (blockAt s 24)
+      ++ (encode 4 extendedSignature ++ (take (listEnd s - 68) (drop 68 s) ++ (marks ++ elementBytes (guidAt s (elementStart s)) (take (contentLength s) (drop (contentStart s) s)))))
   extended-then =
       let p = o in
       let room = p .room in
@@ -516,7 +519,8 @@ unfolding headerBytes referenceAt
 header-at s a = rw (a .signed) (by-form (field s 4 4) (a .form) (λ e. rw e) (λ e. rw e) (λ e. rw e) (λ e. rw e))
 
 -- what follows it
-body-then : (s : List ℕ) → Bytes s → Level 7 s → drop 24 s ≡ bodyBytes (referenceAt s) ++ (take (tailEnd s - fixedSize (field s 4 4)) (drop (fixedSize (field s 4 4)) s) ++ elementsBytes (referenceAt s) (contentOf s))
+body-then : (s : List ℕ) → Bytes s → Level 7 s → let n = fixedSize (field s 4 4) in
+    drop 24 s ≡ bodyBytes (referenceAt s) ++ (take (tailEnd s - n) (drop n s) ++ elementsBytes (referenceAt s) (contentOf s))
 unfolding bodyBytes elementsBytes referenceAt fixedSize marks
 body-then s b a =
     let h = a .head in
@@ -581,7 +585,7 @@ sized-at s b done =
 pub same-reference : (s : List ℕ) (r : Reference) → readReference s ≡ record { answer = 0; reference = r } → (referenceAnswer s ≡ 0) × (referenceAt s ≡ r)
 unfolding readReference
 same-reference s r e =
-    let read = accepted-by (λ (x : ReadReference). x .answer) (referenceAnswer s) (record { answer = 0; reference = referenceAt s }) (refused (referenceAnswer s)) (record { answer = 0; reference = r }) refl refl e in
+    let read = accepted-by (λ (x : ReadReference). x .answer) (referenceAnswer s) _ (refused (referenceAnswer s)) _ refl refl e in
     (read .0, ap (λ (x : ReadReference). x .reference) (read .1))
 
 -- the object data of an accepted custom reference with the context marshaler's CLSID is laid out as its context and properties

@@ -10,7 +10,8 @@ use Rattle.fields.specs.declared.Written.{Written}
 use Rattle.fields.specs.Fields.{encode, guidBytes, rounded}
 use Rattle.bindings.specs.Bindings.{listAnswer}
 use Rattle.elements.specs.Elements.{signature, elementBytes, givenAnswer}
-use Rattle.references.specs.References.{extendedSignature, mostDepth, byForm, isForm, isExtended, fixedSize, standard, handler, custom, extended, noReference, objectAnswer, layoutAnswer, namesNil, nilGiven}
+use Rattle.references.specs.References.{extendedSignature, mostDepth, byForm, isForm, isExtended, fixedSize, standard, handler}
+use Rattle.references.specs.References.{custom, extended, noReference, objectAnswer, layoutAnswer, namesNil, nilGiven}
 use Rattle.references.specs.declared.Block.{Block}
 use Rattle.references.specs.declared.Reference.{Reference}
 

@@ -1,30 +1,40 @@
 -- `given_answer`: the rows of `givenAnswer`, in their order.
-use mathlib.Core.Path.{sym, _∙_}
+use Prim.Native.Nat.{ℕ, _<_, _≤_}
+use mathlib.Core.Path.{_≡_, sym, _∙_}
+use mathlib.Core.Bool.{Bool, true, false}
+use mathlib.Core.List.{List}
 use borrow.Author.Tests.{eq-eqb, ne-eqb, lt-ltb, le-ltb}
+use lib.ListN.{length}
 use Rattle.kinds.specs.Refusals.{order}
+use Rattle.kinds.specs.declared.Guid.{Guid}
 use Rattle.kinds.proofs.Refusing.{last-row}
-use Rattle.elements.specs.Elements.{givenAnswer}
+use Rattle.fields.specs.Fields.{longest}
+use Rattle.elements.specs.Elements.{isNil, contentAnswer, givenAnswer}
+use Rattle.references.specs.References.{answerWithin}
 use borrow.Author.Needs.{needs}
 use Rattle.reference_writer.proofs.given_answer.Statement.{statement}
 use Rattle.reference_writer.proofs.given_answer.Tie as tie
 
-returns : tie.Need-returns
-unfolding givenAnswer order
-returns c = rw (sym (c .before .is-nil .ensures) ∙ c .if1 .taken)
+module _ (id : Guid) (x : List ℕ) (b : Bool) (judged : b ≡ isNil id) where
+  nil : b ≡ true → 14 ≡ givenAnswer (answerWithin 7) id x
+  unfolding givenAnswer order
+  nil h = rw (sym judged ∙ h)
 
-returns-2 : tie.Need-returns-2
-unfolding givenAnswer order
-returns-2 c = rw (sym (c .before .before .is-nil .ensures) ∙ c .before .if1 .left, eq-eqb _ _ (c .if2 .taken))
+  module _ (named : b ≡ false) where
+    empty : length x ≡ 0 → 14 ≡ givenAnswer (answerWithin 7) id x
+    unfolding givenAnswer order
+    empty h = rw (sym judged ∙ named, eq-eqb _ _ h)
 
-returns-3 : tie.Need-returns-3
-unfolding givenAnswer order
-returns-3 c = rw (sym (c .before .before .before .is-nil .ensures) ∙ c .before .before .if1 .left, ne-eqb _ _ (c .before .if2 .left), lt-ltb _ _ (c .if3 .taken))
+    module _ (some : length x ≡ 0 → ⊥) where
+      long : longest < length x → 14 ≡ givenAnswer (answerWithin 7) id x
+      unfolding givenAnswer order
+      long h = rw (sym judged ∙ named, ne-eqb _ _ some, lt-ltb _ _ h)
 
-returns-4 : tie.Need-returns-4
-unfolding givenAnswer order
-returns-4 c = rw (sym (c .before .before .before .before .is-nil .ensures) ∙ c .before .before .before .if1 .left, ne-eqb _ _ (c .before .before .if2 .left), le-ltb _ _ (c .before .if3 .left)) (c .content-answer .ensures ∙ sym (last-row _))
+      inner : length x ≤ longest → (n : ℕ) → n ≡ contentAnswer (answerWithin 7) x → n ≡ givenAnswer (answerWithin 7) id x
+      unfolding givenAnswer order
+      inner h n e = rw (sym judged ∙ named, ne-eqb _ _ some, le-ltb _ _ h) (e ∙ sym (last-row _))
 
 pub given-answer-spec : {M : Type 1} → statement M
 given-answer-spec =
     tie.close
-    (tie.spec (λ c κs. search needs) returns returns-2 returns-3 (λ c κs. search needs) returns-4)
+    (tie.spec (λ c κs. search needs) (λ c. search nil) (λ c. search empty) (λ c. search long) (λ c κs. search needs) (λ c. search inner))

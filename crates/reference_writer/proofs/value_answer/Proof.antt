@@ -1,72 +1,62 @@
 -- `value_answer`: the rows of `valueAnswer`, in their order; those of the element and of zero identifiers by `value-rows`.
+use Prim.Native.Nat.{ℕ}
 use mathlib.Core.Path.{_≡_, sym, _∙_}
 use borrow.Author.Tests.{not-true, not-false}
-use mathlib.Core.Bool.{true, false, cond}
+use mathlib.Core.Bool.{Bool, true, false, cond, not}
+use mathlib.Core.List.{List}
 use Rattle.kinds.specs.Refusals.{order}
 use Rattle.kinds.proofs.Refusing.{ne-differ, eq-differ}
 use Rattle.elements.specs.Elements.{givenAnswer}
-use Rattle.references.specs.References.{isForm, isExtended, answerWithin}
+use Rattle.references.specs.References.{isForm, isExtended, hasNil, answerWithin}
+use Rattle.references.specs.declared.Reference.{Reference}
 use Rattle.reference_writer.specs.Writing.{tailAnswer, valueAnswer}
 use Rattle.reference_writer.proofs.Writable.{ownNil, own-block, value-rows}
 use borrow.Author.Needs.{needs}
 use Rattle.reference_writer.proofs.value_answer.Statement.{statement}
 use Rattle.reference_writer.proofs.value_answer.Tie as tie
 
-returns : tie.Need-returns
-unfolding valueAnswer order
-returns c =
-    let none : isForm (c .before .before .before .before .args .reference .flags) ≡ false = sym (c .before .is-form .ensures) ∙ not-true _ (c .if1 .taken) in
-    rw none
+module _ (r : Reference) (tail x : List ℕ) (b : Bool) (judged : b ≡ isForm (r .flags)) where
+  no-form : not b ≡ true → 14 ≡ valueAnswer r tail x
+  unfolding valueAnswer order
+  no-form h = rw (sym judged ∙ not-true _ h)
 
-form : (c : tie.Else1) → isForm (c .before .before .before .before .args .reference .flags) ≡ true
-form c = sym (c .before .is-form .ensures) ∙ not-false _ (c .if1 .left)
+  module _ (good : not b ≡ false) (n : ℕ) (tailed : n ≡ tailAnswer r tail) where
+    tail-refused : (n ≡ 0 → ⊥) → n ≡ valueAnswer r tail x
+    unfolding valueAnswer order
+    tail-refused h = rw (sym judged ∙ not-false _ good, ne-differ _ _ (λ z. h (tailed ∙ z))) tailed
 
-returns-2 : tie.Need-returns-2
-unfolding valueAnswer order
-returns-2 c =
-    let tail = c .before .tail-answer .ensures in
-    rw (form (c .before .before), ne-differ _ _ (λ z. c .if2 .taken (tail ∙ z))) tail
+    module _ (fits : n ≡ 0) (k : ℕ) (given : k ≡ cond (isExtended (r .flags)) (givenAnswer (answerWithin 7) (r .element) x) 0) where
+      element-refused : (k ≡ 0 → ⊥) → k ≡ valueAnswer r tail x
+      unfolding order
+      element-refused h = rw (value-rows _ _ _ (sym judged ∙ not-false _ good) (sym tailed ∙ fits), ne-differ _ _ (λ z. h (given ∙ z))) given
 
-tailed : (c : tie.Else2) → tailAnswer (c .before .before .before .before .before .before .args .reference) (c .before .before .before .before .before .before .args .tail .now) ≡ 0
-tailed c = sym (c .before .tail-answer .ensures) ∙ c .if2 .left
+      module _ (whole : k ≡ 0) where
+        -- what is left is the 22 of the block
+        rows : valueAnswer r tail x ≡ cond (ownNil r) 22 0
+        unfolding order
+        rows = rw (value-rows _ _ _ (sym judged ∙ not-false _ good) (sym tailed ∙ fits), eq-differ _ _ (sym given ∙ whole))
 
-returns-3 : tie.Need-returns-3
-unfolding order
-returns-3 c =
-    let given = c .before .element-given .ensures in
-    rw (value-rows _ _ _ (form (c .before .before .before .before)) (tailed (c .before .before)), ne-differ _ _ (λ z. c .if3 .taken (given ∙ z))) given
+        custom : r .flags ≡ 4 → 0 ≡ valueAnswer r tail x
+        custom h = sym (rows ∙ (rw h))
 
-given : (c : tie.Else3) → cond (isExtended (c .before .before .before .before .before .before .before .before .args .reference .flags)) (givenAnswer (answerWithin 7) (c .before .before .before .before .before .before .before .before .args .reference .element) (c .before .before .before .before .before .before .before .before .args .x .now)) 0 ≡ 0
-given c = sym (c .before .element-given .ensures) ∙ c .if3 .left
+        module _ (block : r .flags ≡ 4 → ⊥) (o : Bool) (own : o ≡ hasNil (r .block)) where
+          nil-named : o ≡ true → 22 ≡ valueAnswer r tail x
+          nil-named h = sym (rows ∙ (rw (own-block r (sym judged ∙ not-false _ good) block ∙ sym own ∙ h)))
 
--- what is left is the 22 of the block
-rows : (c : tie.Else3) → valueAnswer (c .before .before .before .before .before .before .before .before .args .reference) (c .before .before .before .before .before .before .before .before .args .tail .now) (c .before .before .before .before .before .before .before .before .args .x .now) ≡ cond (ownNil (c .before .before .before .before .before .before .before .before .args .reference)) 22 0
-unfolding order
-rows c = rw (value-rows _ _ _ (form (c .before .before .before .before)) (tailed (c .before .before)), eq-differ _ _ (given c))
-
-returns-4 : tie.Need-returns-4
-returns-4 c = sym (rows (c .before .before) ∙ (rw (c .if4 .taken)))
-
-own : (c : tie.After-has-nil) → ownNil (c .before .before .before .before .before .before .before .before .before .before .before .before .args .reference) ≡ c .has-nil .result
-own c = own-block (c .before .before .before .before .before .before .before .before .before .before .before .before .args .reference) (form (c .before .before .before .before .before .before .before .before)) (c .before .before .if4 .left) ∙ sym (c .has-nil .ensures)
-
-returns-5 : tie.Need-returns-5
-returns-5 c = sym (rows (c .before .before .before .before .before) ∙ (rw (own (c .before) ∙ c .if5 .taken)))
-
-returns-6 : tie.Need-returns-6
-returns-6 c = sym (rows (c .before .before .before .before .before) ∙ (rw (own (c .before) ∙ c .if5 .left)))
+          done : o ≡ false → 0 ≡ valueAnswer r tail x
+          done h = sym (rows ∙ (rw (own-block r (sym judged ∙ not-false _ good) block ∙ sym own ∙ h)))
 
 pub value-answer-spec : {M : Type 1} → statement M
 value-answer-spec =
     tie.close
     (tie.spec
     (λ c κs. search needs)
-    returns
+    (λ c. search no-form)
     (λ c κs. search needs)
-    returns-2
+    (λ c. search tail-refused)
     (λ c κs. search needs)
-    returns-3
-    returns-4
+    (λ c. search element-refused)
+    (λ c. search custom)
     (λ c κs. search needs)
-    returns-5
-    returns-6)
+    (λ c. search nil-named)
+    (λ c. search done))

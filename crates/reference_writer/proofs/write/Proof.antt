@@ -21,9 +21,6 @@ use Rattle.reference_writer.proofs.write.Tie as tie
 from-place : (s y z : List ℕ) (a b : ℕ) → a ≡ b → z ≡ written s a y → z ≡ written s b y
 from-place s y z a b e h = h ∙ ap (λ (k : ℕ). written s k y) e
 
-value-answer-requires : tie.Need-value-answer-requires
-value-answer-requires c κs = search needs
-
 returns : tie.Need-returns
 returns c =
     let number = c .before .value-answer .ensures in
@@ -31,13 +28,10 @@ returns c =
     let refused : ℕ → Written = λ n. record { answer = n; length = 0 } in
     (ap refused number ∙ sym (write-refused _ _ _ _ (λ z. no (number ∙ z))), simp (ne-eqb _ _ no))
 
-fixed-size-requires : tie.Need-fixed-size-requires
-fixed-size-requires c κs = search needs
-
-done : (c : tie.Else1) → valueAnswer (c .before .before .before .before .before .args .reference) (c .before .before .before .before .before .args .tail .now) (c .before .before .before .before .before .args .x .now) ≡ 0
+done : (c : tie.Else1) → let a = c .before .before .before .before .before .args in valueAnswer (a .reference) (a .tail .now) (a .x .now) ≡ 0
 done c = sym (c .before .value-answer .ensures) ∙ c .if1 .left
 
-ok : (c : tie.Else1) → Valued (c .before .before .before .before .before .args .reference) (c .before .before .before .before .before .args .tail .now) (c .before .before .before .before .before .args .x .now)
+ok : (c : tie.Else1) → let a = c .before .before .before .before .before .args in Valued (a .reference) (a .tail .now) (a .x .now)
 ok c = valued _ _ _ (done c)
 
 add-at : tie.Need-add-at
@@ -57,56 +51,50 @@ returns-2 c =
     let short : length (start .args .buf .now) < writtenLength (start .args .reference) (start .args .tail .now) (start .args .x .now) = omega arith in
     (sym (write-short _ _ _ _ (done (c .before .before .before)) short), refl)
 
-room : (c : tie.Else2) → writtenLength (c .before .before .before .before .before .before .before .before .args .reference) (c .before .before .before .before .before .before .before .before .args .tail .now) (c .before .before .before .before .before .before .before .before .args .x .now) ≤ length (c .before .before .before .before .before .before .before .before .args .buf .now)
+room : (c : tie.Else2) → let a = c .before .before .before .before .before .before .before .before .args in writtenLength (a .reference) (a .tail .now) (a .x .now) ≤ length (a .buf .now)
 room c = omega (arith, c .if2 .left, c .before .elements-length .ensures .0, c .before .before .fixed-size .ensures)
 
 write-header-requires : tie.Need-write-header-requires
 write-header-requires c κs = let h = ok (c .before .before .before .before) in omega (arith, h .least, room (c .before))
 
-write-body-requires : tie.Need-write-body-requires
-write-body-requires c κs = search needs
-
-copy-requires : tie.Need-copy-requires
-copy-requires c κs = search needs
-
-sub-write-elements : tie.Need-sub-write-elements
-sub-write-elements c = search needs
-
-part-write-elements-start : tie.Need-part-write-elements-start
-part-write-elements-start c = search needs
-
 part-write-elements-end : tie.Need-part-write-elements-end
 part-write-elements-end c = search needs
 
 write-elements-requires : tie.Need-write-elements-requires
-write-elements-requires c κs = (ok (c .before .before .before .before .before .before .before .before .before .before .before .before .before .before .before .before) .given, mid-len _ _ _ (part-write-elements-end (c .before)) ∙ add-sub-cancel-left (c .before .before .before .before .before .before .before .before .before .before .before .before .before .before .before .fixed-size .result + length (c .before .before .before .before .before .before .before .before .before .before .before .before .before .before .before .before .before .before .before .before .before .args .tail .now)) (c .before .before .before .before .before .before .before .before .before .before .before .before .before .before .elements-length .result) ∙ c .before .before .before .before .before .before .before .before .before .before .before .before .before .before .elements-length .ensures .0)
-
-same-length : tie.Need-same-length
-same-length c = search needs
+write-elements-requires c κs =
+    let header = c .before .before .before .before .before .before .before .before .before .before .before in
+    let more = header .before .before .before in
+    let fixed = more .before in
+    let tail = fixed .before .before .before .before .before .before .args .tail .now in
+    let size = add-sub-cancel-left (fixed .fixed-size .result + length tail) (more .elements-length .result) ∙ more .elements-length .ensures .0 in
+    (ok (fixed .before) .given, mid-len _ _ _ (part-write-elements-end (c .before)) ∙ size)
 
 returns-3 : tie.Need-returns-3
 unfolding referenceBytes
 returns-3 c =
-    let test = c .before .before .before .before .before .before .before .before .before .before .before .before .before .before .before .before in
-    let first = c .before .before .before .before .before .before .before .before .before .before .before .before .before .before .before .before .before .before .before in
+    let body = c .before .before .before .before .before .before .before .before .before .before in
+    let header = body .before .before .before .before in
+    let test = header .before .before in
+    let fixed = test .before .before in
+    let first = fixed .before in
     let start = first .before .before .before .before .before in
     let r = start .args .reference in
     let t = start .args .tail .now in
     let x = start .args .x .now in
     let h = ok first in
     let fits = room test in
-    let size = c .before .before .before .before .before .before .before .before .before .before .before .before .before .before .before .before .before .before .fixed-size .ensures in
-    let more = c .before .before .before .before .before .before .before .before .before .before .before .before .before .before .before .before .before .elements-length .ensures .0 in
+    let size = fixed .fixed-size .ensures in
+    let more = test .before .elements-length .ensures .0 in
     let all = length-body r (h .form) in
     let y = elementsBytes r x in
     let last = length-elements r x in
-    let at : c .before .before .before .before .before .before .before .before .before .before .before .before .before .before .before .before .before .before .fixed-size .result ≡ 0 + (24 + length (bodyBytes r)) = omega arith in
-    let past : c .before .before .before .before .before .before .before .before .before .before .before .before .before .before .before .before .before .before .fixed-size .result + length t ≡ 0 + (24 + length (bodyBytes r) + length t) = omega arith in
-    let run = first-bytes (headerBytes r) 24 (length-header r) (c .before .before .before .before .before .before .before .before .before .before .before .before .before .before .write-header .ensures) in
-    let run2 = then-bytes (bodyBytes r) (length (bodyBytes r)) run refl (omega arith) (c .before .before .before .before .before .before .before .before .before .before .write-body .ensures) in
+    let a = fixed .fixed-size .result + length t in
+    let e = a + test .before .elements-length .result in
+    let at : fixed .fixed-size .result ≡ 0 + (24 + length (bodyBytes r)) = omega arith in
+    let past : a ≡ 0 + (24 + length (bodyBytes r) + length t) = omega arith in
+    let run = first-bytes (headerBytes r) 24 (length-header r) (header .write-header .ensures) in
+    let run2 = then-bytes (bodyBytes r) (length (bodyBytes r)) run refl (omega arith) (body .write-body .ensures) in
     let run3 = then-bytes t (length t) run2 refl (omega arith) (rw at at (c .before .before .before .before .before .before .copy .ensures)) in
-    let a = c .before .before .before .before .before .before .before .before .before .before .before .before .before .before .before .before .before .before .fixed-size .result + length t in
-    let e = a + c .before .before .before .before .before .before .before .before .before .before .before .before .before .before .before .before .before .elements-length .result in
     let part = ap (putMid a (e - a) _) (c .before .before .write-elements .ensures) ∙ written-part _ y a e (omega arith) (part-write-elements-end (c .before .before .before .before)) (omega arith) in
     let run4 = then-bytes y (length y) run3 refl (omega arith) (from-place _ y _ a _ past part) in
     let total : e ≡ writtenLength r t x = omega arith in
@@ -117,19 +105,19 @@ pub write-spec : {M : Type 1} → statement M
 write-spec =
     tie.close
     (tie.spec
-    value-answer-requires
+    (λ c κs. search needs)
     returns
-    fixed-size-requires
+    (λ c κs. search needs)
     add-at
     elements-length-requires
     add-length
     returns-2
     write-header-requires
-    write-body-requires
-    copy-requires
-    sub-write-elements
-    part-write-elements-start
+    (λ c κs. search needs)
+    (λ c κs. search needs)
+    (λ c. search needs)
+    (λ c. search needs)
     part-write-elements-end
     write-elements-requires
-    same-length
+    (λ c. search needs)
     returns-3)

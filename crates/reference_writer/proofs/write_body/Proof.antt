@@ -25,7 +25,8 @@ write-block-requires-2 c κs =
 write-block-requires-3 : tie.Need-write-block-requires-3
 unfolding fixedSize
 write-block-requires-3 c κs =
-    let room : 68 ≤ length (c .before .before .before .before .before .before .before .before .args .buf .now) = rw (c .before .if4 .taken) at (c .before .before .before .before .before .before .before .before .pre) in
+    let start = c .before .before .before .before .before .before .before .before in
+    let room : 68 ≤ length (start .args .buf .now) = rw (c .before .if4 .taken) at (start .pre) in
     omega arith
 
 returns : tie.Need-returns
@@ -64,7 +65,7 @@ returns-4 : tie.Need-returns-4
 unfolding fixedSize bodyBytes
 returns-4 c =
     let test = c .before .before .before .before .before .before .before .before in
-    let start = c .before .before .before .before .before .before .before .before .before .before .before .before .before .before .before in
+    let start = test .before .before .before .before .before .before .before in
     let r = start .args .reference in
     let room : 68 ≤ length (start .args .buf .now) = rw (test .if4 .taken) at (start .pre) in
     let run = first-bytes (blockBytes (r .block)) 40 (length-block (r .block)) (c .before .before .before .before .before .before .write-block3 .ensures) in

@@ -1,10 +1,11 @@
 -- `write_element`: a run of writes from the front.
-use Rattle.fields.specs.Fields.{rounded, zeros}
+use Rattle.fields.specs.Fields.{written, encode, guidBytes, rounded, zeros}
 use Prim.Native.Nat.{ℕ, _+_, _-_}
 use mathlib.Core.Path.{_≡_, refl, _∙_}
-use mathlib.Core.List.{append-assoc}
+use mathlib.Core.List.{List, _++_, append-assoc}
 use native.Mathlib.Omega.{arith}
 use lib.ListN.{length, length-replicate}
+use Rattle.kinds.specs.declared.Guid.{Guid}
 use Rattle.fields.proofs.Fields.{first-field, then-field, then-guid, then-bytes}
 use Rattle.elements.specs.Elements.{elementBytes}
 use Rattle.references.specs.References.{extendedSignature}
@@ -12,26 +13,32 @@ use borrow.Author.Needs.{needs}
 use Rattle.reference_writer.proofs.write_element.Statement.{statement}
 use Rattle.reference_writer.proofs.write_element.Tie as tie
 
+-- the writes in a row
+module _ (id : Guid) (x b : List ℕ) (size : length b ≡ 32 + rounded (length x)) (w : ℕ) (whole : w ≡ rounded (length x)) (b₁ b₂ b₃ b₄ b₅ b₆ b₇ : List ℕ) where
+  element-written : b₁ ≡ written b 0 (encode 4 1) → b₂ ≡ written b₁ 4 (encode 4 extendedSignature) → b₃ ≡ written b₂ 8 (guidBytes id) → b₄ ≡ written b₃ 24 (encode 4 (length x))
+      → b₅ ≡ written b₄ 28 (encode 4 w) → b₆ ≡ written b₅ 32 x → b₇ ≡ written b₆ (32 + length x) (zeros (w - length x))
+      → b₇ ≡ written b 0 (encode 4 1 ++ encode 4 extendedSignature ++ elementBytes id x)
+  unfolding elementBytes
+  element-written count mark named length₁ length₂ copied padded =
+      let run = then-field 4 extendedSignature (first-field 4 1 count) (omega arith) mark in
+      let run2 = then-guid id run (omega arith) named in
+      let run3 = then-field 4 (length x) run2 (omega arith) length₁ in
+      let run4 = then-field 4 w run3 (omega arith) length₂ in
+      let run5 = then-bytes x (length x) run4 refl (omega arith) copied in
+      let at : 32 + length x ≡ 0 + (32 + length x) = omega arith in
+      let run6 = then-bytes (zeros (w - length x)) (w - length x) run5 (length-replicate {A = ℕ} (w - length x) 0) (omega arith) (rw at at padded) in
+      run6 .holds ∙ (rw whole (simp append-assoc))
+
 returns : tie.Need-returns
-unfolding elementBytes
 returns c =
-    let start = c .before .before .before .before .before .before .before .before .before .before .before .before .before .before .before .before .before .before .before .before .before .before .before .before .before .before .before .before .before .before .before in
-    let whole = c .before .before .before .before .before .before .before .before .before .before .before .before .before .before .before .before .before .before .before .before .before .before .before .before .before .before .before .before .rounded .ensures in
-    let id = start .args .id in
-    let x = start .args .x .now in
-    let n = length x in
-    let m = rounded n in
-    let most = start .pre .0 in
-    let size = start .pre .1 in
-    let run = first-field 4 1 (c .before .before .before .before .before .before .before .before .before .before .before .before .before .before .before .before .before .before .before .before .before .before .before .before .before .before .write-u32 .ensures) in
-    let run2 = then-field 4 extendedSignature run (omega arith) (c .before .before .before .before .before .before .before .before .before .before .before .before .before .before .before .before .before .before .before .before .before .before .write-u322 .ensures) in
-    let run3 = then-guid id run2 (omega arith) (c .before .before .before .before .before .before .before .before .before .before .before .before .before .before .before .before .before .before .write-guid .ensures) in
-    let run4 = then-field 4 n run3 (omega arith) (c .before .before .before .before .before .before .before .before .before .before .before .before .before .before .write-u323 .ensures) in
-    let run5 = then-field 4 m run4 (omega arith) (rw whole at (c .before .before .before .before .before .before .before .before .before .before .write-u324 .ensures)) in
-    let run6 = then-bytes x n run5 refl (omega arith) (c .before .before .before .before .before .before .copy .ensures) in
-    let at : 32 + n ≡ 0 + (32 + n) = omega arith in
-    let run7 = then-bytes (zeros (m - n)) (m - n) run6 (length-replicate {A = ℕ} (m - n) 0) (omega arith) (rw (whole, at) at (c .before .before .fill .ensures)) in
-    run7 .holds ∙ simp append-assoc
+    let whole = c .before .before .before .before .before .before .before .before .before .before in
+    let size = whole .before .before .before .before in
+    let id = size .before .before .before .before in
+    let mark = id .before .before .before .before in
+    let count = mark .before .before .before .before in
+    let most = count .before .before in
+    element-written _ _ _ (most .before .before .before .pre .1) _ (most .rounded .ensures) _ _ _ _ _ _ _ (count .write-u32 .ensures) (mark .write-u322 .ensures) (id .write-guid .ensures)
+    (size .write-u323 .ensures) (whole .write-u324 .ensures) (c .before .before .before .before .before .before .copy .ensures) (c .before .before .fill .ensures)
 
 pub write-element-spec : {M : Type 1} → statement M
 write-element-spec =

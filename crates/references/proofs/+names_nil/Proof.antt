@@ -111,14 +111,20 @@ pub +names-nil-spec : {M : Type 1} → statement M
     (λ c. omega arith)
     (λ c.
     let test = c .before .before .before .before .before in
-    data-within _ _ (test .before .before .before .before .before .before .before .pre .1) (test .before .before .before .before .before .if1 .left) _ (test .before .before .before .before .read-u32 .ensures) (test .if4 .left) _ _ (c .before .before .before .before .list-end .ensures .0) (c .before .before .before .read-u322 .ensures))
+    let flags = test .before .before .before .before in
+    data-within _ _ (flags .before .before .before .pre .1) (flags .before .if1 .left) _ (flags .read-u32 .ensures) (test .if4 .left) _ _
+    (c .before .before .before .before .list-end .ensures .0) (c .before .before .before .read-u322 .ensures))
     (λ c. omega arith)
     (λ c κs.
     let test = c .before .before .before .before .before .before in
-    let inner = inner-accepted _ _ (test .before .before .before .before .before .before .before .pre .1) (test .before .before .before .before .before .if1 .left) _ (test .before .before .before .before .read-u32 .ensures) (test .if4 .left) _ _ (c .before .before .before .before .before .list-end .ensures .0) in
-    (omega (arith, test .before .before .before .before .before .before .before .pre .0), inner (c .before .before .before .before .read-u322 .ensures) _ (c .before .before .is-reference .ensures) (c .before .if5 .left)))
+    let flags = test .before .before .before .before in
+    let p = flags .before .before .before .pre in
+    let inner = inner-accepted _ _ (p .1) (flags .before .if1 .left) _ (flags .read-u32 .ensures) (test .if4 .left) _ _ (c .before .before .before .before .before .list-end .ensures .0) in
+    (omega (arith, p .0), inner (c .before .before .before .before .read-u322 .ensures) _ (c .before .before .is-reference .ensures) (c .before .if5 .left)))
     (λ c.
     let test = c .before .before .before .before .before .before .before in
-    let named = inner-names _ _ (test .before .before .before .before .before .before .before .pre .1) (test .before .before .before .before .before .if1 .left) _ (test .before .before .before .before .read-u32 .ensures) (test .before .before .before .if2 .left) _ (test .before .before .nil-block .ensures) in
-    named (test .before .if3 .left) (test .if4 .left) _ _ (c .before .before .before .before .before .before .list-end .ensures .0) (c .before .before .before .before .before .read-u322 .ensures) _ (c .before .before .before .is-reference .ensures)
-    (c .before .before .if5 .left) _ (c .names-nil .ensures))
+    let flags = test .before .before .before .before in
+    let named = inner-names _ _ (flags .before .before .before .pre .1) (flags .before .if1 .left) _ (flags .read-u32 .ensures) (test .before .before .before .if2 .left) _ in
+    named (test .before .before .nil-block .ensures) (test .before .if3 .left) (test .if4 .left) _ _
+    (c .before .before .before .before .before .before .list-end .ensures .0) (c .before .before .before .before .before .read-u322 .ensures) _
+    (c .before .before .before .is-reference .ensures) (c .before .before .if5 .left) _ (c .names-nil .ensures))
