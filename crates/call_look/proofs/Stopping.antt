@@ -76,7 +76,8 @@ module _ (ws s : List ℕ) (i : ℕ) (live : i < exporterCount ws) (kept : lists
 
 module _ (ws s reference : List ℕ) where
   -- a refusal
-  pub refused-stop : (n : ℕ) → (n ≡ 0 → ⊥) → Performed (Call.looking (Look.nextStop reference)) (memory ws s) (refusedReply n (Call.looking (Look.nextStop reference)) (view (memory ws s))) (memory ws s)
+  pub refused-stop : (n : ℕ) → (n ≡ 0 → ⊥)
+      → Performed (Call.looking (Look.nextStop reference)) (memory ws s) (refusedReply n (Call.looking (Look.nextStop reference)) (view (memory ws s))) (memory ws s)
       → StopFound (memory ws s) reference (refusedStop n)
   unfolding refusedReply results stopPlace
   refused-stop n z h =
@@ -129,7 +130,8 @@ in-store m reference k e = rw (sym e) (picked (eqb k 0) (isLiveExporter (view m)
     picked true false = refl
     picked false b = refl
 
-module _ (m : Memory) (reference : List ℕ) {n : ℕ} {part : List ℕ} (e : n ≡ replyTo view (Call.looking (Look.nextStop reference)) m .number) (f : part ≡ replyTo view (Call.looking (Look.nextStop reference)) m .part) where
+module _ (m : Memory) (reference : List ℕ) {n : ℕ} {part : List ℕ} (e : n ≡ replyTo view (Call.looking (Look.nextStop reference)) m .number)
+    (f : part ≡ replyTo view (Call.looking (Look.nextStop reference)) m .part) where
   -- they are those of the reply with which the call is performed, and so is the slice
   as-performed : {k : ℕ} {i : Bool} {b : List ℕ} → Performed (Call.looking (Look.nextStop reference)) m (stopReply k i b) m → stopPlace m reference .in_store ≡ i
       → Performed (Call.looking (Look.nextStop reference)) m (stopReply n (stopPlace m reference .in_store) part) m

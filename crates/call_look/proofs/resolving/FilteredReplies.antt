@@ -39,7 +39,7 @@ pub short-list : (ws s : List ℕ) (i : ℕ) → i < exporterCount ws → listsK
 short-list ws s i live kept =
     let n = exporters-length ws s in
     let x : Exporter = getD (exportersOf ws s) i noExporter in
-    leb-true _ _ (and-right (eqb (listAnswer (x .bindings)) 0) (leb (length (x .bindings)) 2048) (every-at (λ (x : Exporter). eqb (listAnswer (x .bindings)) 0 && leb (length (x .bindings)) 2048) (exportersOf ws s) noExporter i (omega arith) kept))
+    leb-true _ _ (and-right (eqb (listAnswer (x .bindings)) 0) _ (every-at _ (exportersOf ws s) noExporter i (omega arith) kept))
 
 -- the filter's answer for an accepted list: 0 where there is room
 module _ (protocols list : List ℕ) (n : ℕ) {w : Filtered} (e : w ≡ writeFiltered protocols list n) (good : listAnswer list ≡ 0) where
@@ -93,7 +93,8 @@ module _ (ws s protocols buffer : List ℕ) (x : ℕ) where
         rw (← exporter-in-row ws s x found, ← held, ← unknown, copied, size, written-front buffer (filtered protocols list) (rw (← size) fits))
 
 -- two requests within the limit that keep the same of the list have one reply
-pub alike-step : (m m′ : Memory) (x : ℕ) (p q buffer : List ℕ) {r : Reply} → tooMany p ≡ false → tooMany q ≡ false → filtered p (exporterOf (view m) x .bindings) ≡ filtered q (exporterOf (view m) x .bindings)
+pub alike-step : (m m′ : Memory) (x : ℕ) (p q buffer : List ℕ) {r : Reply} → tooMany p ≡ false → tooMany q ≡ false
+    → filtered p (exporterOf (view m) x .bindings) ≡ filtered q (exporterOf (view m) x .bindings)
     → Stepped (Call.looking (Look.resolveFiltered x p buffer)) m r m′ → Stepped (Call.looking (Look.resolveFiltered x q buffer)) m r m′
 unfolding reply number refusals acceptedReply refusedReply results next
 alike-step m m′ x p q buffer few few′ same s = record { answered = s .answered ∙ replies; kept = s .kept; became = s .became }

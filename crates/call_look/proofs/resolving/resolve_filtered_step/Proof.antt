@@ -30,8 +30,9 @@ resolve-marked-requires c κs = c .before .before .before .before .before .befor
 
 returns-3 : tie.Need-returns-3
 returns-3 c =
-    let ps = c .before .before .before .before .before .before .before .before .before .before .before .before .before .args .protocols .now in
-    c .before .before .resolve-marked .ensures ps (le-ltb 65535 (length ps) (c .before .before .before .before .before .before .before .if2 .left)) (c .before .before .before .before .before .mark-all .ensures)
+    let test = c .before .before .before .before .before .before .before in
+    let ps = test .before .before .before .before .before .before .args .protocols .now in
+    c .before .before .resolve-marked .ensures ps (le-ltb 65535 (length ps) (test .if2 .left)) (c .before .before .before .before .before .mark-all .ensures)
 
 pub resolve-filtered-step-spec : {M : Type 1} → statement M
 resolve-filtered-step-spec =

@@ -32,7 +32,8 @@ returns c ps few marked =
     let a = c .before .before .before .before .before .before .before .args in
     rw (c .refused .ensures)
     (refused-step 4
-    (gone (a .words .now) (a .store .now) ps (a .buffer .now) (a .oxid .0) few (c .before .before .before .exporter-row .ensures (a .store .now)) (c .before .before .exporter-count .ensures .0) (c .before .if1 .taken))
+    (gone (a .words .now) (a .store .now) ps (a .buffer .now) (a .oxid .0) few (c .before .before .before .exporter-row .ensures (a .store .now))
+    (c .before .before .exporter-count .ensures .0) (c .before .if1 .taken))
     (λ z. omega arith))
 
 list-requires : tie.Need-list-requires
@@ -67,13 +68,13 @@ resolve-searched-requires c κs = c .before .before .before .before .before .bef
 returns-2 : tie.Need-returns-2
 returns-2 c ps few marked =
     let l = c .before .before .before .before .before .before .before .before in
-    let st = c .before .before .before .before .before .before .before .before .before .before .before .before .before .before .before in
+    let st = l .before .before .before .before .before .before .before in
     let a = st .args in
     let list = l .list .result .now in
     let put = c .before .before .before .before .before .before .requested-towers in
     let size = length-take (put .result) (put .last .1 .1 .0) in
     let held : list ≡ exporterOf (view (memory (a .words .now) (a .store .now))) (a .oxid .0) .bindings =
-    l .list .ensures ∙ ap (λ (x : Exporter). x .bindings) (exporter-in-row (a .words .now) (a .store .now) (a .oxid .0) (c .before .before .before .before .before .before .before .before .before .before .before .exporter-row .ensures (a .store .now))) in
+    l .list .ensures ∙ ap (λ (x : Exporter). x .bindings) (exporter-in-row (a .words .now) (a .store .now) (a .oxid .0) (l .before .before .before .exporter-row .ensures (a .store .now))) in
     alike-step (memory (a .words .now) (a .store .now)) (memory (a .words .now) (a .store .now)) (a .oxid .0) (take (put .result) (put .last .1 .1 .0)) ps (a .buffer .now)
     (le-ltb 65535 (length (take (put .result) (put .last .1 .1 .0))) (omega arith)) few
     (rw (← held) (ap (λ (q : List ℕ). filtered q list) (put .ensures .1 ps marked) ∙ filtered-by-towers ps list))

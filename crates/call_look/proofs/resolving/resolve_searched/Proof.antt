@@ -39,7 +39,8 @@ returns-2 c =
     let a = c .before .before .before .before .before .before .before .before .before .args in
     rw (c .refused2 .ensures)
     (refused-step 4
-    (gone (a .words .now) (a .store .now) (a .protocols .now) (a .buffer .now) (a .oxid .0) (le-ltb _ _ (c .before .before .before .before .if1 .left)) (c .before .before .before .exporter-row .ensures (a .store .now)) (c .before .before .exporter-count .ensures .0) (c .before .if2 .taken))
+    (gone (a .words .now) (a .store .now) (a .protocols .now) (a .buffer .now) (a .oxid .0) (le-ltb _ _ (c .before .before .before .before .if1 .left))
+    (c .before .before .before .exporter-row .ensures (a .store .now)) (c .before .before .exporter-count .ensures .0) (c .before .if2 .taken))
     (λ z. omega arith))
 
 list-requires : tie.Need-list-requires
@@ -53,7 +54,8 @@ list-left : (c : tie.After-list) → let a = c .before .before .before .before .
     ≡ order (ltb (length (a .buffer .now)) (length (filtered (a .protocols .now) (c .list .result .now))) gives 15 ∷ [])
 list-left c =
     let a = c .before .before .before .before .before .before .before .before .before .args in
-    length-left (a .words .now) (a .store .now) (a .protocols .now) (a .buffer .now) (a .oxid .0) (le-ltb _ _ (c .before .before .before .before .if1 .left)) (c .before .before .before .exporter-row .ensures (a .store .now)) (c .before .before .exporter-count .ensures .0)
+    length-left (a .words .now) (a .store .now) (a .protocols .now) (a .buffer .now) (a .oxid .0) (le-ltb _ _ (c .before .before .before .before .if1 .left))
+    (c .before .before .before .exporter-row .ensures (a .store .now)) (c .before .before .exporter-count .ensures .0)
     (c .list .ensures) (c .before .if2 .left)
 
 -- the list is accepted
@@ -88,7 +90,8 @@ returns-4 c =
     let ok = c .before .if3 .left in
     let room = filter-room (a .protocols .now) (l .list .result .now) (length (a .buffer .now)) (w .ensures .0) (good l) ok in
     let size = filter-length (a .protocols .now) (l .list .result .now) (length (a .buffer .now)) (w .ensures .0) (good l) ok in
-    rw (answered (a .words .now) (a .store .now) (a .protocols .now) (a .buffer .now) (a .oxid .0) (le-ltb _ _ (l .before .before .before .before .if1 .left)) (l .before .before .before .exporter-row .ensures (a .store .now))
+    rw (answered (a .words .now) (a .store .now) (a .protocols .now) (a .buffer .now) (a .oxid .0) (le-ltb _ _ (l .before .before .before .before .if1 .left))
+    (l .before .before .before .exporter-row .ensures (a .store .now))
     (l .list .ensures) (c .unknown .ensures (a .store .now)) (rw (eq-eqb _ 0 ok) at (w .ensures .1)) size (omega arith))
     (accepted-step 0 (rows-end (row-passes _ _ _ (list-left l) (le-ltb _ _ room))) refl (memory (a .words .now) (a .store .now)) refl)
 

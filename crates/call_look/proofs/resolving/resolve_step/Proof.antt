@@ -57,7 +57,8 @@ returns c =
     let a = c .before .before .before .before .before .before .before .args in
     rw (c .refused .ensures)
     (refused-step 4
-    (gone (a .words .now) (a .store .now) (a .buffer .now) (a .oxid .0) (c .before .before .before .exporter-row .ensures (a .store .now)) (c .before .before .exporter-count .ensures .0) (c .before .if1 .taken))
+    (gone (a .words .now) (a .store .now) (a .buffer .now) (a .oxid .0) (c .before .before .before .exporter-row .ensures (a .store .now))
+    (c .before .before .exporter-count .ensures .0) (c .before .if1 .taken))
     (λ z. omega arith))
 
 list-requires : tie.Need-list-requires
@@ -86,11 +87,14 @@ unknown-requires c κs = (c .before .before .before .before .before .before .bef
 returns-3 : tie.Need-returns-3
 unfolding next
 returns-3 c =
-    let a = c .before .before .before .before .before .before .before .before .before .before .before .before .before .args in
+    let test = c .before .before .before .before .before in
+    let row = test .before .before .before .before in
+    let st = row .before .before .before .before in
+    let a = st .args in
     let m = memory (a .words .now) (a .store .now) in
-    let t = c .before .before .before .before .before .before .before .before .before .before .before .before .before .pre in
-    rw (answered (a .words .now) (a .store .now) (a .buffer .now) (a .oxid .0) (c .before .before .before .before .before .before .before .before .before .exporter-row .ensures (a .store .now))
-    (c .before .before .before .before .before .before .list .ensures) (c .unknown .ensures (a .store .now)) (c .before .before .before .copy .ensures) (c .before .before .before .before .before .if2 .left))
+    let t = st .pre in
+    rw (answered (a .words .now) (a .store .now) (a .buffer .now) (a .oxid .0) (row .exporter-row .ensures (a .store .now))
+    (test .before .list .ensures) (c .unknown .ensures (a .store .now)) (c .before .before .before .copy .ensures) (test .if2 .left))
     (accepted-step 0 (rows-end (row-passes _ _ _ (list-left (c .before .before .before .before .before .before)) (le-ltb _ _ (c .before .before .before .before .before .if2 .left)))) refl m refl)
 
 pub resolve-step-spec : {M : Type 1} → statement M

@@ -18,8 +18,9 @@ use Rattle.rules.specs.Entries.{exporterRow}
 returns : tie.Need-returns
 returns c =
     let bad = c .before .if1 .taken in
+    let st = c .before .before .before .before .before .before .before in
     rw (c .refused .ensures)
-    (refused-stop _ _ _ _ bad (step-call refl (c .before .before .before .before .before .before .before .pre) (refused-step _ (reference-refused _ (c .before .before .before .tail-place .ensures) _ bad) bad)))
+    (refused-stop _ _ _ _ bad (step-call refl (st .pre) (refused-step _ (reference-refused _ (c .before .before .before .tail-place .ensures) _ bad) bad)))
 
 -- the form that is read, of an accepted reference
 named : (c : tie.After-fields) → c .fields .result .flags ≡ field (c .before .before .before .before .before .before .before .args .reference .now) 4 4
@@ -28,9 +29,10 @@ named c = same-form _ (c .before .before .before .tail-place .ensures) (c .befor
 returns-2 : tie.Need-returns-2
 returns-2 c =
     let left = form-left _ (c .before .before .before .before .before .before .tail-place .ensures) (c .before .before .before .before .if1 .left) _ in
+    let st = c .before .before .before .before .before .before .before .before .before .before in
     rw (c .refused2 .ensures)
     (refused-stop _ _ _ 14 (λ z. omega arith)
-    (step-call refl (c .before .before .before .before .before .before .before .before .before .before .pre) (refused-step 14 (row-gives _ _ _ left (eq-eqb _ _ (sym (named (c .before .before .before)) ∙ c .before .if2 .taken))) (λ z. omega arith))))
+    (step-call refl (st .pre) (refused-step 14 (row-gives _ _ _ left (eq-eqb _ _ (sym (named (c .before .before .before)) ∙ c .before .if2 .taken))) (λ z. omega arith))))
 
 -- ---- a reference that is accepted and not custom, on a sound table
 
