@@ -10,7 +10,8 @@ use lib.Dec.{eqb, ltb}
 use Rattle.fields.specs.Fields.{encode, field, zeros}
 use Rattle.bindings.specs.Bindings.{joined}
 use Rattle.lists.specs.Lists.{tabulate}
-use Rattle.rules.specs.Calls.{Call, starting, looking, editing, adding, releasing, reset, enterExporter, removeExporter, enterObject, enterInterface, add, release, dropClient, countList, simplePing, complexPing, clock, resolve, resolveFiltered, census, members, nextStop, writeSnapshot, loadSnapshot}
+use Rattle.rules.specs.Calls.{Call, starting, looking, editing, adding, releasing, reset, enterExporter, removeExporter, enterObject, enterInterface, add, release}
+use Rattle.rules.specs.Calls.{dropClient, countList, simplePing, complexPing, clock, resolve, resolveFiltered, census, members, nextStop, writeSnapshot, loadSnapshot}
 use Rattle.rules.specs.Rules.{flag}
 use Rattle.rules.specs.Snapshot.{inRow}
 use Rattle.rules.specs.Swapping.{Each}

@@ -12,7 +12,8 @@ use Rattle.fields.proofs.Fields.{length-encode}
 use Rattle.rules.specs.Snapshot.{inRow}
 use Rattle.rules.specs.Swapping.{Each}
 use Rattle.rules.proofs.SnapshotReading.{encoded-front}
-use Rattle.recording.specs.Recording.{Recorded, Sections, section, sectionsBytes, sectionsIn, recordBytes, recordingBytes, sectionIn, behindSection, behindSections, sectionsAt, recordsIn, behindRecords, countOf, sectionsOf, leftOver, shortSection, shortSections, shortRecords, isShort}
+use Rattle.recording.specs.Recording.{Recorded, Sections, section, sectionsBytes, sectionsIn, recordBytes, recordingBytes, sectionIn, behindSection, behindSections}
+use Rattle.recording.specs.Recording.{sectionsAt, recordsIn, behindRecords, countOf, sectionsOf, leftOver, shortSection, shortSections, shortRecords, isShort}
 
 -- ---- one section at the front of bytes
 

@@ -9,7 +9,8 @@ use Rattle.fields.proofs.Fields.{field-bound, guid-fits, drop-bytes, take-bytes
 use Rattle.lists.proofs.Lists.{length-tabulate}
 use Rattle.lists.proofs.Elements.{tabulate-in, map-in}
 use Rattle.rules.specs.Swapping.{Each}
-use Rattle.recording.specs.Recording.{Recorded, Sections, Form, forms, formOf, numbersOf, sectionIn, behindSections, behindSection, sectionsAt, recordsIn, sectionsOf, countOf, callOf, recordedOf, codeOf}
+use Rattle.recording.specs.Recording.{Recorded, Sections, Form, forms, formOf, numbersOf, sectionIn, behindSections}
+use Rattle.recording.specs.Recording.{behindSection, sectionsAt, recordsIn, sectionsOf, countOf, callOf, recordedOf, codeOf}
 use Rattle.recording.specs.Statements.{Given, Sliced, Numbers, GivenRead}
 
 -- ---- the parts of arguments

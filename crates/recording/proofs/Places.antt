@@ -85,7 +85,7 @@ ended s at n = go (eqb at 0 || shortSection (drop at s)) refl
           whole = f .1;
           read = (λ u. take (q u) (d u));
           size = length-take-le (field (drop at s) 0 8) (drop 8 (drop at s)) y ∙ q;
-          behind = drop-drop (field (drop at s) 0 8) 8 (drop at s) ∙ drop-drop (8 + field (drop at s) 0 8) at s ∙ ap (λ (k : ℕ). drop k s) (let w : at + (8 + field (drop at s) 0 8) ≡ sectionEnd s at = omega arith in w);
+          behind = let w : at + (8 + field (drop at s) 0 8) ≡ sectionEnd s at = omega arith in rw (drop-drop, drop-drop, w);
         }
 
 pub not-ended : (s : List ℕ) (at : ℕ) → (at ≡ 0 → ⊥) → sectionEnd s at ≡ 0 → shortSection (drop at s) ≡ true

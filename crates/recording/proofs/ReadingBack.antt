@@ -13,12 +13,14 @@ use Rattle.lists.specs.Lists.{every, tabulate}
 use Rattle.lists.proofs.Tests.{and-intro, holding-nil, holding-cons}
 use Rattle.lists.proofs.Lists.{every-at, every-append, every-map, map-map, tabulate-ext}
 use Rattle.lists.proofs.Elements.{in-every, map-ext-in}
-use Rattle.rules.specs.Calls.{Call, starting, looking, editing, reset, enterExporter, removeExporter, enterObject, enterInterface, add, release, dropClient, countList, simplePing, complexPing, clock, resolve, resolveFiltered, census, members, nextStop, writeSnapshot, loadSnapshot}
+use Rattle.rules.specs.Calls.{Call, starting, looking, editing, reset, enterExporter, removeExporter, enterObject, enterInterface, add, release, dropClient}
+use Rattle.rules.specs.Calls.{countList, simplePing, complexPing, clock, resolve, resolveFiltered, census, members, nextStop, writeSnapshot, loadSnapshot}
 use Rattle.rules.specs.Snapshot.{inRow, allBytes}
 use Rattle.rules.specs.Swapping.{Each}
 use Rattle.rules.proofs.SnapshotReading.{encoded-front, length-numbers}
 use Rattle.rules.proofs.Swapping.{bytes-every, every-bytes}
-use Rattle.recording.specs.Recording.{Recorded, section, sectionsBytes, callBytes, firstList, secondList, answerBytes, sectionsIn, recordBytes, recordingBytes, Form, forms, formOf, codeOf, sectionsOf, leftOver, callOf, answerOf, recordedOf, recordsOf, formFits, wellFormed, isBroken, mostRecords, recordingAnswer}
+use Rattle.recording.specs.Recording.{Recorded, section, sectionsBytes, callBytes, firstList, secondList, answerBytes, sectionsIn, recordBytes, recordingBytes, Form, forms, formOf}
+use Rattle.recording.specs.Recording.{codeOf, sectionsOf, leftOver, callOf, answerOf, recordedOf, recordsOf, formFits, wellFormed, isBroken, mostRecords, recordingAnswer}
 use Rattle.recording.specs.Statements.{Given, byLength, valueCount, Tells, told, AnyCalls}
 use Rattle.recording.proofs.Framing.{Countable, count-read, sections-read, none-left, not-short}
 use Rattle.recording.proofs.Numbers.{Wide, wide, fields, field-past, numbers-back}

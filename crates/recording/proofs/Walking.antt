@@ -121,8 +121,8 @@ module _ (s : List ℕ) (n : ℕ) (r : Passed) (h : 8 ≤ length s) (e : n ≡ c
         (λ u. not (every wellFormed (recordsIn (sym e u) (drop 8 s))) || not (eqb (length (behindRecords (sym e u) (drop 8 s))) 0))
         ∙ (λ u. not (sym (w .fits z) u) || not (eqb (length (w .left z u)) 0))
 
-    pub unfit-walk : r .fits ≡ false → 14 ≡ recordingAnswer s
-    unfit-walk f = broken-answer s not-short (brokenness ∙ ap (λ (b : Bool). not b || not (eqb (length (drop (r .end) s)) 0)) f)
+    pub unfit-walk : not (r .fits) ≡ true → 14 ≡ recordingAnswer s
+    unfit-walk f = broken-answer s not-short (brokenness ∙ ap (λ (b : Bool). b || not (eqb (length (drop (r .end) s)) 0)) f)
 
     pub left-walk : (r .end ≡ length s → ⊥) → 14 ≡ recordingAnswer s
     left-walk d =
@@ -131,12 +131,12 @@ module _ (s : List ℕ) (n : ℕ) (r : Passed) (h : 8 ≤ length s) (e : n ≡ c
         let k : eqb (length (drop (r .end) s)) 0 ≡ false = ne-eqb (length (drop (r .end) s)) 0 (λ (q : length (drop (r .end) s) ≡ 0). d (omega arith)) in
         broken-answer s not-short (brokenness ∙ ap (λ (b : Bool). not (r .fits) || not b) k ∙ or-true (not (r .fits)))
 
-    module _ (f : r .fits ≡ true) (d : r .end ≡ length s) where
+    module _ (f : not (r .fits) ≡ false) (d : r .end ≡ length s) where
       not-broken : isBroken s ≡ false
       not-broken =
           let l = length-drop (r .end) s in
           let k : eqb (length (drop (r .end) s)) 0 ≡ true = eq-eqb (length (drop (r .end) s)) 0 (omega arith) in
-          brokenness ∙ (λ u. not (f u) || not (k u))
+          brokenness ∙ (λ u. f u || not (k u))
 
       pub many-walk : mostRecords < n → 10 ≡ recordingAnswer s
       unfolding order

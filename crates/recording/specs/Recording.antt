@@ -9,7 +9,8 @@ use Rattle.kinds.specs.Refusals.{Row, _gives_, order}
 use Rattle.fields.specs.Fields.{encode, field, guidAt, guidBytes, zeros}
 use Rattle.bindings.specs.Bindings.{joined}
 use Rattle.lists.specs.Lists.{every, tabulate, holding}
-use Rattle.rules.specs.Calls.{Call, starting, looking, editing, adding, releasing, reset, enterExporter, removeExporter, enterObject, enterInterface, add, release, dropClient, countList, simplePing, complexPing, clock, resolve, resolveFiltered, census, members, nextStop, writeSnapshot, loadSnapshot}
+use Rattle.rules.specs.Calls.{Call, starting, looking, editing, adding, releasing, reset, enterExporter, removeExporter, enterObject, enterInterface, add, release}
+use Rattle.rules.specs.Calls.{dropClient, countList, simplePing, complexPing, clock, resolve, resolveFiltered, census, members, nextStop, writeSnapshot, loadSnapshot}
 use Rattle.rules.specs.Snapshot.{inRow}
 use Rattle.rules.specs.Rules.{flag}
 
