@@ -27,7 +27,8 @@ use Rattle.rules.specs.Swapping.{Each, ExporterFits, ObjectFits, InterfaceFits,
 use Rattle.rules.proofs.SoundLaws.{none, _and_}
 use Rattle.rules.proofs.Swapping.{small-at}
 use Rattle.table_words.specs.Kinds.{exporterKind, objectKind, interfaceKind, setKind}
-use Rattle.table_view.specs.View.{exporterCount, objectCount, interfaceCount, setCount, listStart, listFrom, listAt, asExporter, asObject, asInterface, asSet, exportersOf, objectsOf, interfacesOf, oidsOf, setsOf}
+use Rattle.table_view.specs.View.{exporterCount, objectCount, interfaceCount, setCount, listStart, listFrom, listAt, asExporter}
+use Rattle.table_view.specs.View.{asObject, asInterface, asSet, exportersOf, objectsOf, interfacesOf, oidsOf, setsOf}
 use Rattle.table_view.specs.Fitting.{Lent, ViewFits}
 use Rattle.table_view.proofs.LiveRows.{exporters-length, objects-length, interfaces-length, sets-length}
 use Rattle.table_view.proofs.Sizes.{word-fits}

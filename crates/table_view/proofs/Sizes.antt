@@ -46,7 +46,8 @@ sets-sized m fits t s l =
           ap (distinct eqb)
           (here
           ∙ ap (map (λ j. getD (oidsOf ws) j 0))
-          (members-below (length (oidsOf ws)) (membersAt ws r) (rw (oids-length ws) (below-at ws (live-below ws (m .store) (f .objectsProper) (f .setMembersLive)) r row)) (let q = oids-length ws in let b = places ws in omega arith)))
+          (members-below (length (oidsOf ws)) (membersAt ws r) (rw oids-length (below-at ws (live-below ws (m .store) (f .objectsProper) (f .setMembersLive)) r row))
+          (let q = oids-length ws in let b = places ws in omega arith)))
           ∙ rows-differ (oidsOf ws) (hasMember (membersAt ws r)) (oids-distinct (view m) (table-fields view m t .entries));
     }
   where

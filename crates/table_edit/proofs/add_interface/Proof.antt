@@ -44,7 +44,8 @@ returns c =
     let i = k .before .before .before .before .before .before .before .before .before in
     let e = i .interface-count .ensures .0 in
     let st = i .before .before .before .before in
-    interface-added _ _ _ _ _ _ (st .args .counts .now) (st .pre .2) (λ j. let z = k .shared-slice-known10 .given j in omega arith) e (omega arith) (rw (b .before .interface-kind .ensures) at (c .before .before .push-row .ensures))
+    interface-added _ _ _ _ _ _ (st .args .counts .now) (st .pre .2) (λ j. let z = k .shared-slice-known10 .given j in omega arith) e (omega arith)
+    (rw (b .before .interface-kind .ensures) at (c .before .before .push-row .ensures))
 
 pub add-interface-spec : {M : Type 1} → statement M
 add-interface-spec =

@@ -10,7 +10,8 @@ use Rattle.table_edit.proofs.put_exporter.Statement.{statement}
 use Rattle.table_edit.proofs.put_exporter.Tie as tie
 
 -- the list begins, and ends, within the store
-fits : (c : tie.After-exporter-count) → listStart (c .before .before .before .before .before .args .store .now) (c .exporter-count .result) + length (c .before .before .before .before .before .args .list .now) ≤ length (c .before .before .before .before .before .args .store .now)
+fits : (c : tie.After-exporter-count) → let a = c .before .before .before .before .before .args in
+    listStart (a .store .now) (c .exporter-count .result) + length (a .list .now) ≤ length (a .store .now)
 fits c =
     let start = c .before .before .before .before .before in
     rw (c .exporter-count .ensures .0) (let h = start .pre .4 in let w = start .pre .1 in omega arith)

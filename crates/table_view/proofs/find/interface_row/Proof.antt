@@ -11,8 +11,8 @@ returns : tie.Need-returns
 returns c s =
     let start = c .before .before .before .before .before in
     let ws = start .args .words .now in
-    c .guid-index-of .ensures
-    ∙ ap (firstIndex (sameGuid (start .args .ipid))) (guids-read ws 768 1024 (c .before .before .column .ensures) (c .before .column2 .ensures) (c .before .before .before .interface-count .ensures .0) (ipids-columns ws (start .pre)))
+    let ipids = guids-read ws 768 1024 (c .before .before .column .ensures) (c .before .column2 .ensures) (c .before .before .before .interface-count .ensures .0) (ipids-columns ws (start .pre)) in
+    c .guid-index-of .ensures ∙ ap (firstIndex (sameGuid (start .args .ipid))) ipids
 
 pub interface-row-spec : {M : Type 1} → statement M
 interface-row-spec =

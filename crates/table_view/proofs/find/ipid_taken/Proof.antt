@@ -21,7 +21,8 @@ returns-2 c s =
     let start = k .before .before .before .before .before .before in
     let ws = start .args .words .now in
     let g = start .args .ipid in
-    let unknowns = guids-read ws 32 48 (k .column .ensures) (c .before .before .column2 .ensures) (k .before .before .before .before .exporter-count .ensures .0) (unknowns-columns ws (start .pre) s) in
+    let n = k .before .before .before .before .exporter-count .ensures .0 in
+    let unknowns = guids-read ws 32 48 (k .column .ensures) (c .before .before .column2 .ensures) n (unknowns-columns ws (start .pre) s) in
     let here : some (sameGuid g) (map (λ (x : Exporter). x .unknown) (exportersOf ws s)) ≡ true = sym (ap (some (sameGuid g)) unknowns) ∙ sym (c .before .has-guid .ensures) ∙ c .if2 .taken in
     rw (sym (k .before .before .is-nil .ensures) ∙ k .before .if1 .left, some-append, here)
 
@@ -32,9 +33,11 @@ returns-3 c s =
     let start = k .before .before .before .before .before .before in
     let ws = start .args .words .now in
     let g = start .args .ipid in
-    let unknowns = guids-read ws 32 48 (k .column .ensures) (second .before .before .column2 .ensures) (k .before .before .before .before .exporter-count .ensures .0) (unknowns-columns ws (start .pre) s) in
-    let none : some (sameGuid g) (map (λ (x : Exporter). x .unknown) (exportersOf ws s)) ≡ false = sym (ap (some (sameGuid g)) unknowns) ∙ sym (second .before .has-guid .ensures) ∙ second .if2 .left in
-    let interfaces = guids-read ws 768 1024 (c .before .before .column3 .ensures) (c .before .column4 .ensures) (k .before .before .before .interface-count .ensures .0) (ipids-columns ws (start .pre)) in
+    let n = k .before .before .before .before .exporter-count .ensures .0 in
+    let m = k .before .before .before .interface-count .ensures .0 in
+    let unknowns = guids-read ws 32 48 (k .column .ensures) (second .before .before .column2 .ensures) n (unknowns-columns ws (start .pre) s) in
+    let none = sym (ap (some (sameGuid g)) unknowns) ∙ sym (second .before .has-guid .ensures) ∙ second .if2 .left in
+    let interfaces = guids-read ws 768 1024 (c .before .before .column3 .ensures) (c .before .column4 .ensures) m (ipids-columns ws (start .pre)) in
     rw (sym (k .before .before .is-nil .ensures) ∙ k .before .if1 .left, some-append, none) (c .has-guid2 .ensures ∙ ap (some (sameGuid g)) interfaces)
 
 pub ipid-taken-spec : {M : Type 1} → statement M

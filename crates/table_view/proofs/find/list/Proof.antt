@@ -18,7 +18,7 @@ begins : (c : tie.Start) → listStart (c .args .store .now) (c .args .i) ≤ le
 begins c = list-starts (c .args .words .now) (c .args .store .now) (c .pre .2) (c .args .i) (search needs)
 
 -- the length that is told
-told : (c : tie.After-stated-length) → c .stated-length .result ≡ listLength (listFrom (c .before .before .before .before .before .args .store .now) (c .before .before .before .before .before .args .i))
+told : (c : tie.After-stated-length) → let a = c .before .before .before .before .before .args in c .stated-length .result ≡ listLength (listFrom (a .store .now) (a .i))
 told c =
     let s = c .before .before .before .before .before .args .store .now in
     c .stated-length .ensures ∙ ap listLength (part-to-end s (c .before .before .list-start .result)) ∙ ap (λ (x : ℕ). listLength (drop x s)) (c .before .before .list-start .ensures)
