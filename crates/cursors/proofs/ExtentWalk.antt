@@ -9,13 +9,13 @@ use borrow.Author.Tests.{leb-true, le-leb, lt-ltb, le-ltb, ltb-true, not-false, 
 use lib.Dec.{eqb, ltb, leb}
 use lib.ListN.{length}
 use Rattle.kinds.specs.Refusals.{order}
-use Rattle.kinds.proofs.Refusing.{by-test, same-test, passed, passed-on}
+use Rattle.kinds.proofs.Refusing.{same-test, passed, passed-on}
 use Rattle.lists.proofs.Tests.{true-or-false}
 use Rattle.fields.specs.Fields.{field, rounded}
 use Rattle.extensions.specs.Extensions.{sizeAt, nextAt, extentAnswer, extentsAnswer, startOf, countAt, extentsStart, extensionsCount, extensionsAnswer, walk, noExtension, extensionFrom, extensionAt}
 use Rattle.extensions.specs.declared.Extension.{Extension}
 use Rattle.extensions.proofs.ArrayWalk.{walk-answer, held, accepted, extents-none, some-array}
-use Rattle.headers.specs.Headers.{thisAnswer, thisWalk, thisExtension}
+use Rattle.headers.specs.Headers.{thisWalk, thisExtension}
 use Rattle.extensions.specs.declared.Walked.{Walked}
 use Rattle.headers.proofs.HeaderAnswers.{this-number}
 use Rattle.headers.proofs.ThisTrip.{version}

@@ -1,5 +1,5 @@
 -- What a step answers lies in the bytes, whatever its numbers are.
-use Prim.Native.Nat.{ℕ, _+_, _*_, _≤_}
+use Prim.Native.Nat.{ℕ, _≤_}
 use mathlib.Core.Path.{_≡_}
 use mathlib.Core.List.{List}
 use native.Mathlib.Omega.{arith}
@@ -14,7 +14,7 @@ use Rattle.cursors.specs.Cursors.{bindingStep, stepPlace, propertyStepAn
 use Rattle.cursors.specs.declared.extents.ExtensionStep.{ExtensionStep}
 use Rattle.cursors.specs.declared.parts.Step.{Step}
 use Rattle.cursors.specs.declared.properties.PropertyStep.{PropertyStep}
-use Rattle.cursors.proofs.PartWalk.{Met, met}
+use Rattle.cursors.proofs.PartWalk.{met}
 use Rattle.cursors.proofs.PropertyWalk as properties
 use Rattle.cursors.proofs.ExtentWalk as extents
 

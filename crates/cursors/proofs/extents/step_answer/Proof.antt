@@ -40,14 +40,16 @@ returns-4 c =
     let r = c .before .before in
     let e = r .before .before in
     let f = e .before .before in
-    sym (extent-cut _ _ _ _ (f .before .before .if1 .left) (pointed f) (fixed e) _ (r .rounded .ensures ∙ ap rounded (r .before .read-u32 .ensures)) (sym (c .before .inside3 .ensures) ∙ not-true _ (c .if4 .taken)))
+    let size = r .rounded .ensures ∙ ap rounded (r .before .read-u32 .ensures) in
+    sym (extent-cut _ _ _ _ (f .before .before .if1 .left) (pointed f) (fixed e) _ size (sym (c .before .inside3 .ensures) ∙ not-true _ (c .if4 .taken)))
 
 returns-5 : tie.Need-returns-5
 returns-5 c =
     let r = c .before .before in
     let e = r .before .before in
     let f = e .before .before in
-    sym (extent-whole _ _ _ _ (f .before .before .if1 .left) (pointed f) (fixed e) _ (r .rounded .ensures ∙ ap rounded (r .before .read-u32 .ensures)) (sym (c .before .inside3 .ensures) ∙ not-false _ (c .if4 .left)))
+    let size = r .rounded .ensures ∙ ap rounded (r .before .read-u32 .ensures) in
+    sym (extent-whole _ _ _ _ (f .before .before .if1 .left) (pointed f) (fixed e) _ size (sym (c .before .inside3 .ensures) ∙ not-false _ (c .if4 .left)))
 
 pub step-answer-spec : {M : Type 1} → statement M
 step-answer-spec =
