@@ -9,7 +9,8 @@ ghost use mathlib.Core.List.{[], _∷_};
 ghost use Rattle.rules.specs.Entries.{oxids, oids, ipids};
 ghost use Rattle.table_view.specs.View.{memory, view, soundMemory, Holds, oidsOf};
 ghost use Rattle.rules.specs.Contract.{Whole};
-ghost use Rattle.rules.specs.Sound.{proper, properGuids, interfacesHeld, setMembersLive, heardRecently, listsKept, objectExportersLive, interfaceObjectsLive, objectsHaveInterfaces, namingClauses, objectClauses, interfaceClauses, setClauses};
+ghost use Rattle.rules.specs.Sound.{proper, properGuids, interfacesHeld, setMembersLive, heardRecently, listsKept, objectExportersLive};
+ghost use Rattle.rules.specs.Sound.{interfaceObjectsLive, objectsHaveInterfaces, namingClauses, objectClauses, interfaceClauses, setClauses};
 
 // Each exporter's list keeps the list rules and is no longer than it may be; it begins where the one before it ends.
 fn lists_kept<'a>(words: &'a [u64], store: &'a [u8]) -> bool

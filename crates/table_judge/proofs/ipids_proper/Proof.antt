@@ -30,13 +30,16 @@ unknowns c s = map (λ (x : Exporter). x .unknown) (At c s .exporters)
 -- two columns are the identifiers of the entries
 unknowns-read : (c : tie.After-column4) (s : List ℕ) → guids (c .before .before .before .column .result .now) (c .before .before .column2 .result .now) ≡ unknowns c s
 unknowns-read c s =
-    let ws = c .before .before .before .before .before .before .before .args .words .now in
-    guids-read ws 32 48 (c .before .before .before .column .ensures) (c .before .before .column2 .ensures) (c .before .before .before .before .before .exporter-count .ensures .0) (unknowns-columns ws (c .before .before .before .before .before .before .before .pre) s)
+    let n = c .before .before .before .before .before in
+    let st = n .before .before in
+    let ws = st .args .words .now in
+    guids-read ws 32 48 (c .before .before .before .column .ensures) (c .before .before .column2 .ensures) (n .exporter-count .ensures .0) (unknowns-columns ws (st .pre) s)
 
 ipids-read : (c : tie.After-column4) (s : List ℕ) → guids (c .before .column3 .result .now) (c .column4 .result .now) ≡ interfaceIpids (At c s)
 ipids-read c s =
-    let ws = c .before .before .before .before .before .before .before .args .words .now in
-    guids-read ws 768 1024 (c .before .column3 .ensures) (c .column4 .ensures) (c .before .before .before .before .interface-count .ensures .0) (ipids-columns ws (c .before .before .before .before .before .before .before .pre))
+    let st = c .before .before .before .before .before .before .before in
+    let ws = st .args .words .now in
+    guids-read ws 768 1024 (c .before .column3 .ensures) (c .column4 .ensures) (c .before .before .before .before .interface-count .ensures .0) (ipids-columns ws (st .pre))
 
 -- the first outcome: the interfaces' are proper
 ipids-judged : (c : tie.After-enter-guids) (s : List ℕ) → c .enter-guids .result ≡ properGuids (interfaceIpids (At (c .before .before .before .before) s))

@@ -41,7 +41,8 @@ loop-holds : tie.Need-loop-holds Inv-loop μ-loop
 loop-holds c = (search needs, refl, sym (start-first _), search needs)
 
 -- the bytes from list k on are lent
-answer : (c : tie.After-front-answer Inv-loop μ-loop) → c .front-answer .result ≡ frontAnswer (listFrom (c .before .before .before .before .before .before .before .args .store .now) (c .before .before .before .loop .k))
+answer : (c : tie.After-front-answer Inv-loop μ-loop) → let l = c .before .before .before in
+    c .front-answer .result ≡ frontAnswer (listFrom (l .before .before .before .before .args .store .now) (l .loop .k))
 answer c =
     let s = c .before .before .before .before .before .before .before .args .store .now in
     let l = c .before .before .before .loop in
@@ -55,14 +56,16 @@ returns c =
     check-fails _ _ (l .k) (l .inv .1) (search needs) (bad-answer (start .args .store .now) (l .k) (λ z. c .if1 .taken (e ∙ z))) refl
     ∙ kept-rows (start .args .words .now) (start .args .store .now) _ (c .before .before .before .before .before .exporter-count .ensures .0)
 
-size : (c : tie.After-stated-length Inv-loop μ-loop) → c .stated-length .result ≡ listLength (listFrom (c .before .before .before .before .before .before .before .before .before .before .args .store .now) (c .before .before .before .before .before .before .loop .k))
+size : (c : tie.After-stated-length Inv-loop μ-loop) → let l = c .before .before .before .before .before .before in
+    c .stated-length .result ≡ listLength (listFrom (l .before .before .before .before .args .store .now) (l .loop .k))
 size c =
     let s = c .before .before .before .before .before .before .before .before .before .before .args .store .now in
     let l = c .before .before .before .before .before .before .loop in
     rw (← l .inv .2) (c .stated-length .ensures ∙ ap listLength (part-to-end s (l .at)))
 
 -- the list ends within the store
-ends : (c : tie.After-stated-length Inv-loop μ-loop) → c .before .before .before .before .before .before .loop .at + c .stated-length .result ≤ length (c .before .before .before .before .before .before .before .before .before .before .args .store .now)
+ends : (c : tie.After-stated-length Inv-loop μ-loop) → let l = c .before .before .before .before .before .before in
+    l .loop .at + c .stated-length .result ≤ length (l .before .before .before .before .args .store .now)
 ends c =
     let s = c .before .before .before .before .before .before .before .before .before .before .args .store .now in
     let l = c .before .before .before .before .before .before .loop in

@@ -25,9 +25,11 @@ members-requires c κs = let l = c .before .loop .inv .0 in (search needs, omega
 returns : tie.Need-returns Inv-loop μ-loop
 returns c =
     let l = c .before .before .before .before .loop in
+    let sets = c .before .before .before .before .before .before in
+    let start = sets .before .before in
     λ s.
     check-fails _ _ (l .i) (l .inv .1) (search needs) (rw (c .before .before .members .ensures) at (c .before .below .ensures)) (c .if1 .taken)
-    ∙ members-rows (c .before .before .before .before .before .before .before .before .args .words .now) s _ _ (c .before .before .before .before .before .before .set-count .ensures .0) (c .before .before .before .before .before .object-count .ensures .0) (and-left _ _ (c .before .before .before .before .before .before .before .before .pre .1))
+    ∙ members-rows (start .args .words .now) s _ _ (sets .set-count .ensures .0) (c .before .before .before .before .before .object-count .ensures .0) (and-left _ _ (start .pre .1))
 
 loop-again : tie.Need-loop-again Inv-loop μ-loop
 loop-again c =
@@ -37,9 +39,10 @@ loop-again c =
 returns-2 : tie.Need-returns-2 Inv-loop μ-loop
 returns-2 c =
     let l = c .before .loop in
+    let start = c .before .before .before .before .before in
     λ s.
     checks-done _ _ (l .i) (l .inv .1) (search needs)
-    ∙ members-rows (c .before .before .before .before .before .args .words .now) s _ _ (c .before .before .before .set-count .ensures .0) (c .before .before .object-count .ensures .0) (and-left _ _ (c .before .before .before .before .before .pre .1))
+    ∙ members-rows (start .args .words .now) s _ _ (c .before .before .before .set-count .ensures .0) (c .before .before .object-count .ensures .0) (and-left _ _ (start .pre .1))
 
 pub members-live-spec : {M : Type 1} → statement M
 members-live-spec =

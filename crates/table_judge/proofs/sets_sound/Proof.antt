@@ -24,10 +24,14 @@ At c s = view (memory (c .before .before .before .before .before .before .args .
 
 -- a column is a field of the entries
 numbers-read : (c : tie.After-column2) (s : List ℕ) → c .before .column .result .now ≡ setNumbers (At c s)
-numbers-read c s = let ws = c .before .before .before .before .before .before .args .words .now in column-read ws 64 (c .before .column .ensures) (c .before .before .before .before .set-count .ensures .0) (set-numbers-column ws (c .before .before .before .before .before .before .pre .0))
+numbers-read c s =
+    let st = c .before .before .before .before .before .before in
+    column-read (st .args .words .now) 64 (c .before .column .ensures) (c .before .before .before .before .set-count .ensures .0) (set-numbers-column _ (st .pre .0))
 
 times-read : (c : tie.After-column2) (s : List ℕ) → c .column2 .result .now ≡ map (λ (p : PingSet). p .pinged) (At c s .sets)
-times-read c s = let ws = c .before .before .before .before .before .before .args .words .now in column-read ws 128 (c .column2 .ensures) (c .before .before .before .before .set-count .ensures .0) (pinged-column ws (c .before .before .before .before .before .before .pre .0))
+times-read c s =
+    let st = c .before .before .before .before .before .before in
+    column-read (st .args .words .now) 128 (c .column2 .ensures) (c .before .before .before .before .set-count .ensures .0) (pinged-column _ (st .pre .0))
 
 -- each outcome is a clause
 proper-judged : (c : tie.After-are-proper) (s : List ℕ) → c .are-proper .result ≡ proper (setNumbers (At (c .before) s))
@@ -37,10 +41,13 @@ before-judged : (c : tie.After-all-at-most) (s : List ℕ) → c .all-at-most .r
 before-judged c s = let e = At (c .before .before .before) s in column-test (λ p. p .pinged) (e .sets) (times-read (c .before .before .before) s) (λ t. leb t (e .clock)) (c .all-at-most .ensures)
 
 recent-judged : (c : tie.After-all-within) (s : List ℕ) → c .all-within .result ≡ pingedRecently (At (c .before .before .before .before .before) s)
-recent-judged c s = let e = At (c .before .before .before .before .before) s in column-test (λ p. p .pinged) (e .sets) (times-read (c .before .before .before .before .before) s) (λ t. not (overdue (e .clock) t)) (c .all-within .ensures)
+recent-judged c s =
+    let times = c .before .before .before .before .before in
+    let e = At times s in
+    column-test (λ p. p .pinged) (e .sets) (times-read times s) (λ t. not (overdue (e .clock) t)) (c .all-within .ensures)
 
 below-judged : (c : tie.After-all-below) (s : List ℕ) → c .all-below .result ≡ setsBelowNext (At (c .before .before .before .before .before .before .before) s)
-below-judged c s = c .all-below .ensures ∙ ap (every (λ n. ltb n (At (c .before .before .before .before .before .before .before) s .next))) (numbers-read (c .before .before .before .before .before .before .before) s)
+below-judged c s = let times = c .before .before .before .before .before .before .before in c .all-below .ensures ∙ ap (every (λ n. ltb n (At times s .next))) (numbers-read times s)
 
 -- the clauses that are left
 abbrev Left : ℕ → tie.After-column2 → List ℕ → Type 0

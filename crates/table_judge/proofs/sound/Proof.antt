@@ -41,20 +41,17 @@ left-3 c =
     let st = c .before .before .before .before .before .before in
     judged-passes _ (left-2 (c .before .before)) (c .before .lists-kept .ensures ∙ lists-judged (st .args .words .now) (st .args .store .now) (c .before .before .if2 .left)) (c .if3 .left)
 
+abbrev store : tie.Else4 → List ℕ
+store c = c .before .before .before .before .before .before .before .before .args .store .now
+
 left-4 : (c : tie.Else4) → Left 4 (c .before .before .before .before .before .before .before .before)
-left-4 c =
-    let store = c .before .before .before .before .before .before .before .before .args .store .now in
-    judged-passes _ (left-3 (c .before .before)) (c .before .naming-sound .ensures store) (c .if4 .left)
+left-4 c = judged-passes _ (left-3 (c .before .before)) (c .before .naming-sound .ensures (store c)) (c .if4 .left)
 
 left-5 : (c : tie.Else5) → Left 5 (c .before .before .before .before .before .before .before .before .before .before)
-left-5 c =
-    let store = c .before .before .before .before .before .before .before .before .before .before .args .store .now in
-    judged-passes _ (left-4 (c .before .before)) (c .before .objects-sound .ensures store) (c .if5 .left)
+left-5 c = judged-passes _ (left-4 (c .before .before)) (c .before .objects-sound .ensures (store (c .before .before))) (c .if5 .left)
 
 left-6 : (c : tie.Else6) → Left 6 (c .before .before .before .before .before .before .before .before .before .before .before .before)
-left-6 c =
-    let store = c .before .before .before .before .before .before .before .before .before .before .before .before .args .store .now in
-    judged-passes _ (left-5 (c .before .before)) (c .before .interfaces-sound .ensures store) (c .if6 .left)
+left-6 c = judged-passes _ (left-5 (c .before .before)) (c .before .interfaces-sound .ensures (store (c .before .before .before .before))) (c .if6 .left)
 
 returns : tie.Need-returns
 returns c = holding-fails _ _ (all-left (c .before .before .before)) (ne-eqb _ 8192 (c .if1 .taken))
@@ -73,24 +70,18 @@ returns-4 c =
     judged-fails _ (left-3 (c .before .before)) (c .before .naming-sound .ensures store) (c .if4 .taken)
 
 returns-5 : tie.Need-returns-5
-returns-5 c =
-    let store = c .before .before .before .before .before .before .before .before .before .before .args .store .now in
-    judged-fails _ (left-4 (c .before .before)) (c .before .objects-sound .ensures store) (c .if5 .taken)
+returns-5 c = judged-fails _ (left-4 (c .before .before)) (c .before .objects-sound .ensures (store (c .before .before))) (c .if5 .taken)
 
 returns-6 : tie.Need-returns-6
-returns-6 c =
-    let store = c .before .before .before .before .before .before .before .before .before .before .before .before .args .store .now in
-    judged-fails _ (left-5 (c .before .before)) (c .before .interfaces-sound .ensures store) (c .if6 .taken)
+returns-6 c = judged-fails _ (left-5 (c .before .before)) (c .before .interfaces-sound .ensures (store (c .before .before .before .before))) (c .if6 .taken)
 
 sets-sound-requires : tie.Need-sets-sound-requires
 sets-sound-requires c κs =
-    let store = c .before .before .before .before .before .before .before .before .before .before .before .before .args .store .now in
-    (search needs, clause-at _ 2 (sym (c .before .before .before .before .before .naming-sound .ensures store) ∙ not-false _ (c .before .before .before .before .if4 .left)))
+    let test = c .before .before .before .before in
+    (search needs, clause-at _ 2 (sym (test .before .naming-sound .ensures (store test)) ∙ not-false _ (test .if4 .left)))
 
 returns-7 : tie.Need-returns-7
-returns-7 c =
-    let store = c .before .before .before .before .before .before .before .before .before .before .before .before .before .args .store .now in
-    judged-last (left-6 (c .before)) (c .sets-sound .ensures store)
+returns-7 c = judged-last (left-6 (c .before)) (c .sets-sound .ensures (store (c .before .before .before .before .before)))
 
 pub sound-spec : {M : Type 1} → statement M
 sound-spec =
