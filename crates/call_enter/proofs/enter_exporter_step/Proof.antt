@@ -23,7 +23,7 @@ put-exporter-requires : tie.Need-put-exporter-requires
 put-exporter-requires c κs =
     let a = c .before .before .before .before .before .before .before .before .before .args in
     let t = c .before .before .before .before .before .before .before .before .before .pre in
-    let fits = exporter-fits (view (memory (a .words .now) (a .store .now))) (a .list .now) (a .oxid .0) (a .unknown) (sym (c .before .before .before .exporter-number .ensures) ∙ c .before .before .if1 .left) in
+    let fits = exporter-fits _ (a .list .now) (a .oxid .0) (a .unknown) (sym (c .before .before .before .exporter-number .ensures) ∙ c .before .before .if1 .left) in
     let l = exporters-length (a .words .now) (a .store .now) in
     let p = fits .2 in
     let b = bytes-live (a .words .now) (a .store .now) (sound-fields _ (t .entries) .listsKept) in
@@ -32,8 +32,9 @@ put-exporter-requires c κs =
 returns-2 : tie.Need-returns-2
 unfolding acceptedReply results next
 returns-2 c =
-    let t = c .before .before .before .before .before .before .before .before .before .before .before .before .before .before .pre in
-    accepted-step _ (c .before .before .before .before .before .before .before .before .exporter-number .ensures) (c .before .before .before .before .before .before .before .if1 .left) _ (c .before .before .before .before .put-exporter .ensures)
+    let test = c .before .before .before .before .before .before .before in
+    let t = test .before .before .before .before .before .before .before .pre in
+    accepted-step _ (test .before .exporter-number .ensures) (test .if1 .left) _ (c .before .before .before .before .put-exporter .ensures)
 
 pub enter-exporter-step-spec : {M : Type 1} → statement M
 enter-exporter-step-spec =

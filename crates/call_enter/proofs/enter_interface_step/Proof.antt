@@ -22,7 +22,7 @@ returns c =
 put-interface-requires : tie.Need-put-interface-requires
 put-interface-requires c κs =
     let a = c .before .before .before .before .before .before .args in
-    let room = interface-fits (view (memory (a .words .now) (a .store .now))) (a .oid .0) (a .ipid) (a .iid) (a .public) (sym (c .before .before .interface-number .ensures (a .store .now) (a .iid)) ∙ c .before .if1 .left) in
+    let room = interface-fits (view (memory (a .words .now) (a .store .now))) _ _ (a .iid) _ (sym (c .before .before .interface-number .ensures (a .store .now) (a .iid)) ∙ c .before .if1 .left) in
     let l = interfaces-length (a .words .now) in
     (c .before .before .before .before .before .before .pre .words, omega arith)
 

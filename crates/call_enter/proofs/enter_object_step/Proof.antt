@@ -55,12 +55,12 @@ put-interface-requires c κs =
 returns-2 : tie.Need-returns-2
 unfolding acceptedReply results next
 returns-2 c =
-    let a = c .before .before .before .before .before .before .before .before .before .before .before .before .before .args in
-    let s = a .store .now in
-    let t = c .before .before .before .before .before .before .before .before .before .before .before .before .before .pre in
-    accepted-step _ (c .before .before .before .before .before .before .before .before .before .object-number .ensures s (a .iid) (a .no-ping)) (c .before .before .before .before .before .before .before .before .if1 .left) _
-    (c .before .before .put-interface .ensures s
-    ∙ ap (addInterface _) (c .before .before .before .before .before .before .put-object .ensures s))
+    let test = c .before .before .before .before .before .before .before .before in
+    let st = test .before .before .before .before .before in
+    let s = st .args .store .now in
+    let t = st .pre in
+    accepted-step _ (test .before .object-number .ensures s (st .args .iid) (st .args .no-ping)) (test .if1 .left) _
+    (c .before .before .put-interface .ensures s ∙ ap (addInterface _) (c .before .before .before .before .before .before .put-object .ensures s))
 
 pub enter-object-step-spec : {M : Type 1} → statement M
 enter-object-step-spec =

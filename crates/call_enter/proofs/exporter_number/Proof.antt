@@ -37,8 +37,9 @@ badIpid st = (sameGuid (st .args .unknown) nil || some (sameGuid (st .args .unkn
 abbrev badOxid : tie.Start → List Row
 badOxid st = isLiveExporter (At st) (st .args .oxid .0) gives 3 ∷ badIpid st
 
-live-judged : (c : tie.After-exporter-count) → isLiveExporter (At (c .before .before .before .before .before .before .before)) (c .before .before .before .before .before .before .before .args .oxid .0) ≡ ltb (c .before .exporter-row .result) (c .exporter-count .result)
-live-judged c = let a = c .before .before .before .before .before .before .before .args in exporter-tested (a .words .now) (a .store .now) (a .oxid .0) (c .before .exporter-row .ensures (a .store .now)) (c .exporter-count .ensures .0)
+live-judged : (c : tie.After-exporter-count) → let st = c .before .before .before .before .before .before .before in
+    isLiveExporter (At st) (st .args .oxid .0) ≡ ltb (c .before .exporter-row .result) (c .exporter-count .result)
+live-judged c = exporter-tested _ _ _ (c .before .exporter-row .ensures _) (c .exporter-count .ensures .0)
 
 -- each row that does not hold
 left-0 : (st : tie.Start) → Left st (eqb (st .args .oxid .0) 0 gives 3 ∷ badOxid st)
@@ -61,12 +62,11 @@ returns-2 : tie.Need-returns-2
 returns-2 c = row-gives _ _ _ (left-1 (c .before .before .before)) (live-judged (c .before) ∙ lt-ltb _ _ (c .if2 .taken))
 
 returns-3 : tie.Need-returns-3
-returns-3 c = row-gives _ _ _ (left-2 (c .before .before)) (sym (c .before .ipid-taken .ensures (c .before .before .before .before .before .before .before .before .before .before .args .store .now)) ∙ c .if3 .taken)
+returns-3 c = row-gives _ _ _ (left-2 (c .before .before)) (sym (c .before .ipid-taken .ensures _) ∙ c .if3 .taken)
 
 returns-4 : tie.Need-returns-4
 returns-4 c =
-    c .list-number .ensures
-    ∙ sym (row-passes _ _ _ (left-2 (c .before .before .before)) (sym (c .before .before .ipid-taken .ensures (c .before .before .before .before .before .before .before .before .before .before .before .args .store .now)) ∙ c .before .if3 .left))
+    c .list-number .ensures ∙ sym (row-passes _ _ _ (left-2 (c .before .before .before)) (sym (c .before .before .ipid-taken .ensures _) ∙ c .before .if3 .left))
 
 pub exporter-number-spec : {M : Type 1} → statement M
 exporter-number-spec =

@@ -29,11 +29,15 @@ Left k st s iid =
     number call (At st s) ≡ order (drop k (refusals call (At st s)))
 
 -- tests of the rows
-live-judged : (c : tie.After-object-row) (s : List ℕ) → isLiveObject (At (c .before .before .before .before .before) s) (c .before .before .before .before .before .args .oid .0) ≡ ltb (c .object-row .result) (c .before .object-count .result)
-live-judged c s = object-tested (c .before .before .before .before .before .args .words .now) s (c .before .before .before .before .before .args .oid .0) (c .object-row .ensures s) (c .before .object-count .ensures .0)
+live-judged : (c : tie.After-object-row) (s : List ℕ) → let st = c .before .before .before .before .before in
+    isLiveObject (At st s) (st .args .oid .0) ≡ ltb (c .object-row .result) (c .before .object-count .result)
+live-judged c s = object-tested _ s _ (c .object-row .ensures s) (c .before .object-count .ensures .0)
 
-full-judged : (c : tie.After-interface-count) (s : List ℕ) → leb interfacePlaces (length (At (c .before .before .before .before .before .before .before .before) s .interfaces)) ≡ leb interfacePlaces (c .interface-count .result)
-full-judged c s = full-tested (At (c .before .before .before .before .before .before .before .before) s .interfaces) interfacePlaces (interfaces-length (c .before .before .before .before .before .before .before .before .args .words .now)) (c .interface-count .ensures .0)
+full-judged : (c : tie.After-interface-count) (s : List ℕ) → let st = c .before .before .before .before .before .before .before .before in
+    leb interfacePlaces (length (At st s .interfaces)) ≡ leb interfacePlaces (c .interface-count .result)
+full-judged c s =
+    let st = c .before .before .before .before .before .before .before .before in
+    full-tested (At st s .interfaces) interfacePlaces (interfaces-length (st .args .words .now)) (c .interface-count .ensures .0)
 
 -- each row that does not hold
 module _ (s : List ℕ) (iid : Guid) where

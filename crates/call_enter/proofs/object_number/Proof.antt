@@ -13,7 +13,7 @@ use Rattle.lists.specs.Guids.{nil, sameGuid}
 use Rattle.rules.specs.Entries.{Entries, ipids, objectPlaces, interfacePlaces}
 use Rattle.rules.specs.Calls.{Call, Edit}
 use Rattle.rules.specs.Rules.{refusals, number, isLiveExporter, isLiveObject}
-use Rattle.table_view.specs.View.{memory, view}
+use Rattle.table_view.specs.View.{objectCount, interfaceCount, memory, view}
 use Rattle.table_view.proofs.LiveRows.{objects-length, interfaces-length}
 use Rattle.table_view.proofs.Steps.{row-gives, row-passes, gone-gives, live-passes, rows-end, two-rows, identifier-rows, exporter-tested, object-tested, full-tested}
 use borrow.Author.Needs.{needs}
@@ -42,17 +42,22 @@ Left k st s iid np =
     ∷ []))
 
 -- tests of the rows
-live-judged : (c : tie.After-object-count) (s : List ℕ) → isLiveObject (At (c .before .before .before .before .before) s) (c .before .before .before .before .before .args .oid .0) ≡ ltb (c .before .object-row .result) (c .object-count .result)
-live-judged c s = object-tested (c .before .before .before .before .before .args .words .now) s (c .before .before .before .before .before .args .oid .0) (c .before .object-row .ensures s) (c .object-count .ensures .0)
+live-judged : (c : tie.After-object-count) (s : List ℕ) → let st = c .before .before .before .before .before in
+    isLiveObject (At st s) (st .args .oid .0) ≡ ltb (c .before .object-row .result) (c .object-count .result)
+live-judged c s = object-tested _ s _ (c .before .object-row .ensures s) (c .object-count .ensures .0)
 
-exporter-judged : (c : tie.After-exporter-row) (s : List ℕ) → isLiveExporter (At (c .before .before .before .before .before .before .before .before .before .before) s) (c .before .before .before .before .before .before .before .before .before .before .args .oxid .0) ≡ ltb (c .exporter-row .result) (c .before .exporter-count .result)
-exporter-judged c s = exporter-tested (c .before .before .before .before .before .before .before .before .before .before .args .words .now) s (c .before .before .before .before .before .before .before .before .before .before .args .oxid .0) (c .exporter-row .ensures s) (c .before .exporter-count .ensures .0)
+exporter-judged : (c : tie.After-exporter-row) (s : List ℕ) → let st = c .before .before .before .before .before .before .before .before .before .before in
+    isLiveExporter (At st s) (st .args .oxid .0) ≡ ltb (c .exporter-row .result) (c .before .exporter-count .result)
+exporter-judged c s = exporter-tested _ s _ (c .exporter-row .ensures s) (c .before .exporter-count .ensures .0)
 
-objects-judged : (c : tie.After-object-count2) (s : List ℕ) → leb objectPlaces (length (At (c .before .before .before .before .before .before .before .before .before .before .before .before .before) s .objects)) ≡ leb objectPlaces (c .object-count2 .result)
-objects-judged c s = full-tested (At (c .before .before .before .before .before .before .before .before .before .before .before .before .before) s .objects) objectPlaces (objects-length (c .before .before .before .before .before .before .before .before .before .before .before .before .before .args .words .now)) (c .object-count2 .ensures .0)
+full-objects : (st : tie.Start) (s : List ℕ) {n : ℕ} → n ≡ objectCount (st .args .words .now) → leb objectPlaces (length (At st s .objects)) ≡ leb objectPlaces n
+full-objects st s e = full-tested (At st s .objects) objectPlaces (objects-length (st .args .words .now)) e
 
-interfaces-judged : (c : tie.After-interface-count) (s : List ℕ) → leb interfacePlaces (length (At (c .before .before .before .before .before .before .before .before .before .before .before .before .before .before .before) s .interfaces)) ≡ leb interfacePlaces (c .interface-count .result)
-interfaces-judged c s = full-tested (At (c .before .before .before .before .before .before .before .before .before .before .before .before .before .before .before) s .interfaces) interfacePlaces (interfaces-length (c .before .before .before .before .before .before .before .before .before .before .before .before .before .before .before .args .words .now)) (c .interface-count .ensures .0)
+full-interfaces : (st : tie.Start) (s : List ℕ) {n : ℕ} → n ≡ interfaceCount (st .args .words .now) → leb interfacePlaces (length (At st s .interfaces)) ≡ leb interfacePlaces n
+full-interfaces st s e = full-tested (At st s .interfaces) interfacePlaces (interfaces-length (st .args .words .now)) e
+
+abbrev start : tie.Else4 → tie.Start
+start c = c .before .before .before .before .before .before .before .before .before .before .before
 
 -- each row that does not hold
 module _ (s : List ℕ) (iid : Guid) (np : Bool) where
@@ -74,17 +79,17 @@ module _ (s : List ℕ) (iid : Guid) (np : Bool) where
   left-3 : (c : tie.Else3) → Left 3 (c .before .before .before .before .before .before .before .before) s iid np
   left-3 c = row-passes _ _ _ (left-2 (c .before .before)) (sym (c .before .ipid-taken .ensures s) ∙ c .if3 .left)
 
-  left-4 : (c : tie.Else4) → Left 4 (c .before .before .before .before .before .before .before .before .before .before .before) s iid np
+  left-4 : (c : tie.Else4) → Left 4 (start c) s iid np
   left-4 c = live-passes (exporter-judged (c .before) s) _ _ (left-3 (c .before .before .before)) (c .if4 .left)
 
-  left-5 : (c : tie.Else5) → Left 5 (c .before .before .before .before .before .before .before .before .before .before .before .before) s iid np
+  left-5 : (c : tie.Else5) → Left 5 (start (c .before)) s iid np
   left-5 c = row-passes _ _ _ (left-4 (c .before)) (ne-eqb _ 0 (c .if5 .left))
 
-  left-6 : (c : tie.Else6) → Left 6 (c .before .before .before .before .before .before .before .before .before .before .before .before .before .before) s iid np
-  left-6 c = row-passes _ _ _ (left-5 (c .before .before)) (objects-judged (c .before) s ∙ lt-leb _ _ (c .if6 .left))
+  left-6 : (c : tie.Else6) → Left 6 (start (c .before .before .before)) s iid np
+  left-6 c = row-passes _ _ _ (left-5 (c .before .before)) (full-objects (start (c .before .before .before)) s (c .before .object-count2 .ensures .0) ∙ lt-leb _ _ (c .if6 .left))
 
-  left-7 : (c : tie.Else7) → Left 7 (c .before .before .before .before .before .before .before .before .before .before .before .before .before .before .before .before) s iid np
-  left-7 c = row-passes _ _ _ (left-6 (c .before .before)) (interfaces-judged (c .before) s ∙ lt-leb _ _ (c .if7 .left))
+  left-7 : (c : tie.Else7) → Left 7 (start (c .before .before .before .before .before)) s iid np
+  left-7 c = row-passes _ _ _ (left-6 (c .before .before)) (full-interfaces (start (c .before .before .before .before .before)) s (c .before .interface-count .ensures .0) ∙ lt-leb _ _ (c .if7 .left))
 
 returns : tie.Need-returns
 returns c s iid np = row-gives _ _ _ (left-0 s iid np (c .before .before .before)) (eq-eqb _ 0 (c .if1 .taken))
@@ -102,10 +107,11 @@ returns-5 : tie.Need-returns-5
 returns-5 c s iid np = row-gives _ _ _ (left-4 s iid np (c .before)) (eq-eqb _ 0 (c .if5 .taken))
 
 returns-6 : tie.Need-returns-6
-returns-6 c s iid np = row-gives _ _ _ (left-5 s iid np (c .before .before)) (objects-judged (c .before) s ∙ le-leb _ _ (c .if6 .taken))
+returns-6 c s iid np = row-gives _ _ _ (left-5 s iid np (c .before .before)) (full-objects (start (c .before .before .before)) s (c .before .object-count2 .ensures .0) ∙ le-leb _ _ (c .if6 .taken))
 
 returns-7 : tie.Need-returns-7
-returns-7 c s iid np = row-gives _ _ _ (left-6 s iid np (c .before .before)) (interfaces-judged (c .before) s ∙ le-leb _ _ (c .if7 .taken))
+returns-7 c s iid np =
+    row-gives _ _ _ (left-6 s iid np (c .before .before)) (full-interfaces (start (c .before .before .before .before .before)) s (c .before .interface-count .ensures .0) ∙ le-leb _ _ (c .if7 .taken))
 
 returns-8 : tie.Need-returns-8
 returns-8 c s iid np = rows-end (left-7 s iid np c)

@@ -1,10 +1,13 @@
 -- `write_body`: a run of writes for each form.
-use Prim.Native.Nat.{_≤_}
-use mathlib.Core.Path.{sym}
+use Prim.Native.Nat.{ℕ, _≤_}
+use mathlib.Core.Path.{_≡_, sym}
+use mathlib.Core.List.{List}
 use native.Mathlib.Omega.{arith}
 use lib.ListN.{length}
+use Rattle.fields.specs.Fields.{written, encode, guidBytes}
 use Rattle.fields.proofs.Fields.{first-bytes, first-guid, then-field, then-guid, written-none}
 use Rattle.references.specs.References.{extendedSignature, fixedSize}
+use Rattle.references.specs.declared.Reference.{Reference}
 use Rattle.reference_writer.specs.Writing.{blockBytes, bodyBytes}
 use Rattle.references.proofs.Forms.{by-other}
 use Rattle.reference_writer.proofs.Writable.{length-block}
@@ -12,90 +15,65 @@ use borrow.Author.Needs.{needs}
 use Rattle.reference_writer.proofs.write_body.Statement.{statement}
 use Rattle.reference_writer.proofs.write_body.Tie as tie
 
-write-block-requires : tie.Need-write-block-requires
-unfolding fixedSize
-write-block-requires c κs = rw (c .before .if1 .taken) at (c .before .before .before .before .before .pre)
+module _ (r : Reference) (b : List ℕ) (room : fixedSize (r .flags) ≤ length b) where
+  standard-room : r .flags ≡ 1 → 64 ≤ length b
+  unfolding fixedSize
+  standard-room h = rw h at room
 
-write-block-requires-2 : tie.Need-write-block-requires-2
-unfolding fixedSize
-write-block-requires-2 c κs =
-    let room : 80 ≤ length (c .before .before .before .before .before .before .args .buf .now) = rw (c .before .if2 .taken) at (c .before .before .before .before .before .before .pre) in
-    omega arith
+  handler-room : r .flags ≡ 2 → 64 ≤ length b
+  unfolding fixedSize
+  handler-room h = let w : 80 ≤ length b = rw h at room in omega arith
 
-write-block-requires-3 : tie.Need-write-block-requires-3
-unfolding fixedSize
-write-block-requires-3 c κs =
-    let start = c .before .before .before .before .before .before .before .before in
-    let room : 68 ≤ length (start .args .buf .now) = rw (c .before .if4 .taken) at (start .pre) in
-    omega arith
+  extended-room : r .flags ≡ 8 → 64 ≤ length b
+  unfolding fixedSize
+  extended-room h = let w : 68 ≤ length b = rw h at room in omega arith
 
-returns : tie.Need-returns
+  module _ (b₁ : List ℕ) (block : b₁ ≡ written b 24 (blockBytes (r .block))) where
+    as-standard : r .flags ≡ 1 → b₁ ≡ written b 24 (bodyBytes r)
+    unfolding bodyBytes
+    as-standard h = rw h block
+
+    as-handler : r .flags ≡ 2 → (b₂ : List ℕ) → b₂ ≡ written b₁ 64 (guidBytes (r .clsid)) → b₂ ≡ written b 24 (bodyBytes r)
+    unfolding fixedSize bodyBytes
+    as-handler h b₂ clsid =
+        let w : 80 ≤ length b = rw h at room in
+        rw h (then-guid (r .clsid) (first-bytes (blockBytes (r .block)) 40 (length-block (r .block)) block) (omega arith) clsid .holds)
+
+    as-extended : r .flags ≡ 8 → (b₂ : List ℕ) → b₂ ≡ written b₁ 64 (encode 4 extendedSignature) → b₂ ≡ written b 24 (bodyBytes r)
+    unfolding fixedSize bodyBytes
+    as-extended h b₂ mark =
+        let w : 68 ≤ length b = rw h at room in
+        rw h (then-field 4 extendedSignature (first-bytes (blockBytes (r .block)) 40 (length-block (r .block)) block) (omega arith) mark .holds)
+
+  as-custom : r .flags ≡ 4 → (b₁ b₂ b₃ : List ℕ) → b₁ ≡ written b 24 (guidBytes (r .clsid)) → b₂ ≡ written b₁ 40 (encode 4 (r .extension))
+      → b₃ ≡ written b₂ 44 (encode 4 (r .size)) → b₃ ≡ written b 24 (bodyBytes r)
+  unfolding fixedSize bodyBytes
+  as-custom h b₁ b₂ b₃ clsid extension size =
+      let w : 48 ≤ length b = rw h at room in
+      rw h (then-field 4 (r .size) (then-field 4 (r .extension) (first-guid (r .clsid) clsid) (omega arith) extension) (omega arith) size .holds)
+
+no-form : (r : Reference) (b : List ℕ) → (r .flags ≡ 1 → ⊥) → (r .flags ≡ 2 → ⊥) → (r .flags ≡ 4 → ⊥) → (r .flags ≡ 8 → ⊥) → b ≡ written b 24 (bodyBytes r)
 unfolding bodyBytes
-returns c = rw (c .before .before .before .before .if1 .taken) (c .before .before .write-block .ensures)
-
-returns-2 : tie.Need-returns-2
-unfolding fixedSize bodyBytes
-returns-2 c =
-    let clsid = c .before .before in
-    let block = clsid .before .before .before .before in
-    let test = block .before .before in
-    let start = test .before .before .before .before .before in
-    let r = start .args .reference in
-    let room : 80 ≤ length (start .args .buf .now) = rw (test .if2 .taken) at (start .pre) in
-    let run = first-bytes (blockBytes (r .block)) 40 (length-block (r .block)) (block .write-block2 .ensures) in
-    let run2 = then-guid (r .clsid) run (omega arith) (clsid .write-guid .ensures) in
-    rw (test .if2 .taken) (run2 .holds)
-
-returns-3 : tie.Need-returns-3
-unfolding fixedSize bodyBytes
-returns-3 c =
-    let size = c .before .before in
-    let extension = size .before .before .before .before in
-    let clsid = extension .before .before .before .before in
-    let test = clsid .before .before in
-    let start = test .before .before .before .before .before .before in
-    let r = start .args .reference in
-    let room : 48 ≤ length (start .args .buf .now) = rw (test .if3 .taken) at (start .pre) in
-    let run = first-guid (r .clsid) (clsid .write-guid2 .ensures) in
-    let run2 = then-field 4 (r .extension) run (omega arith) (extension .write-u32 .ensures) in
-    let run3 = then-field 4 (r .size) run2 (omega arith) (size .write-u322 .ensures) in
-    rw (test .if3 .taken) (run3 .holds)
-
-returns-4 : tie.Need-returns-4
-unfolding fixedSize bodyBytes
-returns-4 c =
-    let test = c .before .before .before .before .before .before .before .before in
-    let start = test .before .before .before .before .before .before .before in
-    let r = start .args .reference in
-    let room : 68 ≤ length (start .args .buf .now) = rw (test .if4 .taken) at (start .pre) in
-    let run = first-bytes (blockBytes (r .block)) 40 (length-block (r .block)) (c .before .before .before .before .before .before .write-block3 .ensures) in
-    let run2 = then-field 4 extendedSignature run (omega arith) (c .before .before .write-u323 .ensures) in
-    rw (test .if4 .taken) (run2 .holds)
-
-returns-5 : tie.Need-returns-5
-unfolding bodyBytes
-returns-5 c =
-    let start = c .before .before .before .before .before .before .before in
-    sym (rw (by-other (start .args .reference .flags) _ _ _ _ _ (c .before .before .before .if1 .left) (c .before .before .if2 .left) (c .before .if3 .left) (c .if4 .left)) (written-none _ 24))
+no-form r b h i j k = sym (rw (by-other (r .flags) _ _ _ _ _ h i j k) (written-none _ 24))
 
 pub write-body-spec : {M : Type 1} → statement M
 write-body-spec =
     tie.close
     (tie.spec
-    write-block-requires
-    write-block-requires-2
+    (λ c κs. search standard-room)
+    (λ c κs. search handler-room)
     (λ c κs. search needs)
     (λ c κs. search needs)
     (λ c κs. search needs)
     (λ c κs. search needs)
-    write-block-requires-3
+    (λ c κs. search extended-room)
     (λ c κs. search needs)
     (λ c. search needs)
-    returns
+    (λ c. search as-standard)
     (λ c. search needs)
-    returns-2
+    (λ c. search as-handler)
     (λ c. search needs)
-    returns-3
+    (λ c. search as-custom)
     (λ c. search needs)
-    returns-4
-    returns-5)
+    (λ c. search as-extended)
+    (λ c. search no-form))
