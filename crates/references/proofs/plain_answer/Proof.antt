@@ -1,58 +1,34 @@
-use Prim.Native.Nat.{_≤_}
-use mathlib.Core.Path.{sym, ap, _∙_}
-use native.Mathlib.Omega.{arith}
+-- `plain_answer`: object data, or a list.
+use Prim.Native.Nat.{ℕ, _-_, _≤_}
+use mathlib.Core.Path.{_≡_, sym, _∙_}
+use mathlib.Core.List.{List}
 use borrow.Author.Tests.{ne-eqb}
-use lib.ListN.{length}
-use Rattle.fields.specs.Fields.{field}
+use lib.ListN.{length, take, drop}
+use Rattle.kinds.specs.declared.Guid.{Guid}
+use Rattle.fields.specs.Fields.{field, guidAt}
 use Rattle.fields.proofs.Fields.{take-rest}
-use Rattle.references.specs.References.{fixedSize, plainAnswer}
+use Rattle.bindings.specs.Bindings.{listAnswer}
+use Rattle.references.specs.References.{fixedSize, headAnswer, objectAnswer, plainAnswer}
 use Rattle.references.proofs.Forms.{headed, custom-room}
 use borrow.Author.Needs.{needs}
 use Rattle.references.proofs.plain_answer.Statement.{statement}
 use Rattle.references.proofs.plain_answer.Tie as tie
 
-sub-object-answer : tie.Need-sub-object-answer
-sub-object-answer c =
-    let f = sym (c .before .before .read-u32 .ensures) ∙ c .before .if1 .taken in
-    let h = headed _ (c .before .before .before .before .pre) .fixed in
-    let l : 48 ≤ length (c .before .before .before .before .args .s .now) = custom-room _ f h in
-    omega arith
+module _ (s : List ℕ) (f : ℕ) (flags : f ≡ field s 4 4) where
+  custom : f ≡ 4 → (g : Guid) → g ≡ guidAt s 24 → (r : ℕ) → r ≡ objectAnswer g (take (length s - 48) (drop 48 s)) → r ≡ plainAnswer s
+  unfolding plainAnswer
+  custom h g clsid r e = rw (sym flags ∙ h) (rw (clsid, take-rest s 48) at e)
 
-part-object-answer-start : tie.Need-part-object-answer-start
-part-object-answer-start c =
-    let f = sym (c .before .before .read-u32 .ensures) ∙ c .before .if1 .taken in
-    let h = headed _ (c .before .before .before .before .pre) .fixed in
-    let l : 48 ≤ length (c .before .before .before .before .args .s .now) = custom-room _ f h in
-    omega arith
+  listed : (f ≡ 4 → ⊥) → (n : ℕ) → n ≡ fixedSize f → (r : ℕ) → r ≡ listAnswer (take (length s - n) (drop n s)) → r ≡ plainAnswer s
+  unfolding plainAnswer
+  listed h n size r e = rw (ne-eqb (field s 4 4) 4 (λ z. h (flags ∙ z))) (rw (take-rest s n, size, flags) at e)
 
-returns : tie.Need-returns
-unfolding plainAnswer
-returns c =
-    let s = c .before .before .before .before .before .before .args .s .now in
-    let f = sym (c .before .before .before .before .read-u32 .ensures) ∙ c .before .before .before .if1 .taken in
-    let e = rw (c .before .before .read-guid .ensures, take-rest s 48) at (c .object-answer .ensures) in
-    rw f e
+  module _ (done : headAnswer s ≡ 0) where
+    object-within : f ≡ 4 → 48 ≤ length s
+    object-within h = custom-room _ (sym flags ∙ h) (headed s done .fixed)
 
-sub-list-answer : tie.Need-sub-list-answer
-sub-list-answer c =
-    let size = c .fixed-size .ensures ∙ ap fixedSize (c .before .before .read-u32 .ensures) in
-    let h = headed _ (c .before .before .before .before .pre) .fixed in
-    omega arith
-
-part-list-answer-start : tie.Need-part-list-answer-start
-part-list-answer-start c =
-    let size = c .fixed-size .ensures ∙ ap fixedSize (c .before .before .read-u32 .ensures) in
-    let h = headed _ (c .before .before .before .before .pre) .fixed in
-    omega arith
-
-returns-2 : tie.Need-returns-2
-unfolding plainAnswer
-returns-2 c =
-    let s = c .before .before .before .before .before .before .args .s .now in
-    let f = c .before .before .before .before .read-u32 .ensures in
-    let size = c .before .before .fixed-size .ensures ∙ ap fixedSize f in
-    let e = rw (take-rest s (c .before .before .fixed-size .result), size) at (c .list-answer .ensures) in
-    rw (ne-eqb (field s 4 4) 4 (λ z. c .before .before .before .if1 .left (f ∙ z))) e
+    list-within : (n : ℕ) → n ≡ fixedSize f → n ≤ length s
+    list-within n size = rw (size, flags) (headed s done .fixed)
 
 pub plain-answer-spec : {M : Type 1} → statement M
 plain-answer-spec =
@@ -60,14 +36,14 @@ plain-answer-spec =
     (tie.spec
     (λ c κs. search needs)
     (λ c κs. search needs)
-    sub-object-answer
-    part-object-answer-start
+    (λ c. search object-within)
+    (λ c. search object-within)
     (λ c. search needs)
     (λ c κs. search needs)
-    returns
+    (λ c. search custom)
     (λ c κs. search needs)
-    sub-list-answer
-    part-list-answer-start
+    (λ c. search list-within)
+    (λ c. search list-within)
     (λ c. search needs)
     (λ c κs. search needs)
-    returns-2)
+    (λ c. search listed))
