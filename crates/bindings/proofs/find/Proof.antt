@@ -16,9 +16,6 @@ Inv-loop s at n p k i₀ left₀ skip₀ i left skip =
 abbrev μ-loop : tie.MeasureT-loop
 μ-loop s at n p k i₀ left₀ skip₀ i left skip = left
 
-loop-holds : tie.Need-loop-holds Inv-loop μ-loop
-loop-holds c = (c .before .pre, refl)
-
 returns : tie.Need-returns Inv-loop μ-loop
 returns c =
     let a = c .before .before .before .before .before .before .args in
@@ -57,7 +54,7 @@ find-spec =
     (tie.spec
     Inv-loop
     μ-loop
-    loop-holds
+    (λ c. (c .before .pre, refl))
     (λ c κs. omega arith)
     (λ c κs. search needs)
     returns

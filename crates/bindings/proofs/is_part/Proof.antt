@@ -15,9 +15,6 @@ Inv-loop s at n p i₀ left₀ i left = (i + 2 * left ≤ length s) × (isPart p
 abbrev μ-loop : tie.MeasureT-loop
 μ-loop s at n p i₀ left₀ i left = left
 
-loop-holds : tie.Need-loop-holds Inv-loop μ-loop
-loop-holds c = (c .before .pre, refl)
-
 returns : tie.Need-returns Inv-loop μ-loop
 returns c =
     let a = c .before .before .before .before .before .args in
@@ -45,7 +42,7 @@ is-part-spec =
     (tie.spec
     Inv-loop
     μ-loop
-    loop-holds
+    (λ c. (c .before .pre, refl))
     (λ c κs. omega arith)
     returns
     (λ c κs. search needs)

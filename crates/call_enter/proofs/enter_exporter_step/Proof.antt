@@ -12,9 +12,6 @@ use borrow.Author.Needs.{needs}
 use Rattle.call_enter.proofs.enter_exporter_step.Statement.{statement}
 use Rattle.call_enter.proofs.enter_exporter_step.Tie as tie
 
-exporter-number-requires : tie.Need-exporter-number-requires
-exporter-number-requires c κs = c .before .before .before .before .before .pre
-
 returns : tie.Need-returns
 unfolding refusedReply results
 returns c = refused-step _ (c .before .exporter-number .ensures) (c .if1 .taken)
@@ -40,7 +37,7 @@ pub enter-exporter-step-spec : {M : Type 1} → statement M
 enter-exporter-step-spec =
     tie.close
     (tie.spec
-    exporter-number-requires
+    (λ c κs. c .before .before .before .before .before .pre)
     (λ c. search needs)
     (λ c. search needs)
     returns

@@ -10,9 +10,6 @@ use borrow.Author.Needs.{needs}
 use Rattle.call_enter.proofs.enter_interface_step.Statement.{statement}
 use Rattle.call_enter.proofs.enter_interface_step.Tie as tie
 
-interface-number-requires : tie.Need-interface-number-requires
-interface-number-requires c κs = c .before .before .before .pre .words
-
 returns : tie.Need-returns
 unfolding refusedReply results
 returns c =
@@ -38,7 +35,7 @@ pub enter-interface-step-spec : {M : Type 1} → statement M
 enter-interface-step-spec =
     tie.close
     (tie.spec
-    interface-number-requires
+    (λ c κs. c .before .before .before .pre .words)
     (λ c. search needs)
     returns
     put-interface-requires

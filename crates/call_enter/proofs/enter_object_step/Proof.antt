@@ -14,9 +14,6 @@ use borrow.Author.Needs.{needs}
 use Rattle.call_enter.proofs.enter_object_step.Statement.{statement}
 use Rattle.call_enter.proofs.enter_object_step.Tie as tie
 
-object-number-requires : tie.Need-object-number-requires
-object-number-requires c κs = c .before .before .before .pre .words
-
 returns : tie.Need-returns
 unfolding refusedReply results
 returns c =
@@ -66,7 +63,7 @@ pub enter-object-step-spec : {M : Type 1} → statement M
 enter-object-step-spec =
     tie.close
     (tie.spec
-    object-number-requires
+    (λ c κs. c .before .before .before .pre .words)
     (λ c. search needs)
     returns
     put-object-requires

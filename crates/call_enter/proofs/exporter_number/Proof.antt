@@ -55,15 +55,6 @@ left-1 c = row-passes _ _ _ (left-0 (c .before .before .before .before .before))
 left-2 : (c : tie.Else2) → Left (c .before .before .before .before .before .before .before .before) (badIpid (c .before .before .before .before .before .before .before .before))
 left-2 c = row-passes _ _ _ (left-1 (c .before .before .before)) (live-judged (c .before) ∙ le-ltb _ _ (c .if2 .left))
 
-returns : tie.Need-returns
-returns c = row-gives _ _ _ (left-0 (c .before .before .before .before .before)) (eq-eqb _ 0 (c .if1 .taken))
-
-returns-2 : tie.Need-returns-2
-returns-2 c = row-gives _ _ _ (left-1 (c .before .before .before)) (live-judged (c .before) ∙ lt-ltb _ _ (c .if2 .taken))
-
-returns-3 : tie.Need-returns-3
-returns-3 c = row-gives _ _ _ (left-2 (c .before .before)) (sym (c .before .ipid-taken .ensures _) ∙ c .if3 .taken)
-
 returns-4 : tie.Need-returns-4
 returns-4 c =
     c .list-number .ensures ∙ sym (row-passes _ _ _ (left-2 (c .before .before .before)) (sym (c .before .before .ipid-taken .ensures _) ∙ c .before .if3 .left))
@@ -72,11 +63,11 @@ pub exporter-number-spec : {M : Type 1} → statement M
 exporter-number-spec =
     tie.close
     (tie.spec
-    returns
+    (λ c. row-gives _ _ _ (left-0 (c .before .before .before .before .before)) (eq-eqb _ 0 (c .if1 .taken)))
     (λ c κs. search needs)
     (λ c κs. search needs)
-    returns-2
+    (λ c. row-gives _ _ _ (left-1 (c .before .before .before)) (live-judged (c .before) ∙ lt-ltb _ _ (c .if2 .taken)))
     (λ c κs. search needs)
-    returns-3
+    (λ c. row-gives _ _ _ (left-2 (c .before .before)) (sym (c .before .ipid-taken .ensures _) ∙ c .if3 .taken))
     list-number-requires
     returns-4)

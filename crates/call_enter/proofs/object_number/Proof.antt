@@ -91,20 +91,8 @@ module _ (s : List ℕ) (iid : Guid) (np : Bool) where
   left-7 : (c : tie.Else7) → Left 7 (start (c .before .before .before .before .before)) s iid np
   left-7 c = row-passes _ _ _ (left-6 (c .before .before)) (full-interfaces (start (c .before .before .before .before .before)) s (c .before .interface-count .ensures .0) ∙ lt-leb _ _ (c .if7 .left))
 
-returns : tie.Need-returns
-returns c s iid np = row-gives _ _ _ (left-0 s iid np (c .before .before .before)) (eq-eqb _ 0 (c .if1 .taken))
-
 returns-2 : tie.Need-returns-2
 returns-2 c s iid np = row-gives _ _ _ (left-1 s iid np (c .before .before .before)) (live-judged (c .before) s ∙ lt-ltb _ _ (c .if2 .taken))
-
-returns-3 : tie.Need-returns-3
-returns-3 c s iid np = row-gives _ _ _ (left-2 s iid np (c .before .before)) (sym (c .before .ipid-taken .ensures s) ∙ c .if3 .taken)
-
-returns-4 : tie.Need-returns-4
-returns-4 c s iid np = gone-gives (exporter-judged (c .before) s) _ _ (left-3 s iid np (c .before .before .before)) (c .if4 .taken)
-
-returns-5 : tie.Need-returns-5
-returns-5 c s iid np = row-gives _ _ _ (left-4 s iid np (c .before)) (eq-eqb _ 0 (c .if5 .taken))
 
 returns-6 : tie.Need-returns-6
 returns-6 c s iid np = row-gives _ _ _ (left-5 s iid np (c .before .before)) (full-objects (start (c .before .before .before)) s (c .before .object-count2 .ensures .0) ∙ le-leb _ _ (c .if6 .taken))
@@ -113,25 +101,22 @@ returns-7 : tie.Need-returns-7
 returns-7 c s iid np =
     row-gives _ _ _ (left-6 s iid np (c .before .before)) (full-interfaces (start (c .before .before .before .before .before)) s (c .before .interface-count .ensures .0) ∙ le-leb _ _ (c .if7 .taken))
 
-returns-8 : tie.Need-returns-8
-returns-8 c s iid np = rows-end (left-7 s iid np c)
-
 pub object-number-spec : {M : Type 1} → statement M
 object-number-spec =
     tie.close
     (tie.spec
-    returns
+    (λ c s iid np. row-gives _ _ _ (left-0 s iid np (c .before .before .before)) (eq-eqb _ 0 (c .if1 .taken)))
     (λ c κs. search needs)
     (λ c κs. search needs)
     returns-2
     (λ c κs. search needs)
-    returns-3
+    (λ c s iid np. row-gives _ _ _ (left-2 s iid np (c .before .before)) (sym (c .before .ipid-taken .ensures s) ∙ c .if3 .taken))
     (λ c κs. search needs)
     (λ c κs. search needs)
-    returns-4
-    returns-5
+    (λ c s iid np. gone-gives (exporter-judged (c .before) s) _ _ (left-3 s iid np (c .before .before .before)) (c .if4 .taken))
+    (λ c s iid np. row-gives _ _ _ (left-4 s iid np (c .before)) (eq-eqb _ 0 (c .if5 .taken)))
     (λ c κs. search needs)
     returns-6
     (λ c κs. search needs)
     returns-7
-    returns-8)
+    (λ c s iid np. rows-end (left-7 s iid np c)))

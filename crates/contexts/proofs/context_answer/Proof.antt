@@ -13,12 +13,6 @@ returns : tie.Need-returns
 unfolding contextAnswer order
 returns c = let head = c .before .head-answer .ensures in simp (ne-differ _ _ (λ z. c .if1 .taken (head ∙ z))) head
 
-sub-properties-answer : tie.Need-sub-properties-answer
-sub-properties-answer c = let h = headed _ (sym (c .before .head-answer .ensures) ∙ c .if1 .left) .fixed in omega arith
-
-part-properties-answer-start : tie.Need-part-properties-answer-start
-part-properties-answer-start c = let h = headed _ (sym (c .before .head-answer .ensures) ∙ c .if1 .left) .fixed in omega arith
-
 returns-2 : tie.Need-returns-2
 unfolding contextAnswer order
 returns-2 c =
@@ -34,8 +28,8 @@ context-answer-spec =
     (tie.spec
     (λ c κs. search needs)
     returns
-    sub-properties-answer
-    part-properties-answer-start
+    (λ c. let h = headed _ (sym (c .before .head-answer .ensures) ∙ c .if1 .left) .fixed in omega arith)
+    (λ c. let h = headed _ (sym (c .before .head-answer .ensures) ∙ c .if1 .left) .fixed in omega arith)
     (λ c. search needs)
     (λ c κs. search needs)
     (λ c κs. search needs)

@@ -17,27 +17,15 @@ Inv-loop s n k left₀ skip₀ at₀ left skip at =
 abbrev μ-loop : tie.MeasureT-loop
 μ-loop s n k left₀ skip₀ at₀ left skip at = left
 
-loop-holds : tie.Need-loop-holds Inv-loop μ-loop
-loop-holds c = (c .before .pre .0, c .before .pre .1, refl)
-
 -- the property that is read, and the others
 next : (c : tie.After-read-u32 Inv-loop μ-loop) → let l = c .before .before .before in
     Next (l .loop .left) (l .before .before .args .s .now) (l .loop .at) (c .read-u32 .result)
 next c = let l = c .before .before .before .loop in next-property _ _ _ _ (omega arith) (l .inv .0) (l .inv .1) (c .read-u32 .ensures)
 
-add-t15 : tie.Need-add-t15 Inv-loop μ-loop
-add-t15 c = let x = next (c .before) in omega arith
-
-add-t16 : tie.Need-add-t16 Inv-loop μ-loop
-add-t16 c = let x = next (c .before) in omega arith
-
 returns : tie.Need-returns Inv-loop μ-loop
 returns c =
     let l = c .before .before .before .before .loop in
     rw (next (c .before) .same) (sym (place-here (l .left) _ (l .skip) (l .at) (omega arith) (c .if1 .taken)) ∙ l .inv .2)
-
-add-at : tie.Need-add-at Inv-loop μ-loop
-add-at c = let x = next (c .before) in omega arith
 
 loop-again : tie.Need-loop-again Inv-loop μ-loop
 loop-again c =
@@ -58,17 +46,17 @@ find-spec =
     (tie.spec
     Inv-loop
     μ-loop
-    loop-holds
+    (λ c. (c .before .pre .0, c .before .pre .1, refl))
     (λ c. omega arith)
     (λ c. omega arith)
     (λ c. omega arith)
     (λ c κs. search needs)
     (λ c. omega arith)
     (λ c. omega arith)
-    add-t15
-    add-t16
+    (λ c. let x = next (c .before) in omega arith)
+    (λ c. let x = next (c .before) in omega arith)
     returns
-    add-at
+    (λ c. let x = next (c .before) in omega arith)
     (λ c. omega arith)
     (λ c. omega arith)
     (λ c. omega arith)

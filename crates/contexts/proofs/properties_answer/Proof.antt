@@ -16,9 +16,6 @@ Inv-loop t n left₀ at₀ left at = (at ≤ length t) × (propertiesAnswer left
 abbrev μ-loop : tie.MeasureT-loop
 μ-loop t n left₀ at₀ left at = left
 
-loop-holds : tie.Need-loop-holds Inv-loop μ-loop
-loop-holds c = (omega arith, refl)
-
 returns : tie.Need-returns Inv-loop μ-loop
 returns c =
     let a = c .before .before .before .before .before .before .args in
@@ -58,7 +55,7 @@ properties-answer-spec =
     (tie.spec
     Inv-loop
     μ-loop
-    loop-holds
+    (λ c. (omega arith, refl))
     (λ c. omega arith)
     (λ c. omega arith)
     (λ c. omega arith)

@@ -30,14 +30,8 @@ loop-holds c =
 one : (c : tie.In-loop Inv-loop μ-loop) → let ws = c .before .before .before .args .entries .now in let i = c .before .loop .i in Entry (getD ws (i + 2) 0) (getD ws (i + 3) 0)
 one c = entry _ _ (words-first _ _ _ (omega arith) (c .before .loop .inv .1) .0)
 
-cast-rounded : tie.Need-cast-rounded Inv-loop μ-loop
-cast-rounded c = let h = one (c .before) in omega (arith, h .fit)
-
 whole : (c : tie.After-rounded Inv-loop μ-loop) → c .rounded .result ≡ rounded (getD (c .before .before .before .before .before .args .entries .now) (c .before .before .before .loop .i + 3) 0)
 whole c = c .rounded .ensures
-
-add-total : tie.Need-add-total Inv-loop μ-loop
-add-total c = let h = one (c .before .before) in omega (arith, h .fit, whole c)
 
 add-total-2 : tie.Need-add-total-2 Inv-loop μ-loop
 add-total-2 c =
@@ -69,9 +63,9 @@ extents-length-spec =
     (λ c. omega arith)
     (λ c. omega arith)
     (λ c. omega arith)
-    cast-rounded
+    (λ c. let h = one (c .before) in omega (arith, h .fit))
     (λ c κs. search needs)
-    add-total
+    (λ c. let h = one (c .before .before) in omega (arith, h .fit, whole c))
     add-total-2
     (λ c. omega arith)
     (λ c. omega arith)

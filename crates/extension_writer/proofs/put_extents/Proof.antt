@@ -51,12 +51,6 @@ next c =
       room = omega arith;
     }
 
-add-put-extent-2 : tie.Need-add-put-extent-2 Inv-loop μ-loop
-add-put-extent-2 c = let h = next (c .before .before .before .before) in omega (arith, h .sizes)
-
-part-put-extent-end : tie.Need-part-put-extent-end Inv-loop μ-loop
-part-put-extent-end c = let h = next (c .before .before .before .before) in omega (arith, h .sizes)
-
 put-extent-requires : tie.Need-put-extent-requires Inv-loop μ-loop
 put-extent-requires c κs =
     let h = next (c .before .before .before .before .before) in
@@ -66,9 +60,6 @@ put-extent-requires c κs =
     let fit = h .fit in
     let room = h .room in
     (rw k fit, rw k (omega arith))
-
-cast-rounded : tie.Need-cast-rounded Inv-loop μ-loop
-cast-rounded c = let h = next (c .before .before .before .before .before .before .before .before) in omega (arith, h .fit)
 
 whole : (c : tie.After-rounded Inv-loop μ-loop) → let l = c .before .before .before .before .before .before .before .before .before .before in
     c .rounded .result ≡ rounded (getD (l .before .before .before .before .args .entries .now) (l .loop .i + 3) 0)
@@ -103,9 +94,6 @@ loop-again c =
       rw (e, w) (extents-next (l .buf) ws (a .contents .now) (l .to) (l .from) (l .i) (l .left) (omega arith) (l .inv .3) (l .inv .4)) ∙ l .inv .5,
     )
 
-same-length : tie.Need-same-length Inv-loop μ-loop
-same-length c = c .before .loop .inv .2
-
 returns : tie.Need-returns Inv-loop μ-loop
 unfolding extentsBytes
 returns c =
@@ -129,12 +117,12 @@ put-extents-spec =
     (λ c. omega arith)
     (λ c. omega arith)
     (λ c. omega arith)
-    add-put-extent-2
+    (λ c. let h = next (c .before .before .before .before) in omega (arith, h .sizes))
     (λ c. omega arith)
     (λ c. omega arith)
-    part-put-extent-end
+    (λ c. let h = next (c .before .before .before .before) in omega (arith, h .sizes))
     put-extent-requires
-    cast-rounded
+    (λ c. let h = next (c .before .before .before .before .before .before .before .before) in omega (arith, h .fit))
     (λ c κs. search needs)
     add-to
     add-to-2
@@ -143,5 +131,5 @@ put-extents-spec =
     (λ c. omega arith)
     (λ c. omega arith)
     loop-again
-    same-length
+    (λ c. c .before .loop .inv .2)
     returns)

@@ -33,9 +33,6 @@ loop-holds c =
 one : (c : tie.In-loop Inv-loop μ-loop) → let ws = c .before .before .before .before .args .entries .now in let i = c .before .loop .i in Entry (getD ws (i + 2) 0) (getD ws (i + 3) 0)
 one c = entry _ _ (words-first _ _ _ (omega arith) (c .before .loop .inv .1) .0)
 
-cast-write-u32 : tie.Need-cast-write-u32 Inv-loop μ-loop
-cast-write-u32 c = let h = one (c .before .before) in omega (arith, h .narrow)
-
 loop-again : tie.Need-loop-again Inv-loop μ-loop
 unfolding pointersBytes
 loop-again c =
@@ -50,9 +47,6 @@ loop-again c =
       omega arith,
       rw e (pointers-step (l .buf) ws [] (l .to) (l .i) (l .left) (omega arith) (l .inv .3)) ∙ l .inv .4,
     )
-
-same-length : tie.Need-same-length Inv-loop μ-loop
-same-length c = c .before .loop .inv .2
 
 returns : tie.Need-returns Inv-loop μ-loop
 unfolding pointersBytes
@@ -71,12 +65,12 @@ put-pointers-spec =
     (λ c. omega arith)
     (λ c. omega arith)
     (λ c. omega arith)
-    cast-write-u32
+    (λ c. let h = one (c .before .before) in omega (arith, h .narrow))
     (λ c κs. search needs)
     (λ c. omega arith)
     (λ c. omega arith)
     (λ c. omega arith)
     (λ c. omega arith)
     loop-again
-    same-length
+    (λ c. c .before .loop .inv .2)
     returns)

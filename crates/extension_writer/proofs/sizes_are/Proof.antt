@@ -16,9 +16,6 @@ Inv-loop entries len i₀ left₀ rest₀ i left rest = (i + 4 * left ≤ length
 abbrev μ-loop : tie.MeasureT-loop
 μ-loop entries len i₀ left₀ rest₀ i left rest = left
 
-loop-holds : tie.Need-loop-holds Inv-loop μ-loop
-loop-holds c = (omega arith, omega arith)
-
 returns : tie.Need-returns Inv-loop μ-loop
 returns c =
     let l = c .before .before .before .loop in
@@ -49,7 +46,7 @@ sizes-are-spec =
     (tie.spec
     Inv-loop
     μ-loop
-    loop-holds
+    (λ c. (omega arith, omega arith))
     (λ c. omega arith)
     (λ c. omega arith)
     (λ c. omega arith)

@@ -16,9 +16,6 @@ Inv-loop entries i₀ left₀ i left = (i + 4 * left ≤ length entries) × (wor
 abbrev μ-loop : tie.MeasureT-loop
 μ-loop entries i₀ left₀ i left = left
 
-loop-holds : tie.Need-loop-holds Inv-loop μ-loop
-loop-holds c = (omega arith, refl)
-
 returns : tie.Need-returns Inv-loop μ-loop
 returns c =
     let l = c .before .before .before .before .before .loop in
@@ -47,7 +44,7 @@ words-writable-spec =
     (tie.spec
     Inv-loop
     μ-loop
-    loop-holds
+    (λ c. (omega arith, refl))
     (λ c. omega arith)
     (λ c. omega arith)
     (λ c. omega arith)

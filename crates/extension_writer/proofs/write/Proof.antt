@@ -23,9 +23,6 @@ able c = sym (c .before .takes .ensures) ∙ not-false _ (c .if1 .left)
 fine : (c : tie.Else1) → Good (c .before .before .before .before .before .args .entries .now) (c .before .before .before .before .before .args .contents .now)
 fine c = good _ _ _ _ (able c)
 
-array-length-requires : tie.Need-array-length-requires
-array-length-requires c κs = let g = fine c in (g .few, g .words)
-
 returns-2 : tie.Need-returns-2
 returns-2 c =
     let a = c .before .before .before .before .before .before .before .before .args in
@@ -65,7 +62,7 @@ write-spec =
     (tie.spec
     (λ c κs. search needs)
     returns
-    array-length-requires
+    (λ c κs. let g = fine c in (g .few, g .words))
     (λ c κs. search needs)
     returns-2
     put-array-requires

@@ -13,36 +13,12 @@ add-from c =
     let b = p .call .inside in
     omega arith
 
-sub-first : tie.Need-sub-first
-sub-first c = let a = parts (c .before .before .pre) .first .after in omega arith
-
-sub-first-2 : tie.Need-sub-first-2
-sub-first-2 c = let a = parts (c .before .before .pre) .first .after in omega arith
-
-sub-second : tie.Need-sub-second
-sub-second c = let a = parts (c .before .before .before .pre) .second .after in omega arith
-
-sub-second-2 : tie.Need-sub-second-2
-sub-second-2 c = let a = parts (c .before .before .before .pre) .second .after in omega arith
-
-sub-answer : tie.Need-sub-answer
-sub-answer c = let a = parts (c .before .before .before .before .pre) .answer .after in omega arith
-
-sub-answer-2 : tie.Need-sub-answer-2
-sub-answer-2 c = let a = parts (c .before .before .before .before .pre) .answer .after in omega arith
-
-sub-form-fits : tie.Need-sub-form-fits
-sub-form-fits c = let a = parts (c .before .before .before .before .pre) .call .after in omega arith
-
 part-form-fits-start : tie.Need-part-form-fits-start
 part-form-fits-start c =
     let p = parts (c .before .before .before .before .pre) in
     let a = p .call .after in
     let b = p .call .inside in
     omega arith
-
-part-form-fits-end : tie.Need-part-form-fits-end
-part-form-fits-end c = let b = parts (c .before .before .before .before .pre) .call .inside in omega arith
 
 returns : tie.Need-returns
 returns c =
@@ -54,14 +30,14 @@ record-fits-spec =
     tie.close
     (tie.spec
     add-from
-    sub-first
-    sub-first-2
-    sub-second
-    sub-second-2
-    sub-answer
-    sub-answer-2
-    sub-form-fits
+    (λ c. let a = parts (c .before .before .pre) .first .after in omega arith)
+    (λ c. let a = parts (c .before .before .pre) .first .after in omega arith)
+    (λ c. let a = parts (c .before .before .before .pre) .second .after in omega arith)
+    (λ c. let a = parts (c .before .before .before .pre) .second .after in omega arith)
+    (λ c. let a = parts (c .before .before .before .before .pre) .answer .after in omega arith)
+    (λ c. let a = parts (c .before .before .before .before .pre) .answer .after in omega arith)
+    (λ c. let a = parts (c .before .before .before .before .pre) .call .after in omega arith)
     part-form-fits-start
-    part-form-fits-end
+    (λ c. let b = parts (c .before .before .before .before .pre) .call .inside in omega arith)
     (λ c κs. search needs)
     returns)

@@ -14,9 +14,6 @@ Inv-loop s n at₀ fits₀ left₀ at fits left = Rest s n at fits left
 abbrev μ-loop : tie.MeasureT-loop
 μ-loop s n at₀ fits₀ left₀ at fits left = left
 
-loop-holds : tie.Need-loop-holds Inv-loop μ-loop
-loop-holds c = rest-start _ _ (c .before .pre)
-
 -- the end of the record
 end-of : (c : tie.After-record-ends Inv-loop μ-loop) → c .record-ends .result .shown ≡ endsFrom 5 (c .before .before .before .before .args .s .now) (c .before .before .loop .at)
 end-of c = ap (λ (e : Ends). e .shown) (c .record-ends .ensures)
@@ -31,20 +28,11 @@ record-fits-requires c κs =
     let l = c .before .before .before .before in
     record-at _ _ _ _ _ (l .loop .inv) _ (c .before .before .record-ends .ensures) (c .if1 .left)
 
-sub-left : tie.Need-sub-left Inv-loop μ-loop
-sub-left c = let t = c .before .before .before .before .before .loop-test .taken in omega arith
-
-loop-less : tie.Need-loop-less Inv-loop μ-loop
-loop-less c = let t = c .before .before .before .before .before .loop-test .taken in omega arith
-
 loop-again : tie.Need-loop-again Inv-loop μ-loop
 loop-again c =
     let e = c .before .before .before .before in
     let l = e .before .before in
     rest-step _ _ _ _ _ (l .loop .inv) (e .before .loop-test .taken) _ (end-of e) (c .before .before .if1 .left) _ _ (c .before .record-fits .ensures) (c .both .ensures)
-
-returns-2 : tie.Need-returns-2 Inv-loop μ-loop
-returns-2 c = rest-end _ _ _ _ _ (c .before .loop .inv) (c .loop-test .left)
 
 pub walk-spec : {M : Type 1} → statement M
 walk-spec =
@@ -52,12 +40,12 @@ walk-spec =
     (tie.spec
     Inv-loop
     μ-loop
-    loop-holds
+    (λ c. rest-start _ _ (c .before .pre))
     (λ c κs. search needs)
     returns
     record-fits-requires
     (λ c κs. search needs)
-    sub-left
-    loop-less
+    (λ c. let t = c .before .before .before .before .before .loop-test .taken in omega arith)
+    (λ c. let t = c .before .before .before .before .before .loop-test .taken in omega arith)
     loop-again
-    returns-2)
+    (λ c. rest-end _ _ _ _ _ (c .before .loop .inv) (c .loop-test .left)))

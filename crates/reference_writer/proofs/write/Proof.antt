@@ -37,9 +37,6 @@ ok c = valued _ _ _ (done c)
 add-at : tie.Need-add-at
 add-at c = omega (arith, size-most (c .before .before .before .before .before .before .args .reference .flags), c .fixed-size .ensures)
 
-elements-length-requires : tie.Need-elements-length-requires
-elements-length-requires c κs = ok (c .before) .given
-
 add-length : tie.Need-add-length
 add-length c = omega (arith, size-most (c .before .before .before .before .before .before .before .args .reference .flags), c .before .fixed-size .ensures, c .elements-length .ensures .1)
 
@@ -53,9 +50,6 @@ returns-2 c =
 
 room : (c : tie.Else2) → let a = c .before .before .before .before .before .before .before .before .args in writtenLength (a .reference) (a .tail .now) (a .x .now) ≤ length (a .buf .now)
 room c = omega (arith, c .if2 .left, c .before .elements-length .ensures .0, c .before .before .fixed-size .ensures)
-
-write-header-requires : tie.Need-write-header-requires
-write-header-requires c κs = let h = ok (c .before .before .before .before) in omega (arith, h .least, room (c .before))
 
 part-write-elements-end : tie.Need-part-write-elements-end
 part-write-elements-end c = search needs
@@ -109,10 +103,10 @@ write-spec =
     returns
     (λ c κs. search needs)
     add-at
-    elements-length-requires
+    (λ c κs. ok (c .before) .given)
     add-length
     returns-2
-    write-header-requires
+    (λ c κs. let h = ok (c .before .before .before .before) in omega (arith, h .least, room (c .before)))
     (λ c κs. search needs)
     (λ c κs. search needs)
     (λ c. search needs)

@@ -62,9 +62,6 @@ module _ (s : List ℕ) (x : ℕ) (first : x ≡ field s 64 4) where
             unfolding order
             done h = rw (listed, le-ltb _ _ a, eq-eqb _ _ (sym count ∙ one), le-ltb _ _ b, eq-differ _ _ (sym mark ∙ h))
 
-add-if3 : tie.Need-add-if3
-add-if3 c = omega (arith, c .list-end .ensures .1)
-
 pub extended-front-spec : {M : Type 1} → statement M
 extended-front-spec =
     tie.close
@@ -77,7 +74,7 @@ extended-front-spec =
     (λ c κs. search needs)
     (λ c. search list-refused)
     (λ c κs. search needs)
-    add-if3
+    (λ c. omega (arith, c .list-end .ensures .1))
     (λ c. search count-short)
     (λ c κs. search needs)
     (λ c. search count-other)

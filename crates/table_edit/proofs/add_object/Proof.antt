@@ -5,9 +5,6 @@ use borrow.Author.Needs.{needs}
 use Rattle.table_edit.proofs.add_object.Statement.{statement}
 use Rattle.table_edit.proofs.add_object.Tie as tie
 
-push-row-requires : tie.Need-push-row-requires
-push-row-requires c κs = rw (c .before .object-kind .ensures) (search needs)
-
 returns : tie.Need-returns
 returns c =
     let b = c .before .before .before in
@@ -23,6 +20,6 @@ add-object-spec =
     (λ c κs. search needs)
     (λ c κs. search needs)
     (λ c. search needs)
-    push-row-requires
+    (λ c κs. rw (c .before .object-kind .ensures) (search needs))
     (λ c. search needs)
     returns)

@@ -5,9 +5,6 @@ use borrow.Author.Needs.{needs}
 use Rattle.table_edit.proofs.add_set.Statement.{statement}
 use Rattle.table_edit.proofs.add_set.Tie as tie
 
-push-row-requires : tie.Need-push-row-requires
-push-row-requires c κs = rw (c .before .set-kind .ensures) (search needs)
-
 returns : tie.Need-returns
 returns c =
     let b = c .before .before .before in
@@ -21,6 +18,6 @@ add-set-spec =
     (λ c κs. search needs)
     (λ c κs. search needs)
     (λ c. search needs)
-    push-row-requires
+    (λ c κs. rw (c .before .set-kind .ensures) (search needs))
     (λ c. search needs)
     returns)

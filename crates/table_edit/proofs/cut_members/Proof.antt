@@ -14,9 +14,6 @@ Inv-loop words₀ i n r₀ words r = (r ≤ n) × CutTo i words₀ words r
 abbrev μ-loop : tie.MeasureT-loop
 μ-loop words₀ i n r₀ words r = n - r
 
-loop-holds : tie.Need-loop-holds Inv-loop μ-loop
-loop-holds c = (omega arith, cut-none _ _)
-
 members-requires : tie.Need-members-requires Inv-loop μ-loop
 members-requires c κs =
     let l = c .before .before .loop in
@@ -25,21 +22,12 @@ members-requires c κs =
     let e = c .before .before .before .set-count .ensures .0 in
     (omega arith, omega arith)
 
-slice-write-words : tie.Need-slice-write-words Inv-loop μ-loop
-slice-write-words c = let s = c .before .before .before .before .loop .inv .1 .size in omega arith
-
-slice-write-words-2 : tie.Need-slice-write-words-2 Inv-loop μ-loop
-slice-write-words-2 c = let s = c .before .before .before .before .loop .inv .1 .size in rw length-set (omega arith)
-
 loop-again : tie.Need-loop-again Inv-loop μ-loop
 loop-again c =
     let l = c .before .before .before .before .loop in
     let s = l .inv .1 .size in
     let start = c .before .before .before .before .before .before .before .before in
     (omega arith, cut-one (l .words) (l .r) (c .cut .result) (omega arith) (omega arith) (start .args .i) _ (l .inv .1) (rw (c .before .members .ensures) at (c .cut .ensures)))
-
-same-length : tie.Need-same-length Inv-loop μ-loop
-same-length c = c .before .loop .inv .1 .size
 
 returns : tie.Need-returns Inv-loop μ-loop
 returns c =
@@ -53,17 +41,17 @@ cut-members-spec =
     Inv-loop
     μ-loop
     (λ c κs. search needs)
-    loop-holds
+    (λ c. (omega arith, cut-none _ _))
     members-requires
     (λ c κs. search needs)
     (λ c. omega arith)
     (λ c. omega arith)
-    slice-write-words
+    (λ c. let s = c .before .before .before .before .loop .inv .1 .size in omega arith)
     (λ c. omega arith)
     (λ c. omega arith)
-    slice-write-words-2
+    (λ c. let s = c .before .before .before .before .loop .inv .1 .size in rw length-set (omega arith))
     (λ c. omega arith)
     (λ c. omega arith)
     loop-again
-    same-length
+    (λ c. c .before .loop .inv .1 .size)
     returns)

@@ -16,18 +16,6 @@ fits c =
     let start = c .before .before .before .before .before in
     rw (c .exporter-count .ensures .0) (let h = start .pre .4 in let w = start .pre .1 in omega arith)
 
-list-start-requires : tie.Need-list-start-requires
-list-start-requires c κs = let h = fits (c .before) in (search needs, omega arith)
-
-sub-copy : tie.Need-sub-copy
-sub-copy c = let h = fits (c .before .before) in let e = c .list-start .ensures in omega arith
-
-part-copy-start : tie.Need-part-copy-start
-part-copy-start c = let h = fits (c .before .before) in let e = c .list-start .ensures in omega arith
-
-push-row-requires : tie.Need-push-row-requires
-push-row-requires c κs = rw (c .before .exporter-kind .ensures) (search needs)
-
 returns : tie.Need-returns
 returns c =
     let p = c .before .before in
@@ -47,14 +35,14 @@ put-exporter-spec =
     tie.close
     (tie.spec
     (λ c κs. search needs)
-    list-start-requires
-    sub-copy
-    part-copy-start
+    (λ c κs. let h = fits (c .before) in (search needs, omega arith))
+    (λ c. let h = fits (c .before .before) in let e = c .list-start .ensures in omega arith)
+    (λ c. let h = fits (c .before .before) in let e = c .list-start .ensures in omega arith)
     (λ c. search needs)
     (λ c κs. search needs)
     (λ c κs. search needs)
     (λ c. search needs)
-    push-row-requires
+    (λ c κs. rw (c .before .exporter-kind .ensures) (search needs))
     (λ c. search needs)
     (λ c. search needs)
     returns)

@@ -39,9 +39,6 @@ list-start-requires-2 c κs =
     let r = starts-rise (a .store .now) (a .i + 1) (k .exporter-count .result) (omega arith) in
     (search needs, omega arith)
 
-list-start-requires-3 : tie.Need-list-start-requires-3
-list-start-requires-3 c κs = let h = room (c .before .before .before .before .before) in (search needs, h)
-
 sub-left : tie.Need-sub-left
 sub-left c =
     let k = c .before .before .before .before .before .before in
@@ -51,9 +48,6 @@ sub-left c =
     let e = c .list-start3 .ensures in
     let f = c .before .before .list-start2 .ensures in
     omega arith
-
-pull-row-requires : tie.Need-pull-row-requires
-pull-row-requires c κs = rw (c .exporter-kind .ensures) (search needs)
 
 returns : tie.Need-returns
 returns c =
@@ -80,11 +74,11 @@ remove-exporter-spec =
     list-start-requires
     (λ c. search needs)
     list-start-requires-2
-    list-start-requires-3
+    (λ c κs. let h = room (c .before .before .before .before .before) in (search needs, h))
     sub-left
     (λ c κs. search needs)
     (λ c κs. search needs)
-    pull-row-requires
+    (λ c κs. rw (c .exporter-kind .ensures) (search needs))
     (λ c. search needs)
     (λ c. search needs)
     returns)

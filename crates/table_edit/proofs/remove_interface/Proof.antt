@@ -4,9 +4,6 @@ use borrow.Author.Needs.{needs}
 use Rattle.table_edit.proofs.remove_interface.Statement.{statement}
 use Rattle.table_edit.proofs.remove_interface.Tie as tie
 
-pull-row-requires : tie.Need-pull-row-requires
-pull-row-requires c κs = rw (c .interface-kind .ensures) (search needs)
-
 returns : tie.Need-returns
 returns c =
     let b = c .before .before .before in
@@ -18,6 +15,6 @@ remove-interface-spec =
     (tie.spec
     (λ c κs. search needs)
     (λ c κs. search needs)
-    pull-row-requires
+    (λ c κs. rw (c .interface-kind .ensures) (search needs))
     (λ c. search needs)
     returns)

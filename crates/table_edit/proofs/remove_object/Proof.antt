@@ -8,9 +8,6 @@ use borrow.Author.Needs.{needs}
 use Rattle.table_edit.proofs.remove_object.Statement.{statement}
 use Rattle.table_edit.proofs.remove_object.Tie as tie
 
-pull-row-requires : tie.Need-pull-row-requires
-pull-row-requires c κs = rw (c .object-kind .ensures) (search needs)
-
 returns : tie.Need-returns
 returns c =
     let b = c .before .before .before .before .before .before .before in
@@ -30,7 +27,7 @@ remove-object-spec =
     (tie.spec
     (λ c κs. search needs)
     (λ c κs. search needs)
-    pull-row-requires
+    (λ c κs. rw (c .object-kind .ensures) (search needs))
     (λ c κs. search needs)
     (λ c. search needs)
     returns)

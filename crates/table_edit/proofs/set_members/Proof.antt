@@ -6,12 +6,6 @@ use borrow.Author.Needs.{needs}
 use Rattle.table_edit.proofs.set_members.Statement.{statement}
 use Rattle.table_edit.proofs.set_members.Tie as tie
 
-slice-write-words-2 : tie.Need-slice-write-words-2
-slice-write-words-2 c = rw length-set (omega arith)
-
-returns : tie.Need-returns
-returns c = members-stored _ _ (c .pre .0) _ (c .pre .1)
-
 pub set-members-spec : {M : Type 1} → statement M
 set-members-spec =
     tie.close
@@ -21,6 +15,6 @@ set-members-spec =
     (λ c. search needs)
     (λ c. search needs)
     (λ c. search needs)
-    slice-write-words-2
+    (λ c. rw length-set (omega arith))
     (λ c. search needs)
-    returns)
+    (λ c. members-stored _ _ (c .pre .0) _ (c .pre .1)))

@@ -40,12 +40,6 @@ note-requires c κs =
     let ws = c .before .before .before .before .before .before .args .words .now in
     let e = column-short ws 16 (c .before .before .column .ensures) (c .before .before .before .before .exporter-count .ensures .1) in (search needs, omega arith)
 
-all-found-requires : tie.Need-all-found-requires
-all-found-requires c κs = c .before .before .before .note .ensures .indexed (not-false _ (c .before .if1 .left))
-
-returns : tie.Need-returns
-returns c = λ s. judged-fails _ refl (proper-judged (c .before .before) s) (c .if1 .taken)
-
 returns-2 : tie.Need-returns-2
 returns-2 c = λ s. judged-last (judged-passes _ refl (proper-judged (c .before .before .before .before) s) (c .before .before .if1 .left)) (live-judged c s)
 
@@ -59,7 +53,7 @@ exporters-named-spec =
     (λ c κs. search needs)
     (λ c. search needs)
     note-requires
-    returns
+    (λ c. λ s. judged-fails _ refl (proper-judged (c .before .before) s) (c .if1 .taken))
     (λ c. search needs)
-    all-found-requires
+    (λ c κs. c .before .before .before .note .ensures .indexed (not-false _ (c .before .if1 .left)))
     returns-2)

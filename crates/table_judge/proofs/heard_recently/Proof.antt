@@ -15,12 +15,6 @@ Inv-loop words n clock i₀ i = (n ≤ objectCount words) × (everyRow n (heardR
 abbrev μ-loop : tie.MeasureT-loop
 μ-loop words n clock i₀ i = n - i
 
-loop-holds : tie.Need-loop-holds Inv-loop μ-loop
-loop-holds c = let e = c .before .object-count .ensures .0 in (omega arith, refl)
-
-is-heard-within-requires : tie.Need-is-heard-within-requires Inv-loop μ-loop
-is-heard-within-requires c κs = let l = c .before .loop .inv .0 in (search needs, omega arith)
-
 returns : tie.Need-returns Inv-loop μ-loop
 returns c =
     let l = c .before .before .before .loop in
@@ -48,8 +42,8 @@ heard-recently-spec =
     μ-loop
     (λ c κs. search needs)
     (λ c. search needs)
-    loop-holds
-    is-heard-within-requires
+    (λ c. let e = c .before .object-count .ensures .0 in (omega arith, refl))
+    (λ c κs. let l = c .before .loop .inv .0 in (search needs, omega arith))
     returns
     (λ c. search needs)
     (λ c. search needs)

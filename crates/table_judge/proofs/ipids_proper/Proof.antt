@@ -45,9 +45,6 @@ ipids-read c s =
 ipids-judged : (c : tie.After-enter-guids) (s : List ℕ) → c .enter-guids .result ≡ properGuids (interfaceIpids (At (c .before .before .before .before) s))
 ipids-judged c s = entered-alone no-guids (c .enter-guids .ensures) .0 ∙ ap properGuids (ipids-read (c .before .before .before .before) s)
 
-enter-guids-requires : tie.Need-enter-guids-requires
-enter-guids-requires c κs = (twice-none _ (length-replicate 4096 false) no-guids, rw no-guids (distinct-none sameGuid))
-
 enter-guids-requires-2 : tie.Need-enter-guids-requires-2
 enter-guids-requires-2 c κs =
     let e = entered-alone no-guids (c .before .before .enter-guids .ensures) in
@@ -79,7 +76,7 @@ ipids-proper-spec =
     (λ c κs. search needs)
     (λ c. search needs)
     (λ c. search needs)
-    enter-guids-requires
+    (λ c κs. (twice-none _ (length-replicate 4096 false) no-guids, rw no-guids (distinct-none sameGuid)))
     returns
     enter-guids-requires-2
     returns-2)

@@ -37,9 +37,6 @@ Inv-loop words store n at₀ k₀ at k = (n ≤ exporterPlaces) × (everyRow n (
 abbrev μ-loop : tie.MeasureT-loop
 μ-loop words store n at₀ k₀ at k = n - k
 
-loop-holds : tie.Need-loop-holds Inv-loop μ-loop
-loop-holds c = (search needs, refl, sym (start-first _), search needs)
-
 -- the bytes from list k on are lent
 answer : (c : tie.After-front-answer Inv-loop μ-loop) → let l = c .before .before .before in
     c .front-answer .result ≡ frontAnswer (listFrom (l .before .before .before .before .args .store .now) (l .loop .k))
@@ -83,9 +80,6 @@ returns-2 c =
     check-fails _ _ (l .k) (l .inv .1) (search needs) (long-list (start .args .store .now) (l .k) (omega arith)) refl
     ∙ kept-rows (start .args .words .now) (start .args .store .now) _ (c .before .before .before .before .before .before .before .before .exporter-count .ensures .0)
 
-add-at : tie.Need-add-at Inv-loop μ-loop
-add-at c = let h = ends (c .before) in omega arith
-
 loop-again : tie.Need-loop-again Inv-loop μ-loop
 loop-again c =
     let l = c .before .before .before .before .before .before .before .loop in
@@ -112,7 +106,7 @@ lists-kept-spec =
     Inv-loop
     μ-loop
     (λ c κs. search needs)
-    loop-holds
+    (λ c. (search needs, refl, sym (start-first _), search needs))
     (λ c. search needs)
     (λ c. search needs)
     (λ c. search needs)
@@ -123,7 +117,7 @@ lists-kept-spec =
     (λ c. search needs)
     (λ c κs. search needs)
     returns-2
-    add-at
+    (λ c. let h = ends (c .before) in omega arith)
     (λ c. search needs)
     (λ c. search needs)
     loop-again

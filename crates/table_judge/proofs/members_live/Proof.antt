@@ -16,12 +16,6 @@ Inv-loop words n objects i₀ i = (n ≤ setCount words) × (everyRow n (belowRo
 abbrev μ-loop : tie.MeasureT-loop
 μ-loop words n objects i₀ i = n - i
 
-loop-holds : tie.Need-loop-holds Inv-loop μ-loop
-loop-holds c = let e = c .before .set-count .ensures .0 in (omega arith, refl)
-
-members-requires : tie.Need-members-requires Inv-loop μ-loop
-members-requires c κs = let l = c .before .loop .inv .0 in (search needs, omega arith)
-
 returns : tie.Need-returns Inv-loop μ-loop
 returns c =
     let l = c .before .before .before .before .loop in
@@ -52,8 +46,8 @@ members-live-spec =
     μ-loop
     (λ c κs. search needs)
     (λ c κs. search needs)
-    loop-holds
-    members-requires
+    (λ c. let e = c .before .set-count .ensures .0 in (omega arith, refl))
+    (λ c κs. let l = c .before .loop .inv .0 in (search needs, omega arith))
     (λ c κs. search needs)
     returns
     (λ c. search needs)

@@ -57,9 +57,6 @@ all-paired-requires c κs =
     let e = column-short ws 256 (at .before .column .ensures) (at .before .before .before .object-count .ensures .1) in
     (n .indexed t, fine-distinct eqb 0 _ (sym (n .judged) ∙ t), omega arith)
 
-returns : tie.Need-returns
-returns c = λ s. judged-fails _ refl (proper-judged (c .before .before) s) (c .if1 .taken)
-
 returns-2 : tie.Need-returns-2
 returns-2 c = λ s. judged-both _ _ (judged-passes _ refl (proper-judged (c .before .before .before .before) s) (c .before .before .if1 .left)) (paired-judged c s)
 
@@ -73,7 +70,7 @@ objects-named-spec =
     (λ c κs. search needs)
     (λ c. search needs)
     note-requires
-    returns
+    (λ c. λ s. judged-fails _ refl (proper-judged (c .before .before) s) (c .if1 .taken))
     (λ c. search needs)
     all-paired-requires
     returns-2)

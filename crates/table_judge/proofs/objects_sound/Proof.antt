@@ -21,9 +21,6 @@ heard-judged c s =
     let times = column-read ws 640 (c .before .before .column .ensures) (c .before .before .before .object-count .ensures .0) (heard-column ws (st .pre)) in
     column-test (λ o. o .heard) (e .objects) times (λ t. leb t (e .clock)) (c .all-at-most .ensures)
 
-returns : tie.Need-returns
-returns c = λ s. judged-fails _ refl (heard-judged (c .before) s) (c .if1 .taken)
-
 returns-2 : tie.Need-returns-2
 returns-2 c = λ s. judged-last (judged-passes _ refl (heard-judged (c .before .before) s) (c .before .if1 .left)) (c .heard-recently .ensures s)
 
@@ -35,6 +32,6 @@ objects-sound-spec =
     (λ c κs. search needs)
     (λ c. search needs)
     (λ c κs. search needs)
-    returns
+    (λ c. λ s. judged-fails _ refl (heard-judged (c .before) s) (c .if1 .taken))
     (λ c κs. search needs)
     returns-2)

@@ -68,24 +68,6 @@ left-4 c s = judged-passes _ (left-3 (c .before .before) s) (below-judged (c .be
 left-5 : (c : tie.Else5) (s : List ℕ) → Left 5 (c .before .before .before .before .before .before .before .before .before) s
 left-5 c s = holding-passes _ _ (left-4 (c .before) s) (ap not (ne-eqb _ 0 (c .if5 .left)))
 
-returns : tie.Need-returns
-returns c = λ s. judged-fails _ refl (proper-judged (c .before) s) (c .if1 .taken)
-
-returns-2 : tie.Need-returns-2
-returns-2 c = λ s. judged-fails _ (left-1 (c .before .before) s) (before-judged (c .before) s) (c .if2 .taken)
-
-returns-3 : tie.Need-returns-3
-returns-3 c = λ s. judged-fails _ (left-2 (c .before .before) s) (recent-judged (c .before) s) (c .if3 .taken)
-
-returns-4 : tie.Need-returns-4
-returns-4 c = λ s. judged-fails _ (left-3 (c .before .before) s) (below-judged (c .before) s) (c .if4 .taken)
-
-returns-5 : tie.Need-returns-5
-returns-5 c = λ s. holding-fails _ _ (left-4 (c .before) s) (ap not (eq-eqb _ 0 (c .if5 .taken)))
-
-returns-6 : tie.Need-returns-6
-returns-6 c = λ s. judged-last (left-5 (c .before) s) (c .members-live .ensures s)
-
 are-proper-requires : tie.Need-are-proper-requires
 are-proper-requires c κs =
     let ws = c .before .before .before .before .before .before .args .words .now in
@@ -101,13 +83,13 @@ sets-sound-spec =
     (λ c κs. search needs)
     (λ c κs. search needs)
     are-proper-requires
-    returns
+    (λ c. λ s. judged-fails _ refl (proper-judged (c .before) s) (c .if1 .taken))
     (λ c κs. search needs)
-    returns-2
+    (λ c. λ s. judged-fails _ (left-1 (c .before .before) s) (before-judged (c .before) s) (c .if2 .taken))
     (λ c κs. search needs)
-    returns-3
+    (λ c. λ s. judged-fails _ (left-2 (c .before .before) s) (recent-judged (c .before) s) (c .if3 .taken))
     (λ c κs. search needs)
-    returns-4
-    returns-5
+    (λ c. λ s. judged-fails _ (left-3 (c .before .before) s) (below-judged (c .before) s) (c .if4 .taken))
+    (λ c. λ s. holding-fails _ _ (left-4 (c .before) s) (ap not (eq-eqb _ 0 (c .if5 .taken))))
     (λ c κs. search needs)
-    returns-6)
+    (λ c. λ s. judged-last (left-5 (c .before) s) (c .members-live .ensures s)))

@@ -53,12 +53,6 @@ left-5 c = judged-passes _ (left-4 (c .before .before)) (c .before .objects-soun
 left-6 : (c : tie.Else6) → Left 6 (c .before .before .before .before .before .before .before .before .before .before .before .before)
 left-6 c = judged-passes _ (left-5 (c .before .before)) (c .before .interfaces-sound .ensures (store (c .before .before .before .before))) (c .if6 .left)
 
-returns : tie.Need-returns
-returns c = holding-fails _ _ (all-left (c .before .before .before)) (ne-eqb _ 8192 (c .if1 .taken))
-
-returns-2 : tie.Need-returns-2
-returns-2 c = holding-fails _ _ (left-1 (c .before)) (ne-eqb _ 8192 (c .if2 .taken))
-
 returns-3 : tie.Need-returns-3
 returns-3 c =
     let st = c .before .before .before .before .before .before in
@@ -80,15 +74,12 @@ sets-sound-requires c κs =
     let test = c .before .before .before .before in
     (search needs, clause-at _ 2 (sym (test .before .naming-sound .ensures (store test)) ∙ not-false _ (test .if4 .left)))
 
-returns-7 : tie.Need-returns-7
-returns-7 c = judged-last (left-6 (c .before)) (c .sets-sound .ensures (store (c .before .before .before .before .before)))
-
 pub sound-spec : {M : Type 1} → statement M
 sound-spec =
     tie.close
     (tie.spec
-    returns
-    returns-2
+    (λ c. holding-fails _ _ (all-left (c .before .before .before)) (ne-eqb _ 8192 (c .if1 .taken)))
+    (λ c. holding-fails _ _ (left-1 (c .before)) (ne-eqb _ 8192 (c .if2 .taken)))
     (λ c κs. search needs)
     returns-3
     (λ c κs. search needs)
@@ -98,4 +89,4 @@ sound-spec =
     (λ c κs. search needs)
     returns-6
     sets-sound-requires
-    returns-7)
+    (λ c. judged-last (left-6 (c .before)) (c .sets-sound .ensures (store (c .before .before .before .before .before)))))

@@ -18,9 +18,6 @@ requested-words-requires : tie.Need-requested-words-requires
 unfolding listLength
 requested-words-requires c κs = let h = accepted _ (c .before .before .before .before .before .pre) in omega arith
 
-sub-result : tie.Need-sub-result
-sub-result c = let h = accepted _ (c .before .before .before .before .before .before .pre) in omega arith
-
 returns-2 : tie.Need-returns-2
 returns-2 c =
     let a = c .before .before .before .before .before .before .args in
@@ -39,7 +36,7 @@ filtered-length-spec =
     (λ c. search needs)
     returns
     requested-words-requires
-    sub-result
+    (λ c. let h = accepted _ (c .before .before .before .before .before .before .pre) in omega arith)
     (λ c. search needs)
     (λ c. search needs)
     (λ c. search needs)

@@ -14,9 +14,6 @@ Inv-loop protocols tower i₀ i = among (drop i protocols) tower ≡ among proto
 abbrev μ-loop : tie.MeasureT-loop
 μ-loop protocols tower i₀ i = length protocols - i
 
-loop-holds : tie.Need-loop-holds Inv-loop μ-loop
-loop-holds c = refl
-
 returns : tie.Need-returns Inv-loop μ-loop
 returns c =
     let a = c .before .before .before .before .args in
@@ -41,7 +38,7 @@ is-requested-spec =
     (tie.spec
     Inv-loop
     μ-loop
-    loop-holds
+    (λ c. refl)
     (λ c. search needs)
     (λ c. search needs)
     returns

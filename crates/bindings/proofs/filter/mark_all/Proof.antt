@@ -15,9 +15,6 @@ Inv-loop marks₀ protocols i₀ marks i = (i ≤ length protocols) × Marks mar
 abbrev μ-loop : tie.MeasureT-loop
 μ-loop marks₀ protocols i₀ marks i = i
 
-loop-holds : tie.Need-loop-holds Inv-loop μ-loop
-loop-holds c = (omega arith, marks-end (c .before .args .protocols .now) _ _ refl (c .before .pre))
-
 loop-again : tie.Need-loop-again Inv-loop μ-loop
 loop-again c =
     let l = c .before .before .before .before .loop in
@@ -35,7 +32,7 @@ mark-all-spec =
     (tie.spec
     Inv-loop
     μ-loop
-    loop-holds
+    (λ c. (omega arith, marks-end (c .before .args .protocols .now) _ _ refl (c .before .pre)))
     (λ c. search needs)
     (λ c. search needs)
     (λ c. search needs)

@@ -34,15 +34,6 @@ few c =
     let st = c .before .before .before .before .before .before .before in
     filtered-count _ _ (st .pre .0) (some c) (bytes c) _ _ _ (c .before .before .before .read-u16 .ensures) (c .before .before .read-u162 .ensures) (c .requested-words .ensures .0)
 
-sub-write-u16 : tie.Need-sub-write-u16
-sub-write-u16 c = let h = accepted _ (c .before .before .before .before .before .before .before .before .pre .0) in omega arith
-
-cast-write-u16 : tie.Need-cast-write-u16
-cast-write-u16 c = let h = few (c .before) in omega arith
-
-cast-write-u16-2 : tie.Need-cast-write-u16-2
-cast-write-u16-2 c = let h = few (c .before .before .before .before .before) in omega arith
-
 put-requested-requires : tie.Need-put-requested-requires
 unfolding listLength
 put-requested-requires c κs =
@@ -87,12 +78,12 @@ put-filtered-spec =
     returns
     requested-words-requires
     (λ c. search needs)
-    sub-write-u16
+    (λ c. let h = accepted _ (c .before .before .before .before .before .before .before .before .pre .0) in omega arith)
     (λ c. search needs)
-    cast-write-u16
+    (λ c. let h = few (c .before) in omega arith)
     (λ c κs. search needs)
     (λ c. search needs)
-    cast-write-u16-2
+    (λ c. let h = few (c .before .before .before .before .before) in omega arith)
     (λ c κs. search needs)
     put-requested-requires
     (λ c. search needs)

@@ -25,9 +25,6 @@ Inv-loop s at n protocols buf₀ to i₀ left₀ next₀ buf i left next =
 abbrev μ-loop : tie.MeasureT-loop
 μ-loop s at n protocols buf₀ to i₀ left₀ next₀ buf i left next = left
 
-loop-holds : tie.Need-loop-holds Inv-loop μ-loop
-loop-holds c = (search needs, refl, search needs, refl)
-
 returns : tie.Need-returns Inv-loop μ-loop
 returns c =
     let a = c .before .before .before .before .before .before .before .args in
@@ -83,7 +80,7 @@ put-requested-spec =
     (tie.spec
     Inv-loop
     μ-loop
-    loop-holds
+    (λ c. (search needs, refl, search needs, refl))
     (λ c κs. omega arith)
     (λ c. search needs)
     returns

@@ -43,13 +43,11 @@ returns c =
       λ ps m. sym (append-nil (take (l .n) (l .towers))) ∙ ap (λ (ts : List ℕ). take (l .n) (l .towers) ++ ts) (sym (towers-end ps (a .s .now) (l .i) (l .left) (omega arith) z)) ∙ l .inv .3 ps m,
     )
 
-binding-words-requires : tie.Need-binding-words-requires Inv-loop μ-loop
-binding-words-requires c κs = (omega arith, omega arith)
-
 loop-again : tie.Need-loop-again Inv-loop μ-loop
 loop-again c =
-    let a = c .before .before .before .before .before .before .before .before .before .before .before .before .before .args in
-    let l = c .before .before .before .before .before .before .before .before .before .loop in
+    let loop = c .before .before .before .before .before .before .before .before .before in
+    let a = loop .before .before .before .before .args in
+    let l = loop .loop in
     let word = c .before .before .before .before .before .before .before .word .ensures in
     let m = c .binding-words .result in
     let put = c .before .before .before .put-tower in
@@ -88,7 +86,7 @@ requested-towers-spec =
     returns
     (λ c κs. search needs)
     (λ c κs. omega arith)
-    binding-words-requires
+    (λ c κs. (omega arith, omega arith))
     (λ c. omega arith)
     (λ c. omega arith)
     (λ c. omega arith)

@@ -20,9 +20,6 @@ Inv-loop s at n protocols i₀ left₀ sum₀ i left sum =
 abbrev μ-loop : tie.MeasureT-loop
 μ-loop s at n protocols i₀ left₀ sum₀ i left sum = left
 
-loop-holds : tie.Need-loop-holds Inv-loop μ-loop
-loop-holds c = (search needs, omega arith, zero-add _)
-
 returns : tie.Need-returns Inv-loop μ-loop
 returns c =
     let a = c .before .before .before .before .before .before .args in
@@ -62,7 +59,7 @@ requested-words-spec =
     (tie.spec
     Inv-loop
     μ-loop
-    loop-holds
+    (λ c. (search needs, omega arith, zero-add _))
     (λ c κs. omega arith)
     returns
     (λ c κs. search needs)

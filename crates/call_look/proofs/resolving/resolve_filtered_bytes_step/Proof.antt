@@ -21,9 +21,6 @@ returns c =
     rw (c .refused .ensures)
     (refused-step 10 (too-many (a .words .now) (a .store .now) ps (a .buffer .now) (a .oxid .0) (lt-ltb 65535 (length ps) (omega arith))) (λ z. omega arith))
 
-resolve-marked-requires : tie.Need-resolve-marked-requires
-resolve-marked-requires c κs = c .before .before .before .before .before .before .before .before .before .pre
-
 returns-2 : tie.Need-returns-2
 returns-2 c =
     let s = c .before .before .before .before .before .before .before .before .before .before .before .before .args .protocols .now in
@@ -38,6 +35,6 @@ resolve-filtered-bytes-step-spec =
     (λ c κs. search needs)
     returns
     (λ c κs. marks-none)
-    resolve-marked-requires
+    (λ c κs. c .before .before .before .before .before .before .before .before .before .pre)
     (λ c. search needs)
     returns-2)

@@ -10,12 +10,6 @@ use Rattle.call_look.proofs.resolving.FilteredReplies.{too-many}
 use Rattle.call_look.proofs.resolving.resolve_filtered_step.Statement.{statement}
 use Rattle.call_look.proofs.resolving.resolve_filtered_step.Tie as tie
 
-resolve-searched-requires : tie.Need-resolve-searched-requires
-resolve-searched-requires c κs = c .before .before .before .before .before .before .pre
-
-returns : tie.Need-returns
-returns c = c .before .before .resolve-searched .ensures
-
 returns-2 : tie.Need-returns-2
 unfolding refusedReply results
 returns-2 c =
@@ -24,9 +18,6 @@ returns-2 c =
     (refused-step 10
     (too-many (a .words .now) (a .store .now) (a .protocols .now) (a .buffer .now) (a .oxid .0) (lt-ltb _ _ (c .before .if2 .taken)))
     (λ z. omega arith))
-
-resolve-marked-requires : tie.Need-resolve-marked-requires
-resolve-marked-requires c κs = c .before .before .before .before .before .before .before .before .before .before .pre
 
 returns-3 : tie.Need-returns-3
 returns-3 c =
@@ -38,12 +29,12 @@ pub resolve-filtered-step-spec : {M : Type 1} → statement M
 resolve-filtered-step-spec =
     tie.close
     (tie.spec
-    resolve-searched-requires
+    (λ c κs. c .before .before .before .before .before .before .pre)
     (λ c. search needs)
-    returns
+    (λ c. c .before .before .resolve-searched .ensures)
     (λ c κs. search needs)
     returns-2
     (λ c κs. marks-none)
-    resolve-marked-requires
+    (λ c κs. c .before .before .before .before .before .before .before .before .before .before .pre)
     (λ c. search needs)
     returns-3)

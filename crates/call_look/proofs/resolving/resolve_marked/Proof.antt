@@ -20,12 +20,6 @@ use borrow.Author.Needs.{needs}
 use Rattle.call_look.proofs.resolving.resolve_marked.Statement.{statement}
 use Rattle.call_look.proofs.resolving.resolve_marked.Tie as tie
 
-exporter-row-requires : tie.Need-exporter-row-requires
-exporter-row-requires c κs = c .before .before .before .pre .words
-
-exporter-count-requires : tie.Need-exporter-count-requires
-exporter-count-requires c κs = c .before .before .before .before .pre .words
-
 returns : tie.Need-returns
 unfolding refusedReply results
 returns c ps few marked =
@@ -62,9 +56,6 @@ slice-aggregate-resolve-searched c =
     let put = c .before .before .requested-towers in
     sym (length-take-le (put .result) (put .last .1 .1 .0) (put .ensures .0))
 
-resolve-searched-requires : tie.Need-resolve-searched-requires
-resolve-searched-requires c κs = c .before .before .before .before .before .before .before .before .before .before .before .before .pre
-
 returns-2 : tie.Need-returns-2
 returns-2 c ps few marked =
     let l = c .before .before .before .before .before .before .before .before in
@@ -84,8 +75,8 @@ pub resolve-marked-spec : {M : Type 1} → statement M
 resolve-marked-spec =
     tie.close
     (tie.spec
-    exporter-row-requires
-    exporter-count-requires
+    (λ c κs. c .before .before .before .pre .words)
+    (λ c κs. c .before .before .before .before .pre .words)
     (λ c κs. search needs)
     returns
     list-requires
@@ -93,6 +84,6 @@ resolve-marked-spec =
     requested-towers-requires
     (λ c. search needs)
     slice-aggregate-resolve-searched
-    resolve-searched-requires
+    (λ c κs. c .before .before .before .before .before .before .before .before .before .before .before .before .pre)
     (λ c. search needs)
     returns-2)

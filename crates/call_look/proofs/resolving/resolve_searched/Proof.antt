@@ -27,12 +27,6 @@ returns c =
     (too-many (a .words .now) (a .store .now) (a .protocols .now) (a .buffer .now) (a .oxid .0) (lt-ltb _ _ (c .before .if1 .taken)))
     (λ z. omega arith))
 
-exporter-row-requires : tie.Need-exporter-row-requires
-exporter-row-requires c κs = c .before .before .before .before .before .pre .words
-
-exporter-count-requires : tie.Need-exporter-count-requires
-exporter-count-requires c κs = c .before .before .before .before .before .before .pre .words
-
 returns-2 : tie.Need-returns-2
 unfolding refusedReply results
 returns-2 c =
@@ -101,8 +95,8 @@ resolve-searched-spec =
     (tie.spec
     (λ c κs. search needs)
     returns
-    exporter-row-requires
-    exporter-count-requires
+    (λ c κs. c .before .before .before .before .before .pre .words)
+    (λ c κs. c .before .before .before .before .before .before .pre .words)
     (λ c κs. search needs)
     returns-2
     list-requires

@@ -45,12 +45,6 @@ module _ (ws s buffer : List ℕ) (x : ℕ) {r : ℕ} (found : r ≡ exporterRow
   unfolding acceptedReply results
   answered {list} held unknown copied fits = rw (← exporter-in-row ws s x found, ← held, ← unknown, copied, written-front buffer list fits)
 
-exporter-row-requires : tie.Need-exporter-row-requires
-exporter-row-requires c κs = c .before .before .before .pre .words
-
-exporter-count-requires : tie.Need-exporter-count-requires
-exporter-count-requires c κs = c .before .before .before .before .pre .words
-
 returns : tie.Need-returns
 unfolding refusedReply results
 returns c =
@@ -101,8 +95,8 @@ pub resolve-step-spec : {M : Type 1} → statement M
 resolve-step-spec =
     tie.close
     (tie.spec
-    exporter-row-requires
-    exporter-count-requires
+    (λ c κs. c .before .before .before .pre .words)
+    (λ c κs. c .before .before .before .before .pre .words)
     (λ c κs. search needs)
     returns
     list-requires

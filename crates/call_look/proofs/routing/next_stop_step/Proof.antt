@@ -50,12 +50,6 @@ accepted c =
     let left = form-left _ (c .before .before .before .before .before .tail-place .ensures) (c .before .before .before .if1 .left) _ in
     step-call refl (table c) (accepted-step 0 (rows-end (row-passes _ _ _ left (ne-eqb _ _ (other c)))) refl _ refl)
 
-exporter-row-requires : tie.Need-exporter-row-requires
-exporter-row-requires c κs = table (c .before) .words
-
-exporter-count-requires : tie.Need-exporter-count-requires
-exporter-count-requires c κs = table (c .before .before) .words
-
 -- the row is that of the reference's OXID
 row : (c : tie.After-exporter-row) → let a = c .before .before .before .before .before .before .before .before .before .before .before .args in
     c .exporter-row .result ≡ exporterRow (view (memory (a .words .now) (a .store .now))) (oxidOf (a .reference .now))
@@ -95,8 +89,8 @@ next-stop-step-spec =
     (λ c κs. search needs)
     (λ c κs. search needs)
     returns-2
-    exporter-row-requires
-    exporter-count-requires
+    (λ c κs. table (c .before) .words)
+    (λ c κs. table (c .before .before) .words)
     in-store-requires
     returns-3
     (λ c κs. search needs)

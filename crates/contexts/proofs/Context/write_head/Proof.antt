@@ -43,9 +43,6 @@ returns c =
     (reserved .write-u322 .ensures) (extents .write-u323 .ensures) (rest .write-u324 .ensures) (marshal .write-u325 .ensures) (c .before .before .before .before .before .before .write-u326 .ensures)
     (c .before .before .write-u327 .ensures)
 
-same-length : tie.Need-same-length
-same-length c = rw (returns c) (length-written _ _ _)
-
 pub write-head-spec : {M : Type 1} → statement M
 write-head-spec =
     tie.close
@@ -60,5 +57,5 @@ write-head-spec =
     (λ c κs. search needs)
     (λ c κs. search needs)
     (λ c κs. search needs)
-    same-length
+    (λ c. rw (returns c) (length-written _ _ _))
     returns)

@@ -35,15 +35,6 @@ inside c =
     let h = property-within (c .before .before .before .before .args .s .now) (c .before .before .before .before .args .k) in
     omega arith
 
-sub-start : tie.Need-sub-start
-sub-start c = after (c .before)
-
-sub-fields : tie.Need-sub-fields
-sub-fields c = inside (c .before)
-
-part-fields-start : tie.Need-part-fields-start
-part-fields-start c = inside (c .before)
-
 returns-2 : tie.Need-returns-2
 unfolding readProperty
 returns-2 c =
@@ -61,9 +52,9 @@ read-spec =
     (λ c κs. search needs)
     (λ c κs. search needs)
     returns
-    sub-start
-    sub-fields
-    part-fields-start
+    (λ c. after (c .before))
+    (λ c. inside (c .before))
+    (λ c. inside (c .before))
     (λ c. search needs)
     (λ c κs. search needs)
     returns-2)

@@ -16,15 +16,6 @@ returns c =
 front : (c : tie.Else1) → Fronted (c .before .before .before .args .s .now) (c .before .before .before .args .at)
 front c = accepted _ _ (c .before .before .before .pre) .front (λ z. c .if1 .left (c .before .read-u32 .ensures ∙ z))
 
-add-read-u32 : tie.Need-add-read-u32
-add-read-u32 c = let h = front c in omega (arith, h .room)
-
-add-t6 : tie.Need-add-t6
-add-t6 c = let h = front (c .before) in omega (arith, h .room)
-
-add-t7 : tie.Need-add-t7
-add-t7 c = let h = front (c .before) in omega (arith, h .room)
-
 add-t11 : tie.Need-add-t11
 add-t11 c =
     let h = front (c .before .before) in
@@ -44,10 +35,10 @@ first-spec =
     (λ c κs. search needs)
     (λ c κs. search needs)
     returns
-    add-read-u32
+    (λ c. let h = front c in omega (arith, h .room))
     (λ c κs. search needs)
-    add-t6
-    add-t7
+    (λ c. let h = front (c .before) in omega (arith, h .room))
+    (λ c. let h = front (c .before) in omega (arith, h .room))
     (λ c κs. search needs)
     (λ c. search needs)
     add-t11

@@ -10,17 +10,8 @@ use Rattle.cursors.proofs.extents.next.Tie as tie
 whole : (c : tie.Else1) → There (c .before .before .before .args .s .now) (c .before .before .before .args .pointer) (c .before .before .before .args .at) (c .before .before .before .args .left)
 whole c = there _ _ _ _ (sym (c .before .step-answer .ensures) ∙ c .if1 .left)
 
-add-read-u32 : tie.Need-add-read-u32
-add-read-u32 c = let h = whole c in omega arith
-
-add-read-guid : tie.Need-add-read-guid
-add-read-guid c = let h = whole (c .before) in omega arith
-
 add-t11 : tie.Need-add-t11
 add-t11 c = let h = whole (c .before .before .before) in omega arith
-
-add-t13 : tie.Need-add-t13
-add-t13 c = let h = whole (c .before .before .before) in omega arith
 
 add-t15 : tie.Need-add-t15
 add-t15 c =
@@ -28,18 +19,12 @@ add-t15 c =
     let n = c .before .before .read-u32 .ensures in
     omega arith
 
-add-t11-2 : tie.Need-add-t11-2
-add-t11-2 c = let h = whole (c .before .before .before) in omega arith
-
 add-t13-2 : tie.Need-add-t13-2
 add-t13-2 c =
     let h = whole (c .before .before .before .before) in
     let n = c .before .before .before .read-u32 .ensures in
     let r = c .rounded .ensures in
     omega arith
-
-sub-t17 : tie.Need-sub-t17
-sub-t17 c = let h = whole (c .before .before .before .before) in omega arith
 
 returns-2 : tie.Need-returns-2
 returns-2 c =
@@ -54,18 +39,18 @@ next-spec =
     (λ c κs. search needs)
     (λ c κs. search needs)
     (λ c. search extent-refused)
-    add-read-u32
+    (λ c. let h = whole c in omega arith)
     (λ c κs. search needs)
-    add-read-guid
+    (λ c. let h = whole (c .before) in omega arith)
     (λ c κs. search needs)
     (λ c κs. search needs)
     add-t11
-    add-t13
+    (λ c. let h = whole (c .before .before .before) in omega arith)
     (λ c. search needs)
     add-t15
-    add-t11-2
+    (λ c. let h = whole (c .before .before .before) in omega arith)
     add-t11
     (λ c κs. search needs)
     add-t13-2
-    sub-t17
+    (λ c. let h = whole (c .before .before .before .before) in omega arith)
     returns-2)

@@ -29,12 +29,6 @@ fixed c = sym (c .before .inside2 .ensures) ∙ not-false _ (c .if3 .left)
 room : (c : tie.Else3) → c .before .before .before .before .before .before .args .at + 24 ≤ length (c .before .before .before .before .before .before .args .s .now)
 room c = leb-true _ _ (fixed c)
 
-add-inside : tie.Need-add-inside
-add-inside c = omega (arith, room c)
-
-add-read-u32 : tie.Need-add-read-u32
-add-read-u32 c = omega (arith, room c)
-
 returns-4 : tie.Need-returns-4
 returns-4 c =
     let r = c .before .before in
@@ -60,8 +54,8 @@ step-answer-spec =
     returns-2
     (λ c κs. search needs)
     returns-3
-    add-inside
-    add-read-u32
+    (λ c. omega (arith, room c))
+    (λ c. omega (arith, room c))
     (λ c κs. search needs)
     (λ c κs. search needs)
     (λ c κs. search needs)

@@ -10,29 +10,11 @@ use Rattle.cursors.proofs.properties.next.Tie as tie
 whole : (c : tie.Else1) → There (c .before .before .before .args .s .now) (c .before .before .before .args .at) (c .before .before .before .args .left)
 whole c = there _ _ _ (sym (c .before .step-answer .ensures) ∙ c .if1 .left)
 
-add-read-guid : tie.Need-add-read-guid
-add-read-guid c = let h = whole (c .before) in omega arith
-
-add-read-u32 : tie.Need-add-read-u32
-add-read-u32 c = let h = whole (c .before .before) in omega arith
-
-add-t9 : tie.Need-add-t9
-add-t9 c = let h = whole (c .before .before .before) in omega arith
-
-add-t11 : tie.Need-add-t11
-add-t11 c = let h = whole (c .before .before .before) in omega arith
-
-add-read-u32-2 : tie.Need-add-read-u32-2
-add-read-u32-2 c = let h = whole (c .before .before .before) in omega arith
-
 add-t14 : tie.Need-add-t14
 add-t14 c =
     let h = whole (c .before .before .before .before) in
     let z = c .read-u322 .ensures in
     omega arith
-
-sub-t15 : tie.Need-sub-t15
-sub-t15 c = let h = whole (c .before .before .before .before) in omega arith
 
 returns-2 : tie.Need-returns-2
 returns-2 c =
@@ -48,15 +30,15 @@ next-spec =
     (λ c κs. search needs)
     (λ c. search property-refused)
     (λ c κs. search needs)
-    add-read-guid
+    (λ c. let h = whole (c .before) in omega arith)
     (λ c κs. search needs)
-    add-read-u32
+    (λ c. let h = whole (c .before .before) in omega arith)
     (λ c κs. search needs)
-    add-t9
-    add-t11
-    add-read-u32-2
+    (λ c. let h = whole (c .before .before .before) in omega arith)
+    (λ c. let h = whole (c .before .before .before) in omega arith)
+    (λ c. let h = whole (c .before .before .before) in omega arith)
     (λ c κs. search needs)
     (λ c. search needs)
     add-t14
-    sub-t15
+    (λ c. let h = whole (c .before .before .before .before) in omega arith)
     returns-2)

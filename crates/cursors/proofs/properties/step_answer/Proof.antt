@@ -20,12 +20,6 @@ fixed c = sym (c .before .inside .ensures) ∙ not-false _ (c .if2 .left)
 room : (c : tie.Else2) → c .before .before .before .before .args .at + 40 ≤ length (c .before .before .before .before .args .s .now)
 room c = leb-true _ _ (fixed c)
 
-add-inside : tie.Need-add-inside
-add-inside c = omega (arith, room c)
-
-add-read-u32 : tie.Need-add-read-u32
-add-read-u32 c = omega (arith, room c)
-
 returns-3 : tie.Need-returns-3
 returns-3 c =
     let e = c .before .before .before in
@@ -43,8 +37,8 @@ step-answer-spec =
     (λ c. sym (none-left _ _ _ (c .if1 .taken)))
     (λ c κs. search needs)
     returns-2
-    add-inside
-    add-read-u32
+    (λ c. omega (arith, room c))
+    (λ c. omega (arith, room c))
     (λ c κs. search needs)
     (λ c. search needs)
     (λ c κs. search needs)

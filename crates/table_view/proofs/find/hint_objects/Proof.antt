@@ -13,12 +13,6 @@ Inv-loop words hints₀ n i₀ hints i = (i ≤ n) × (n ≡ objectCount words) 
 abbrev μ-loop : tie.MeasureT-loop
 μ-loop words hints₀ n i₀ hints i = n - i
 
-loop-holds : tie.Need-loop-holds Inv-loop μ-loop
-loop-holds c = (omega arith, c .object-count .ensures .0, omega arith)
-
-oid-requires : tie.Need-oid-requires Inv-loop μ-loop
-oid-requires c κs = (search needs, omega arith)
-
 pub hint-objects-spec : {M : Type 1} → statement M
 hint-objects-spec =
     tie.close
@@ -26,8 +20,8 @@ hint-objects-spec =
     Inv-loop
     μ-loop
     (λ c κs. search needs)
-    loop-holds
-    oid-requires
+    (λ c. (omega arith, c .object-count .ensures .0, omega arith))
+    (λ c κs. (search needs, omega arith))
     (λ c κs. search needs)
     (λ c. search needs)
     (λ c. search needs)

@@ -12,9 +12,6 @@ use borrow.Author.Needs.{needs}
 use Rattle.table_view.proofs.find.ipid_taken.Statement.{statement}
 use Rattle.table_view.proofs.find.ipid_taken.Tie as tie
 
-returns : tie.Need-returns
-returns c s = rw (sym (c .before .is-nil .ensures) ∙ c .if1 .taken)
-
 returns-2 : tie.Need-returns-2
 returns-2 c s =
     let k = c .before .before .before in
@@ -47,7 +44,7 @@ ipid-taken-spec =
     (λ c κs. search needs)
     (λ c κs. search needs)
     (λ c κs. search needs)
-    returns
+    (λ c s. rw (sym (c .before .is-nil .ensures) ∙ c .if1 .taken))
     (λ c κs. search needs)
     (λ c κs. search needs)
     (λ c κs. search needs)

@@ -33,21 +33,6 @@ ends c =
     let h = list-ends (start .args .words .now) s (start .pre .2) (start .args .i) (start .pre .1) in
     omega arith
 
-list-start-requires : tie.Need-list-start-requires
-list-start-requires c κs = let h = begins (c .before .before) in (search needs, h)
-
-sub-stated-length : tie.Need-sub-stated-length
-sub-stated-length c = let h = begins (c .before .before .before) in let e = c .list-start .ensures in omega arith
-
-part-stated-length-start : tie.Need-part-stated-length-start
-part-stated-length-start c = let h = begins (c .before .before .before) in let e = c .list-start .ensures in omega arith
-
-add-to : tie.Need-add-to
-add-to c = let h = ends c in omega arith
-
-part-result-end : tie.Need-part-result-end
-part-result-end c = ends c
-
 returns : tie.Need-returns
 returns c =
     let k = c .before in
@@ -61,13 +46,13 @@ pub list-spec : {M : Type 1} → statement M
 list-spec =
     tie.close
     (tie.spec
-    list-start-requires
-    sub-stated-length
-    part-stated-length-start
+    (λ c κs. let h = begins (c .before .before) in (search needs, h))
+    (λ c. let h = begins (c .before .before .before) in let e = c .list-start .ensures in omega arith)
+    (λ c. let h = begins (c .before .before .before) in let e = c .list-start .ensures in omega arith)
     (λ c. search needs)
     (λ c κs. search needs)
-    add-to
+    (λ c. let h = ends c in omega arith)
     (λ c. search needs)
     (λ c. search needs)
-    part-result-end
+    (λ c. ends c)
     returns)

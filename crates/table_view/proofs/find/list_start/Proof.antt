@@ -18,9 +18,6 @@ Inv-loop store i at₀ j₀ at j = (j ≤ i) × (at ≡ listStart store j) × (a
 abbrev μ-loop : tie.MeasureT-loop
 μ-loop store i at₀ j₀ at j = i - j
 
-loop-holds : tie.Need-loop-holds Inv-loop μ-loop
-loop-holds c = (search needs, sym (start-first _), search needs)
-
 -- list j ends where the next one begins, which is not behind list i's start
 told : (c : tie.After-stated-length Inv-loop μ-loop)
     → c .before .before .before .loop .at + c .stated-length .result ≡ listStart (c .before .before .before .before .before .args .store .now) (c .before .before .before .loop .j + 1)
@@ -40,12 +37,6 @@ inside c =
     let r = starts-rise (start .args .store .now) (l .j + 1) (start .args .i) h in
     omega arith
 
-add-at : tie.Need-add-at Inv-loop μ-loop
-add-at c = let h = inside c in omega arith
-
-loop-again : tie.Need-loop-again Inv-loop μ-loop
-loop-again c = (search needs, told c, inside c)
-
 returns : tie.Need-returns Inv-loop μ-loop
 returns c =
     let l = c .before .loop in
@@ -58,13 +49,13 @@ list-start-spec =
     (tie.spec
     Inv-loop
     μ-loop
-    loop-holds
+    (λ c. (search needs, sym (start-first _), search needs))
     (λ c. search needs)
     (λ c. search needs)
     (λ c. search needs)
     (λ c κs. search needs)
-    add-at
+    (λ c. let h = inside c in omega arith)
     (λ c. search needs)
     (λ c. search needs)
-    loop-again
+    (λ c. (search needs, told c, inside c))
     returns)
