@@ -8,8 +8,7 @@ use lib.Dec.{eqb}
 use Rattle.kinds.proofs.Refusing.{by-test}
 use Rattle.lists.specs.Lists.{tabulate}
 use Rattle.lists.proofs.Lists.{map-append, map-tabulate, length-tabulate, tabulate-ext, tabulate-getD}
-use Rattle.rules.specs.Calls.{Call, starting, looking, editing, Counting, reset, enterExporter, removeExporter, enterObject, enterInterface, add, release, dropClient}
-use Rattle.rules.specs.Calls.{countList, simplePing, complexPing, clock, resolve, resolveFiltered, census, members, nextStop, writeSnapshot, loadSnapshot}
+use Rattle.rules.specs.Calls.{Call, starting, looking, editing, Counting, countList}
 use Rattle.rules.specs.Items.{itemAt, itemCount, itemsOf, itemCall}
 use Rattle.rules.specs.Rules.{itemNumbers, number, results, acceptedReply, refusedReply, reply}
 use Rattle.rules.proofs.Stepping.{reply-number}

@@ -17,7 +17,7 @@ use Rattle.rules.specs.Sound.{sound, heardWithin, pingedWithin}
 use Rattle.rules.specs.Rules.{number, next, refusals, withoutObjects}
 use Rattle.rules.proofs.LeavingKeeps.{clock-next}
 use Rattle.history.specs.History.{ExporterLife, ObjectLife, InterfaceLife, SetLife, History, atZero, interfacesAtZero, exporterRemoved, unheard, objectGone, liveExporters, liveObjects}
-use Rattle.history.specs.History.{liveInterface, liveSet, noExporterLife, exporterEntry, objectEntry, interfaceEntry, setEntry, live, atClock, withExporterLives, removedLife, lived}
+use Rattle.history.specs.History.{liveInterface, noExporterLife, exporterEntry, objectEntry, interfaceEntry, setEntry, live, atClock, withExporterLives, removedLife, lived}
 use Rattle.lists.proofs.Elements.{In, some-in, keep-in, map-ext-in, keep-ext-in, kept-changed, first-unread, first-sole, some-sole, kept-sole}
 use Rattle.history.proofs.Lives.{serialOfExporter, named-sole, Kept, kept-from, still}
 use Rattle.history.proofs.Identities.{live-sole, owner-oid, one-oid, among-oids}

@@ -10,7 +10,7 @@ use lib.ListN.{set, length, length-append, length-map, length-set}
 use lib.Seq.{map-set-same}
 use lib.Dec.{eqb}
 use Rattle.kinds.proofs.Refusing.{or-false}
-use Rattle.lists.specs.Lists.{distinct, firstIndex, among}
+use Rattle.lists.specs.Lists.{distinct, firstIndex}
 use Rattle.lists.proofs.Lists.{map-append}
 use Rattle.lists.proofs.First.{first-here, first-right}
 use Rattle.lists.proofs.Distinct.{eqb-decides, entry-change}

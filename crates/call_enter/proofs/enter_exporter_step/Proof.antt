@@ -3,7 +3,6 @@ use mathlib.Core.Path.{sym, _∙_}
 use native.Mathlib.Omega.{arith}
 use Rattle.rules.specs.Rules.{next, results, refusedReply, acceptedReply}
 use Rattle.rules.proofs.SoundLaws.{sound-fields}
-use Rattle.table_view.specs.View.{memory, view}
 use Rattle.table_view.proofs.LiveRows.{exporters-length}
 use Rattle.table_view.proofs.KeptLists.{bytes-live}
 use Rattle.table_view.proofs.Steps.{refused-step, accepted-step}

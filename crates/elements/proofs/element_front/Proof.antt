@@ -10,7 +10,7 @@ use Rattle.kinds.specs.Refusals.{_gives_, differ, order}
 use Rattle.kinds.specs.declared.Guid.{Guid}
 use Rattle.kinds.proofs.Refusing.{ne-differ, eq-differ}
 use Rattle.fields.specs.Fields.{field, rounded, guidAt}
-use Rattle.elements.specs.Elements.{isNil, contentSize, elementLength, elementFront}
+use Rattle.elements.specs.Elements.{isNil, contentSize, elementFront}
 use borrow.Author.Needs.{needs}
 use Rattle.elements.proofs.element_front.Statement.{statement}
 use Rattle.elements.proofs.element_front.Tie as tie

@@ -1,6 +1,6 @@
 -- `find::ipid_taken`: nil, or in one of the two pairs of columns.
 use mathlib.Core.Path.{_≡_, sym, ap, _∙_}
-use mathlib.Core.Bool.{true, false}
+use mathlib.Core.Bool.{true}
 use mathlib.Core.List.{map}
 use Rattle.lists.specs.Lists.{some}
 use Rattle.lists.specs.Guids.{sameGuid}
