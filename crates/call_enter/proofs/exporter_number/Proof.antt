@@ -1,73 +1,71 @@
 -- `call_enter::exporter_number`: the tests of the identifiers in turn, then the refusals of the list.
+use Prim.Native.Nat.{ℕ, _<_, _≤_}
 use mathlib.Core.Path.{_≡_, sym, _∙_}
-use mathlib.Core.Bool.{_||_}
+use mathlib.Core.Bool.{Bool, true, false, _||_}
 use mathlib.Core.List.{List, _∷_}
 use borrow.Author.Tests.{eq-eqb, ne-eqb, lt-ltb, le-ltb}
-use lib.Dec.{eqb, ltb}
-use Rattle.kinds.specs.Refusals.{Row, order, _gives_}
+use lib.Dec.{eqb}
+use Rattle.kinds.specs.Refusals.{order, _gives_}
+use Rattle.kinds.specs.declared.Guid.{Guid}
 use Rattle.lists.specs.Lists.{some}
 use Rattle.lists.specs.Guids.{nil, sameGuid}
-use Rattle.rules.specs.Entries.{Entries, ipids}
+use Rattle.rules.specs.Entries.{ipids, exporterRow}
 use Rattle.rules.specs.Calls.{Call, Edit}
 use Rattle.rules.specs.Rules.{refusals, number, listRefusals, isLiveExporter}
+use Rattle.rules.specs.Sound.{listsKept}
+use Rattle.rules.specs.Contract.{Whole}
 use Rattle.rules.proofs.SoundLaws.{sound-fields}
-use Rattle.table_view.specs.View.{memory, view}
+use Rattle.table_view.specs.View.{exporterCount, memory, view, SoundTable, Holds}
 use Rattle.table_view.proofs.Steps.{row-gives, row-passes, identifier-rows, exporter-tested}
 use borrow.Author.Needs.{needs}
 use Rattle.call_enter.proofs.exporter_number.Statement.{statement}
 use Rattle.call_enter.proofs.exporter_number.Tie as tie
 
-list-number-requires : tie.Need-list-number-requires
-list-number-requires c κs =
-    let st = c .before .before .before .before .before .before .before .before .before .before in
-    (st .pre .words, st .pre .store, sound-fields (view (memory (st .args .words .now) (st .args .store .now))) (st .pre .entries) .listsKept)
+kept : (ws s : List ℕ) → SoundTable (memory ws s) → Whole ws × Whole s × (listsKept (view (memory ws s)) ≡ true)
+kept ws s t = (t .words, t .store, sound-fields _ (t .entries) .listsKept)
 
--- the live entries
-abbrev At : tie.Start → Entries
-At st = view (memory (st .args .words .now) (st .args .store .now))
+module _ (ws s list : List ℕ) (x : ℕ) (u : Guid) where
+  abbrev call : Call
+  call = Call.editing (Edit.enterExporter x u list)
 
--- the number, and the rows that are left of the refusals
-abbrev Left : tie.Start → List Row → Type 0
-Left st rows = number (Call.editing (Edit.enterExporter (st .args .oxid .0) (st .args .unknown) (st .args .list .now))) (At st) ≡ order rows
+  -- the row of 3 as three
+  left-0 : number call (view (memory ws s))
+      ≡ order
+      (eqb x 0 gives 3
+      ∷ isLiveExporter (view (memory ws s)) x gives 3
+      ∷ (sameGuid u nil || some (sameGuid u) (ipids (view (memory ws s)))) gives 3
+      ∷ listRefusals list (view (memory ws s)))
+  unfolding number refusals
+  left-0 = identifier-rows (eqb x 0) (isLiveExporter (view (memory ws s)) x) _ 3 _
 
--- the row of 3 as three
-abbrev badIpid : tie.Start → List Row
-badIpid st = (sameGuid (st .args .unknown) nil || some (sameGuid (st .args .unknown)) (ipids (At st))) gives 3 ∷ listRefusals (st .args .list .now) (At st)
+  zero : x ≡ 0 → 3 ≡ number call (view (memory ws s))
+  zero h = row-gives _ _ _ left-0 (eq-eqb _ 0 h)
 
-abbrev badOxid : tie.Start → List Row
-badOxid st = isLiveExporter (At st) (st .args .oxid .0) gives 3 ∷ badIpid st
+  module _ (given : x ≡ 0 → ⊥) (n : ℕ) (counted : n ≡ exporterCount ws) (r : ℕ) where
+    live : r < n → Holds (λ e. r ≡ exporterRow e x) ws → 3 ≡ number call (view (memory ws s))
+    live h row = row-gives _ _ _ (row-passes _ _ _ left-0 (ne-eqb _ 0 given)) (exporter-tested ws s x (row s) counted ∙ lt-ltb _ _ h)
 
-live-judged : (c : tie.After-exporter-count) → let st = c .before .before .before .before .before .before .before in
-    isLiveExporter (At st) (st .args .oxid .0) ≡ ltb (c .before .exporter-row .result) (c .exporter-count .result)
-live-judged c = exporter-tested _ _ _ (c .before .exporter-row .ensures _) (c .exporter-count .ensures .0)
+    module _ (new : n ≤ r) (row : Holds (λ e. r ≡ exporterRow e x) ws) (b : Bool) where
+      left-2 : number call (view (memory ws s))
+          ≡ order ((sameGuid u nil || some (sameGuid u) (ipids (view (memory ws s)))) gives 3 ∷ listRefusals list (view (memory ws s)))
+      left-2 = row-passes _ _ _ (row-passes _ _ _ left-0 (ne-eqb _ 0 given)) (exporter-tested ws s x (row s) counted ∙ le-ltb _ _ new)
 
--- each row that does not hold
-left-0 : (st : tie.Start) → Left st (eqb (st .args .oxid .0) 0 gives 3 ∷ badOxid st)
-unfolding number refusals
-left-0 st =
-    let a = st .args in
-    let e = At st in
-    identifier-rows (eqb (a .oxid .0) 0) (isLiveExporter e (a .oxid .0)) (sameGuid (a .unknown) nil || some (sameGuid (a .unknown)) (ipids e)) 3 _
+      taken : b ≡ true → Holds (λ e. b ≡ (sameGuid u nil || some (sameGuid u) (ipids e))) ws → 3 ≡ number call (view (memory ws s))
+      taken h judged = row-gives _ _ _ left-2 (sym (judged s) ∙ h)
 
-left-1 : (c : tie.Else1) → Left (c .before .before .before .before .before) (badOxid (c .before .before .before .before .before))
-left-1 c = row-passes _ _ _ (left-0 (c .before .before .before .before .before)) (ne-eqb _ 0 (c .if1 .left))
-
-left-2 : (c : tie.Else2) → Left (c .before .before .before .before .before .before .before .before) (badIpid (c .before .before .before .before .before .before .before .before))
-left-2 c = row-passes _ _ _ (left-1 (c .before .before .before)) (live-judged (c .before) ∙ le-ltb _ _ (c .if2 .left))
-
-returns-4 : tie.Need-returns-4
-returns-4 c =
-    c .list-number .ensures ∙ sym (row-passes _ _ _ (left-2 (c .before .before .before)) (sym (c .before .before .ipid-taken .ensures _) ∙ c .before .if3 .left))
+      rest : b ≡ false → Holds (λ e. b ≡ (sameGuid u nil || some (sameGuid u) (ipids e))) ws → (k : ℕ) → k ≡ order (listRefusals list (view (memory ws s)))
+          → k ≡ number call (view (memory ws s))
+      rest h judged k e = e ∙ sym (row-passes _ _ _ left-2 (sym (judged s) ∙ h))
 
 pub exporter-number-spec : {M : Type 1} → statement M
 exporter-number-spec =
     tie.close
     (tie.spec
-    (λ c. row-gives _ _ _ (left-0 (c .before .before .before .before .before)) (eq-eqb _ 0 (c .if1 .taken)))
+    (λ c. search zero)
     (λ c κs. search needs)
     (λ c κs. search needs)
-    (λ c. row-gives _ _ _ (left-1 (c .before .before .before)) (live-judged (c .before) ∙ lt-ltb _ _ (c .if2 .taken)))
+    (λ c. search live)
     (λ c κs. search needs)
-    (λ c. row-gives _ _ _ (left-2 (c .before .before)) (sym (c .before .ipid-taken .ensures _) ∙ c .if3 .taken))
-    list-number-requires
-    returns-4)
+    (λ c. search taken)
+    (λ c κs. search kept)
+    (λ c. search rest))

@@ -1,96 +1,78 @@
 -- `call_enter::interface_number`: the rows of the refusals in turn.
-use Prim.Native.Nat.{ℕ}
+use Prim.Native.Nat.{ℕ, _<_, _≤_}
 use mathlib.Core.Path.{_≡_, refl, sym, _∙_}
+use mathlib.Core.Bool.{Bool, true, false, _||_}
 use mathlib.Core.List.{List}
 use borrow.Author.Tests.{eq-eqb, ne-eqb, le-leb, lt-leb}
-use lib.Dec.{ltb, leb}
-use lib.ListN.{length, drop}
+use lib.ListN.{drop}
 use Rattle.kinds.specs.Refusals.{order}
 use Rattle.kinds.specs.declared.Guid.{Guid}
-use Rattle.rules.specs.Entries.{Entries, interfacePlaces}
+use Rattle.lists.specs.Lists.{some}
+use Rattle.lists.specs.Guids.{nil, sameGuid}
+use Rattle.rules.specs.Entries.{ipids, objectRow, interfacePlaces}
 use Rattle.rules.specs.Calls.{Call, Edit}
-use Rattle.rules.specs.Rules.{refusals, number, isLiveObject}
-use Rattle.table_view.specs.View.{memory, view}
+use Rattle.rules.specs.Rules.{refusals, number}
+use Rattle.table_view.specs.View.{objectCount, interfaceCount, interfacesOf, memory, view, Holds}
 use Rattle.table_view.proofs.LiveRows.{interfaces-length}
 use Rattle.table_view.proofs.Steps.{row-gives, row-passes, gone-gives, live-passes, rows-end, object-tested, full-tested}
 use borrow.Author.Needs.{needs}
 use Rattle.call_enter.proofs.interface_number.Statement.{statement}
 use Rattle.call_enter.proofs.interface_number.Tie as tie
 
--- the live entries, with any store
-abbrev At : tie.Start → List ℕ → Entries
-At st s = view (memory (st .args .words .now) s)
+module _ (ws s : List ℕ) (o : ℕ) (i iid : Guid) (p : ℕ) where
+  abbrev call : Call
+  call = Call.editing (Edit.enterInterface o i iid p)
 
--- the rows that are left after the first k
-abbrev Left : ℕ → tie.Start → List ℕ → Guid → Type 0
-Left k st s iid =
-    let a = st .args in
-    let call = Call.editing (Edit.enterInterface (a .oid .0) (a .ipid) iid (a .public)) in
-    number call (At st s) ≡ order (drop k (refusals call (At st s)))
+  -- the rows that are left after the first k
+  abbrev Left : ℕ → Type 0
+  Left k = number call (view (memory ws s)) ≡ order (drop k (refusals call (view (memory ws s))))
 
--- tests of the rows
-live-judged : (c : tie.After-object-row) (s : List ℕ) → let st = c .before .before .before .before .before in
-    isLiveObject (At st s) (st .args .oid .0) ≡ ltb (c .object-row .result) (c .before .object-count .result)
-live-judged c s = object-tested _ s _ (c .object-row .ensures s) (c .before .object-count .ensures .0)
+  module _ (b : Bool) where
+    taken : b ≡ true → Holds (λ e. b ≡ (sameGuid i nil || some (sameGuid i) (ipids e))) ws → 3 ≡ number call (view (memory ws s))
+    unfolding number refusals
+    taken h judged = row-gives _ _ _ refl (sym (judged s) ∙ h)
 
-full-judged : (c : tie.After-interface-count) (s : List ℕ) → let st = c .before .before .before .before .before .before .before .before in
-    leb interfacePlaces (length (At st s .interfaces)) ≡ leb interfacePlaces (c .interface-count .result)
-full-judged c s =
-    let st = c .before .before .before .before .before .before .before .before in
-    full-tested (At st s .interfaces) interfacePlaces (interfaces-length (st .args .words .now)) (c .interface-count .ensures .0)
+    module _ (free : b ≡ false) (judged : Holds (λ e. b ≡ (sameGuid i nil || some (sameGuid i) (ipids e))) ws) (n : ℕ) (counted : n ≡ objectCount ws) (r : ℕ) where
+      left-1 : Left 1
+      unfolding number refusals
+      left-1 = row-passes _ _ _ refl (sym (judged s) ∙ free)
 
--- each row that does not hold
-module _ (s : List ℕ) (iid : Guid) where
-  left-0 : (st : tie.Start) → Left 0 st s iid
-  unfolding number
-  left-0 st = refl
+      gone : n ≤ r → Holds (λ e. r ≡ objectRow e o) ws → 5 ≡ number call (view (memory ws s))
+      unfolding refusals
+      gone h row = gone-gives (object-tested ws s o (row s) counted) _ _ left-1 h
 
-  left-1 : (c : tie.Else1) → Left 1 (c .before .before .before) s iid
-  unfolding refusals
-  left-1 c = row-passes _ _ _ (left-0 (c .before .before .before)) (sym (c .before .ipid-taken .ensures s) ∙ c .if1 .left)
+      module _ (live : r < n) (row : Holds (λ e. r ≡ objectRow e o) ws) where
+        left-2 : Left 2
+        unfolding refusals
+        left-2 = live-passes (object-tested ws s o (row s) counted) _ _ left-1 live
 
-  left-2 : (c : tie.Else2) → Left 2 (c .before .before .before .before .before .before) s iid
-  unfolding refusals
-  left-2 c = live-passes (live-judged (c .before) s) _ _ (left-1 (c .before .before .before)) (c .if2 .left)
+        no-references : p ≡ 0 → 7 ≡ number call (view (memory ws s))
+        unfolding refusals
+        no-references h = row-gives _ _ _ left-2 (eq-eqb _ 0 h)
 
-  left-3 : (c : tie.Else3) → Left 3 (c .before .before .before .before .before .before .before) s iid
-  unfolding refusals
-  left-3 c = row-passes _ _ _ (left-2 (c .before)) (ne-eqb _ 0 (c .if3 .left))
+        module _ (given : p ≡ 0 → ⊥) (m : ℕ) (there : m ≡ interfaceCount ws) where
+          left-3 : Left 3
+          unfolding refusals
+          left-3 = row-passes _ _ _ left-2 (ne-eqb _ 0 given)
 
-  left-4 : (c : tie.Else4) → Left 4 (c .before .before .before .before .before .before .before .before .before) s iid
-  unfolding refusals
-  left-4 c = row-passes _ _ _ (left-3 (c .before .before)) (full-judged (c .before) s ∙ lt-leb _ _ (c .if4 .left))
+          full : interfacePlaces ≤ m → 9 ≡ number call (view (memory ws s))
+          unfolding refusals
+          full h = row-gives _ _ _ left-3 (full-tested (interfacesOf ws) interfacePlaces (interfaces-length ws) there ∙ le-leb _ _ h)
 
-returns : tie.Need-returns
-unfolding refusals
-returns c s iid = row-gives _ _ _ (left-0 s iid (c .before .before .before)) (sym (c .before .ipid-taken .ensures s) ∙ c .if1 .taken)
-
-returns-2 : tie.Need-returns-2
-unfolding refusals
-returns-2 c s iid = gone-gives (live-judged (c .before) s) _ _ (left-1 s iid (c .before .before .before)) (c .if2 .taken)
-
-returns-3 : tie.Need-returns-3
-unfolding refusals
-returns-3 c s iid = row-gives _ _ _ (left-2 s iid (c .before)) (eq-eqb _ 0 (c .if3 .taken))
-
-returns-4 : tie.Need-returns-4
-unfolding refusals
-returns-4 c s iid = row-gives _ _ _ (left-3 s iid (c .before .before)) (full-judged (c .before) s ∙ le-leb _ _ (c .if4 .taken))
-
-returns-5 : tie.Need-returns-5
-unfolding refusals
-returns-5 c s iid = rows-end (left-4 s iid c)
+          done : m < interfacePlaces → 0 ≡ number call (view (memory ws s))
+          unfolding refusals
+          done h = rows-end (row-passes _ _ _ left-3 (full-tested (interfacesOf ws) interfacePlaces (interfaces-length ws) there ∙ lt-leb _ _ h))
 
 pub interface-number-spec : {M : Type 1} → statement M
 interface-number-spec =
     tie.close
     (tie.spec
     (λ c κs. search needs)
-    returns
+    (λ c s iid. search taken)
     (λ c κs. search needs)
     (λ c κs. search needs)
-    returns-2
-    returns-3
+    (λ c s iid. search gone)
+    (λ c s iid. search no-references)
     (λ c κs. search needs)
-    returns-4
-    returns-5)
+    (λ c s iid. search full)
+    (λ c s iid. search done))

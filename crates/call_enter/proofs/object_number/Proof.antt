@@ -1,122 +1,113 @@
 -- `call_enter::object_number`: the rows of the refusals in turn, the first as its three tests and the last as its two.
-use Prim.Native.Nat.{ℕ}
+use Prim.Native.Nat.{ℕ, _<_, _≤_}
 use mathlib.Core.Path.{_≡_, sym, _∙_}
-use mathlib.Core.Bool.{Bool, not, _||_}
+use mathlib.Core.Bool.{Bool, true, false, not, _||_}
 use mathlib.Core.List.{List, [], _∷_}
 use borrow.Author.Tests.{eq-eqb, ne-eqb, lt-ltb, le-ltb, le-leb, lt-leb}
-use lib.Dec.{eqb, ltb, leb}
+use lib.Dec.{eqb, leb}
 use lib.ListN.{length, drop}
 use Rattle.kinds.specs.Refusals.{order, _gives_}
 use Rattle.kinds.specs.declared.Guid.{Guid}
 use Rattle.lists.specs.Lists.{some}
 use Rattle.lists.specs.Guids.{nil, sameGuid}
-use Rattle.rules.specs.Entries.{Entries, ipids, objectPlaces, interfacePlaces}
+use Rattle.rules.specs.Entries.{ipids, exporterRow, objectRow, objectPlaces, interfacePlaces}
 use Rattle.rules.specs.Calls.{Call, Edit}
 use Rattle.rules.specs.Rules.{refusals, number, isLiveExporter, isLiveObject}
-use Rattle.table_view.specs.View.{objectCount, interfaceCount, memory, view}
+use Rattle.table_view.specs.View.{exporterCount, objectCount, interfaceCount, objectsOf, interfacesOf, memory, view, Holds}
 use Rattle.table_view.proofs.LiveRows.{objects-length, interfaces-length}
 use Rattle.table_view.proofs.Steps.{row-gives, row-passes, gone-gives, live-passes, rows-end, two-rows, identifier-rows, exporter-tested, object-tested, full-tested}
 use borrow.Author.Needs.{needs}
 use Rattle.call_enter.proofs.object_number.Statement.{statement}
 use Rattle.call_enter.proofs.object_number.Tie as tie
 
--- the live entries, with any store
-abbrev At : tie.Start → List ℕ → Entries
-At st s = view (memory (st .args .words .now) s)
+module _ (ws s : List ℕ) (o x : ℕ) (i iid : Guid) (p : ℕ) (np : Bool) where
+  abbrev call : Call
+  call = Call.editing (Edit.enterObject o x i iid p np)
 
--- the rows that are left after the first k
-abbrev Left : ℕ → tie.Start → List ℕ → Guid → Bool → Type 0
-Left k st s iid np =
-    let a = st .args in
-    let e = At st s in
-    number (Call.editing (Edit.enterObject (a .oid .0) (a .oxid .0) (a .ipid) iid (a .public) np)) e
-    ≡ order
-    (drop k
-    (eqb (a .oid .0) 0 gives 3
-    ∷ isLiveObject e (a .oid .0) gives 3
-    ∷ (sameGuid (a .ipid) nil || some (sameGuid (a .ipid)) (ipids e)) gives 3
-    ∷ not (isLiveExporter e (a .oxid .0)) gives 4
-    ∷ eqb (a .public) 0 gives 7
-    ∷ leb objectPlaces (length (e .objects)) gives 9
-    ∷ leb interfacePlaces (length (e .interfaces)) gives 9
-    ∷ []))
+  -- the rows that are left after the first k, the first as its three tests and the last as its two
+  abbrev Left : ℕ → Type 0
+  Left k =
+      let e = view (memory ws s) in
+      number call e
+      ≡ order
+      (drop k
+      (eqb o 0 gives 3
+      ∷ isLiveObject e o gives 3
+      ∷ (sameGuid i nil || some (sameGuid i) (ipids e)) gives 3
+      ∷ not (isLiveExporter e x) gives 4
+      ∷ eqb p 0 gives 7
+      ∷ leb objectPlaces (length (objectsOf ws)) gives 9
+      ∷ leb interfacePlaces (length (interfacesOf ws)) gives 9
+      ∷ []))
 
--- tests of the rows
-live-judged : (c : tie.After-object-count) (s : List ℕ) → let st = c .before .before .before .before .before in
-    isLiveObject (At st s) (st .args .oid .0) ≡ ltb (c .before .object-row .result) (c .object-count .result)
-live-judged c s = object-tested _ s _ (c .before .object-row .ensures s) (c .object-count .ensures .0)
-
-exporter-judged : (c : tie.After-exporter-row) (s : List ℕ) → let st = c .before .before .before .before .before .before .before .before .before .before in
-    isLiveExporter (At st s) (st .args .oxid .0) ≡ ltb (c .exporter-row .result) (c .before .exporter-count .result)
-exporter-judged c s = exporter-tested _ s _ (c .exporter-row .ensures s) (c .before .exporter-count .ensures .0)
-
-full-objects : (st : tie.Start) (s : List ℕ) {n : ℕ} → n ≡ objectCount (st .args .words .now) → leb objectPlaces (length (At st s .objects)) ≡ leb objectPlaces n
-full-objects st s e = full-tested (At st s .objects) objectPlaces (objects-length (st .args .words .now)) e
-
-full-interfaces : (st : tie.Start) (s : List ℕ) {n : ℕ} → n ≡ interfaceCount (st .args .words .now) → leb interfacePlaces (length (At st s .interfaces)) ≡ leb interfacePlaces n
-full-interfaces st s e = full-tested (At st s .interfaces) interfacePlaces (interfaces-length (st .args .words .now)) e
-
-abbrev start : tie.Else4 → tie.Start
-start c = c .before .before .before .before .before .before .before .before .before .before .before
-
--- each row that does not hold
-module _ (s : List ℕ) (iid : Guid) (np : Bool) where
-  left-0 : (st : tie.Start) → Left 0 st s iid np
+  left-0 : Left 0
   unfolding number refusals order
-  left-0 st =
-      let a = st .args in
-      let e = At st s in
-      identifier-rows (eqb (a .oid .0) 0) (isLiveObject e (a .oid .0)) (sameGuid (a .ipid) nil || some (sameGuid (a .ipid)) (ipids e)) 3
-      (drop 1 (refusals (Call.editing (Edit.enterObject (a .oid .0) (a .oxid .0) (a .ipid) iid (a .public) np)) e))
-      ∙ rw (two-rows (leb objectPlaces (length (e .objects))) (leb interfacePlaces (length (e .interfaces))) 9 [])
+  left-0 =
+      let e = view (memory ws s) in
+      identifier-rows (eqb o 0) (isLiveObject e o) (sameGuid i nil || some (sameGuid i) (ipids e)) 3 (drop 1 (refusals call e))
+      ∙ rw (two-rows (leb objectPlaces (length (objectsOf ws))) (leb interfacePlaces (length (interfacesOf ws))) 9 [])
 
-  left-1 : (c : tie.Else1) → Left 1 (c .before .before .before) s iid np
-  left-1 c = row-passes _ _ _ (left-0 (c .before .before .before)) (ne-eqb _ 0 (c .if1 .left))
+  zero : o ≡ 0 → 3 ≡ number call (view (memory ws s))
+  zero h = row-gives _ _ _ left-0 (eq-eqb _ 0 h)
 
-  left-2 : (c : tie.Else2) → Left 2 (c .before .before .before .before .before .before) s iid np
-  left-2 c = row-passes _ _ _ (left-1 (c .before .before .before)) (live-judged (c .before) s ∙ le-ltb _ _ (c .if2 .left))
+  module _ (given : o ≡ 0 → ⊥) (n : ℕ) (counted : n ≡ objectCount ws) (r : ℕ) where
+    live : r < n → Holds (λ e. r ≡ objectRow e o) ws → 3 ≡ number call (view (memory ws s))
+    live h row = row-gives _ _ _ (row-passes _ _ _ left-0 (ne-eqb _ 0 given)) (object-tested ws s o (row s) counted ∙ lt-ltb _ _ h)
 
-  left-3 : (c : tie.Else3) → Left 3 (c .before .before .before .before .before .before .before .before) s iid np
-  left-3 c = row-passes _ _ _ (left-2 (c .before .before)) (sym (c .before .ipid-taken .ensures s) ∙ c .if3 .left)
+    module _ (new : n ≤ r) (row : Holds (λ e. r ≡ objectRow e o) ws) (b : Bool) where
+      left-2 : Left 2
+      left-2 = row-passes _ _ _ (row-passes _ _ _ left-0 (ne-eqb _ 0 given)) (object-tested ws s o (row s) counted ∙ le-ltb _ _ new)
 
-  left-4 : (c : tie.Else4) → Left 4 (start c) s iid np
-  left-4 c = live-passes (exporter-judged (c .before) s) _ _ (left-3 (c .before .before .before)) (c .if4 .left)
+      taken : b ≡ true → Holds (λ e. b ≡ (sameGuid i nil || some (sameGuid i) (ipids e))) ws → 3 ≡ number call (view (memory ws s))
+      taken h judged = row-gives _ _ _ left-2 (sym (judged s) ∙ h)
 
-  left-5 : (c : tie.Else5) → Left 5 (start (c .before)) s iid np
-  left-5 c = row-passes _ _ _ (left-4 (c .before)) (ne-eqb _ 0 (c .if5 .left))
+      module _ (free : b ≡ false) (judged : Holds (λ e. b ≡ (sameGuid i nil || some (sameGuid i) (ipids e))) ws) (m : ℕ) (exporters : m ≡ exporterCount ws) (k : ℕ) where
+        left-3 : Left 3
+        left-3 = row-passes _ _ _ left-2 (sym (judged s) ∙ free)
 
-  left-6 : (c : tie.Else6) → Left 6 (start (c .before .before .before)) s iid np
-  left-6 c = row-passes _ _ _ (left-5 (c .before .before)) (full-objects (start (c .before .before .before)) s (c .before .object-count2 .ensures .0) ∙ lt-leb _ _ (c .if6 .left))
+        gone : m ≤ k → Holds (λ e. k ≡ exporterRow e x) ws → 4 ≡ number call (view (memory ws s))
+        gone h at = gone-gives (exporter-tested ws s x (at s) exporters) _ _ left-3 h
 
-  left-7 : (c : tie.Else7) → Left 7 (start (c .before .before .before .before .before)) s iid np
-  left-7 c = row-passes _ _ _ (left-6 (c .before .before)) (full-interfaces (start (c .before .before .before .before .before)) s (c .before .interface-count .ensures .0) ∙ lt-leb _ _ (c .if7 .left))
+        module _ (owned : k < m) (at : Holds (λ e. k ≡ exporterRow e x) ws) where
+          left-4 : Left 4
+          left-4 = live-passes (exporter-tested ws s x (at s) exporters) _ _ left-3 owned
 
-returns-2 : tie.Need-returns-2
-returns-2 c s iid np = row-gives _ _ _ (left-1 s iid np (c .before .before .before)) (live-judged (c .before) s ∙ lt-ltb _ _ (c .if2 .taken))
+          no-references : p ≡ 0 → 7 ≡ number call (view (memory ws s))
+          no-references h = row-gives _ _ _ left-4 (eq-eqb _ 0 h)
 
-returns-6 : tie.Need-returns-6
-returns-6 c s iid np = row-gives _ _ _ (left-5 s iid np (c .before .before)) (full-objects (start (c .before .before .before)) s (c .before .object-count2 .ensures .0) ∙ le-leb _ _ (c .if6 .taken))
+          module _ (held : p ≡ 0 → ⊥) (n₂ : ℕ) (again : n₂ ≡ objectCount ws) where
+            left-5 : Left 5
+            left-5 = row-passes _ _ _ left-4 (ne-eqb _ 0 held)
 
-returns-7 : tie.Need-returns-7
-returns-7 c s iid np =
-    row-gives _ _ _ (left-6 s iid np (c .before .before)) (full-interfaces (start (c .before .before .before .before .before)) s (c .before .interface-count .ensures .0) ∙ le-leb _ _ (c .if7 .taken))
+            full : objectPlaces ≤ n₂ → 9 ≡ number call (view (memory ws s))
+            full h = row-gives _ _ _ left-5 (full-tested (objectsOf ws) objectPlaces (objects-length ws) again ∙ le-leb _ _ h)
+
+            module _ (place : n₂ < objectPlaces) (q : ℕ) (there : q ≡ interfaceCount ws) where
+              left-6 : Left 6
+              left-6 = row-passes _ _ _ left-5 (full-tested (objectsOf ws) objectPlaces (objects-length ws) again ∙ lt-leb _ _ place)
+
+              full-interfaces : interfacePlaces ≤ q → 9 ≡ number call (view (memory ws s))
+              full-interfaces h = row-gives _ _ _ left-6 (full-tested (interfacesOf ws) interfacePlaces (interfaces-length ws) there ∙ le-leb _ _ h)
+
+              done : q < interfacePlaces → 0 ≡ number call (view (memory ws s))
+              done h = rows-end (row-passes _ _ _ left-6 (full-tested (interfacesOf ws) interfacePlaces (interfaces-length ws) there ∙ lt-leb _ _ h))
 
 pub object-number-spec : {M : Type 1} → statement M
 object-number-spec =
     tie.close
     (tie.spec
-    (λ c s iid np. row-gives _ _ _ (left-0 s iid np (c .before .before .before)) (eq-eqb _ 0 (c .if1 .taken)))
+    (λ c s iid np. search zero)
     (λ c κs. search needs)
     (λ c κs. search needs)
-    returns-2
+    (λ c s iid np. search live)
     (λ c κs. search needs)
-    (λ c s iid np. row-gives _ _ _ (left-2 s iid np (c .before .before)) (sym (c .before .ipid-taken .ensures s) ∙ c .if3 .taken))
+    (λ c s iid np. search taken)
     (λ c κs. search needs)
     (λ c κs. search needs)
-    (λ c s iid np. gone-gives (exporter-judged (c .before) s) _ _ (left-3 s iid np (c .before .before .before)) (c .if4 .taken))
-    (λ c s iid np. row-gives _ _ _ (left-4 s iid np (c .before)) (eq-eqb _ 0 (c .if5 .taken)))
+    (λ c s iid np. search gone)
+    (λ c s iid np. search no-references)
     (λ c κs. search needs)
-    returns-6
+    (λ c s iid np. search full)
     (λ c κs. search needs)
-    returns-7
-    (λ c s iid np. rows-end (left-7 s iid np c)))
+    (λ c s iid np. search full-interfaces)
+    (λ c s iid np. search done))
