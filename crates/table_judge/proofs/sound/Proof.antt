@@ -1,92 +1,87 @@
 -- `table_judge::sound`: both lengths, then the groups of clauses in turn.
 use Prim.Native.Nat.{ℕ}
 use mathlib.Core.Path.{_≡_, sym, _∙_}
-use mathlib.Core.Bool.{Bool}
-use mathlib.Core.List.{List, _∷_}
+use mathlib.Core.Bool.{Bool, true, false, not}
+use mathlib.Core.List.{List, [], _∷_}
 use borrow.Author.Tests.{eq-eqb, ne-eqb, not-false}
 use lib.Dec.{eqb}
 use lib.ListN.{length, drop}
 use Rattle.lists.specs.Lists.{holding}
 use Rattle.lists.proofs.Tests.{holding-fails, holding-passes}
-use Rattle.rules.specs.Sound.{groups}
+use Rattle.rules.specs.Sound.{proper, groups, listsKept, namingClauses, objectClauses, interfaceClauses, setClauses}
 use Rattle.rules.specs.Contract as contract
 use Rattle.rules.proofs.SoundLaws.{sound-groups, clause-at}
-use Rattle.table_view.specs.View.{memory, view, soundMemory}
+use Rattle.table_view.specs.View.{oidsOf, memory, view, soundMemory, Holds}
 use Rattle.table_view.proofs.KeptLists.{lists-judged}
 use Rattle.table_judge.proofs.Clauses.{judged-fails, judged-passes, judged-last, clauses-after}
 use borrow.Author.Needs.{needs}
 use Rattle.table_judge.proofs.sound.Statement.{statement}
 use Rattle.table_judge.proofs.sound.Tie as tie
 
--- both lengths, and the groups of clauses
-abbrev clauses : List ℕ → List ℕ → List Bool
-clauses ws store = eqb (length ws) 8192 ∷ eqb (length store) 8192 ∷ groups (view (memory ws store))
+module _ (ws s : List ℕ) where
+  -- both lengths and the groups of clauses, without the first k
+  abbrev Left : ℕ → Type 0
+  Left k = soundMemory (memory ws s) ≡ holding (drop k (eqb (length ws) 8192 ∷ eqb (length s) 8192 ∷ groups (view (memory ws s))))
 
--- those that are left
-abbrev Left : ℕ → tie.Start → Type 0
-Left k st = soundMemory (memory (st .args .words .now) (st .args .store .now)) ≡ holding (drop k (clauses (st .args .words .now) (st .args .store .now)))
+  left-0 : Left 0
+  unfolding contract.soundMemory
+  left-0 = clauses-after _ _ _ _ (sound-groups (view (memory ws s)))
 
-all-left : (st : tie.Start) → Left 0 st
-unfolding contract.soundMemory
-all-left st = clauses-after _ _ _ _ (sound-groups (view (memory (st .args .words .now) (st .args .store .now))))
+  few-words : (length ws ≡ 8192 → ⊥) → false ≡ soundMemory (memory ws s)
+  few-words h = holding-fails _ _ left-0 (ne-eqb _ 8192 h)
 
-left-1 : (c : tie.Else1) → Left 1 (c .before .before .before)
-left-1 c = holding-passes _ _ (all-left (c .before .before .before)) (eq-eqb _ 8192 (c .if1 .left))
+  module _ (words : length ws ≡ 8192) where
+    few-bytes : (length s ≡ 8192 → ⊥) → false ≡ soundMemory (memory ws s)
+    few-bytes h = holding-fails _ _ (holding-passes _ _ left-0 (eq-eqb _ 8192 words)) (ne-eqb _ 8192 h)
 
-left-2 : (c : tie.Else2) → Left 2 (c .before .before .before .before)
-left-2 c = holding-passes _ _ (left-1 (c .before)) (eq-eqb _ 8192 (c .if2 .left))
+    module _ (bytes : length s ≡ 8192) (k : Bool) (kept : k ≡ listsKept (view (memory ws s))) where
+      left-2 : Left 2
+      left-2 = holding-passes _ _ (holding-passes _ _ left-0 (eq-eqb _ 8192 words)) (eq-eqb _ 8192 bytes)
 
-left-3 : (c : tie.Else3) → Left 3 (c .before .before .before .before .before .before)
-left-3 c =
-    let st = c .before .before .before .before .before .before in
-    judged-passes _ (left-2 (c .before .before)) (c .before .lists-kept .ensures ∙ lists-judged (st .args .words .now) (st .args .store .now) (c .before .before .if2 .left)) (c .if3 .left)
+      lists-fail : not k ≡ true → false ≡ soundMemory (memory ws s)
+      lists-fail h = judged-fails _ left-2 (kept ∙ lists-judged ws s bytes) h
 
-abbrev store : tie.Else4 → List ℕ
-store c = c .before .before .before .before .before .before .before .before .args .store .now
+      module _ (lists : not k ≡ false) (n : Bool) where
+        left-3 : Left 3
+        left-3 = judged-passes _ left-2 (kept ∙ lists-judged ws s bytes) lists
 
-left-4 : (c : tie.Else4) → Left 4 (c .before .before .before .before .before .before .before .before)
-left-4 c = judged-passes _ (left-3 (c .before .before)) (c .before .naming-sound .ensures (store c)) (c .if4 .left)
+        names-fail : not n ≡ true → Holds (λ e. n ≡ holding (namingClauses e)) ws → false ≡ soundMemory (memory ws s)
+        names-fail h judged = judged-fails _ left-3 (judged s) h
 
-left-5 : (c : tie.Else5) → Left 5 (c .before .before .before .before .before .before .before .before .before .before)
-left-5 c = judged-passes _ (left-4 (c .before .before)) (c .before .objects-sound .ensures (store (c .before .before))) (c .if5 .left)
+        module _ (named : not n ≡ false) (naming : Holds (λ e. n ≡ holding (namingClauses e)) ws) (o : Bool) where
+          left-4 : Left 4
+          left-4 = judged-passes _ left-3 (naming s) named
 
-left-6 : (c : tie.Else6) → Left 6 (c .before .before .before .before .before .before .before .before .before .before .before .before)
-left-6 c = judged-passes _ (left-5 (c .before .before)) (c .before .interfaces-sound .ensures (store (c .before .before .before .before))) (c .if6 .left)
+          objects-fail : not o ≡ true → Holds (λ e. o ≡ holding (objectClauses e)) ws → false ≡ soundMemory (memory ws s)
+          objects-fail h judged = judged-fails _ left-4 (judged s) h
 
-returns-3 : tie.Need-returns-3
-returns-3 c =
-    let st = c .before .before .before .before .before .before in
-    judged-fails _ (left-2 (c .before .before)) (c .before .lists-kept .ensures ∙ lists-judged (st .args .words .now) (st .args .store .now) (c .before .before .if2 .left)) (c .if3 .taken)
+          module _ (objects : not o ≡ false) (served : Holds (λ e. o ≡ holding (objectClauses e)) ws) (i : Bool) where
+            left-5 : Left 5
+            left-5 = judged-passes _ left-4 (served s) objects
 
-returns-4 : tie.Need-returns-4
-returns-4 c =
-    let store = c .before .before .before .before .before .before .before .before .args .store .now in
-    judged-fails _ (left-3 (c .before .before)) (c .before .naming-sound .ensures store) (c .if4 .taken)
+            interfaces-fail : not i ≡ true → Holds (λ e. i ≡ holding (interfaceClauses e)) ws → false ≡ soundMemory (memory ws s)
+            interfaces-fail h judged = judged-fails _ left-5 (judged s) h
 
-returns-5 : tie.Need-returns-5
-returns-5 c = judged-fails _ (left-4 (c .before .before)) (c .before .objects-sound .ensures (store (c .before .before))) (c .if5 .taken)
+            sets-last : not i ≡ false → Holds (λ e. i ≡ holding (interfaceClauses e)) ws → (r : Bool) → Holds (λ e. r ≡ holding (setClauses e)) ws
+                → r ≡ soundMemory (memory ws s)
+            sets-last h judged r sets = judged-last (judged-passes _ left-5 (judged s) h) (sets s)
 
-returns-6 : tie.Need-returns-6
-returns-6 c = judged-fails _ (left-5 (c .before .before)) (c .before .interfaces-sound .ensures (store (c .before .before .before .before))) (c .if6 .taken)
-
-sets-sound-requires : tie.Need-sets-sound-requires
-sets-sound-requires c κs =
-    let test = c .before .before .before .before in
-    (search needs, clause-at _ 2 (sym (test .before .naming-sound .ensures (store test)) ∙ not-false _ (test .if4 .left)))
+oids-proper : (ws : List ℕ) (n : Bool) → not n ≡ false → Holds (λ e. n ≡ holding (namingClauses e)) ws → proper (oidsOf ws) ≡ true
+oids-proper ws n h judged = clause-at _ 2 (sym (judged []) ∙ not-false _ h)
 
 pub sound-spec : {M : Type 1} → statement M
 sound-spec =
     tie.close
     (tie.spec
-    (λ c. holding-fails _ _ (all-left (c .before .before .before)) (ne-eqb _ 8192 (c .if1 .taken)))
-    (λ c. holding-fails _ _ (left-1 (c .before)) (ne-eqb _ 8192 (c .if2 .taken)))
+    (λ c. search few-words)
+    (λ c. search few-bytes)
     (λ c κs. search needs)
-    returns-3
+    (λ c. search lists-fail)
     (λ c κs. search needs)
-    returns-4
+    (λ c. search names-fail)
     (λ c κs. search needs)
-    returns-5
+    (λ c. search objects-fail)
     (λ c κs. search needs)
-    returns-6
-    sets-sound-requires
-    (λ c. judged-last (left-6 (c .before)) (c .sets-sound .ensures (store (c .before .before .before .before .before)))))
+    (λ c. search interfaces-fail)
+    (λ c κs. (search needs, search oids-proper))
+    (λ c. search sets-last))
