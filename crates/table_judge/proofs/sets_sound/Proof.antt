@@ -1,72 +1,69 @@
 -- `table_judge::sets_sound`: the clauses of the sets in turn.
 use Prim.Native.Nat.{ℕ}
 use mathlib.Core.Path.{_≡_, refl, ap, _∙_}
-use mathlib.Core.Bool.{not}
+use mathlib.Core.Bool.{Bool, true, false, not}
 use mathlib.Core.List.{List, map}
 use native.Mathlib.Omega.{arith}
 use borrow.Author.Tests.{eq-eqb, ne-eqb}
 use lib.Dec.{leb, ltb}
-use lib.ListN.{drop}
+use lib.ListN.{take, drop}
 use Rattle.lists.specs.Lists.{every, holding}
 use Rattle.lists.proofs.Tests.{holding-fails, holding-passes}
-use Rattle.rules.specs.Entries.{Entries, PingSet, setNumbers}
-use Rattle.rules.specs.Sound.{proper, overdue, pingedBefore, pingedRecently, setsBelowNext, setClauses}
-use Rattle.table_view.specs.View.{memory, view}
+use Rattle.rules.specs.Entries.{PingSet, setNumbers}
+use Rattle.rules.specs.Sound.{proper, overdue, setMembersLive, setClauses}
+use Rattle.rules.specs.Contract.{Whole}
+use Rattle.table_view.specs.View.{setCount, clockOf, nextOf, setsOf, memory, view, Holds}
 use Rattle.table_view.proofs.Columns.{set-numbers-column, pinged-column, column-read}
 use Rattle.table_judge.proofs.Clauses.{judged-fails, judged-passes, judged-last, column-test, column-short}
 use borrow.Author.Needs.{needs}
 use Rattle.table_judge.proofs.sets_sound.Statement.{statement}
 use Rattle.table_judge.proofs.sets_sound.Tie as tie
 
--- the live entries, with any store
-abbrev At : tie.After-column2 → List ℕ → Entries
-At c s = view (memory (c .before .before .before .before .before .before .args .words .now) s)
+module _ (ws s : List ℕ) (whole : Whole ws) (n : ℕ) (counted : n ≡ setCount ws) (ns : List ℕ) (first : ns ≡ take n (drop 64 ws)) (a : Bool) (distinct : a ≡ proper ns) where
+  -- the clauses that are left after the first k
+  abbrev Left : ℕ → Type 0
+  Left k = holding (setClauses (view (memory ws s))) ≡ holding (drop k (setClauses (view (memory ws s))))
 
--- a column is a field of the entries
-numbers-read : (c : tie.After-column2) (s : List ℕ) → c .before .column .result .now ≡ setNumbers (At c s)
-numbers-read c s =
-    let st = c .before .before .before .before .before .before in
-    column-read (st .args .words .now) 64 (c .before .column .ensures) (c .before .before .before .before .set-count .ensures .0) (set-numbers-column _ (st .pre .0))
+  -- a column is a field of the entries, and each outcome a clause
+  numbers : ns ≡ setNumbers (view (memory ws s))
+  numbers = column-read ws 64 first counted (set-numbers-column ws whole)
 
-times-read : (c : tie.After-column2) (s : List ℕ) → c .column2 .result .now ≡ map (λ (p : PingSet). p .pinged) (At c s .sets)
-times-read c s =
-    let st = c .before .before .before .before .before .before in
-    column-read (st .args .words .now) 128 (c .column2 .ensures) (c .before .before .before .before .set-count .ensures .0) (pinged-column _ (st .pre .0))
+  not-proper : not a ≡ true → false ≡ holding (setClauses (view (memory ws s)))
+  not-proper h = judged-fails _ refl (distinct ∙ ap proper numbers) h
 
--- each outcome is a clause
-proper-judged : (c : tie.After-are-proper) (s : List ℕ) → c .are-proper .result ≡ proper (setNumbers (At (c .before) s))
-proper-judged c s = c .are-proper .ensures ∙ ap proper (numbers-read (c .before) s)
+  module _ (fine : not a ≡ false) (ts : List ℕ) (second : ts ≡ take n (drop 128 ws)) (b : Bool) (before : b ≡ every (λ t. leb t (clockOf ws)) ts) where
+    times : ts ≡ map (λ (p : PingSet). p .pinged) (setsOf ws)
+    times = column-read ws 128 second counted (pinged-column ws whole)
 
-before-judged : (c : tie.After-all-at-most) (s : List ℕ) → c .all-at-most .result ≡ pingedBefore (At (c .before .before .before) s)
-before-judged c s = let e = At (c .before .before .before) s in column-test (λ p. p .pinged) (e .sets) (times-read (c .before .before .before) s) (λ t. leb t (e .clock)) (c .all-at-most .ensures)
+    left-1 : Left 1
+    left-1 = judged-passes _ refl (distinct ∙ ap proper numbers) fine
 
-recent-judged : (c : tie.After-all-within) (s : List ℕ) → c .all-within .result ≡ pingedRecently (At (c .before .before .before .before .before) s)
-recent-judged c s =
-    let times = c .before .before .before .before .before in
-    let e = At times s in
-    column-test (λ p. p .pinged) (e .sets) (times-read times s) (λ t. not (overdue (e .clock) t)) (c .all-within .ensures)
+    ahead : not b ≡ true → false ≡ holding (setClauses (view (memory ws s)))
+    ahead h = judged-fails _ left-1 (column-test (λ p. p .pinged) (setsOf ws) times _ before) h
 
-below-judged : (c : tie.After-all-below) (s : List ℕ) → c .all-below .result ≡ setsBelowNext (At (c .before .before .before .before .before .before .before) s)
-below-judged c s = let times = c .before .before .before .before .before .before .before in c .all-below .ensures ∙ ap (every (λ n. ltb n (At times s .next))) (numbers-read times s)
+    module _ (past : not b ≡ false) (d : Bool) (within : d ≡ every (λ t. not (overdue (clockOf ws) t)) ts) where
+      left-2 : Left 2
+      left-2 = judged-passes _ left-1 (column-test (λ p. p .pinged) (setsOf ws) times _ before) past
 
--- the clauses that are left
-abbrev Left : ℕ → tie.After-column2 → List ℕ → Type 0
-Left k c s = holding (setClauses (At c s)) ≡ holding (drop k (setClauses (At c s)))
+      late : not d ≡ true → false ≡ holding (setClauses (view (memory ws s)))
+      late h = judged-fails _ left-2 (column-test (λ p. p .pinged) (setsOf ws) times _ within) h
 
-left-1 : (c : tie.Else1) (s : List ℕ) → Left 1 (c .before .before) s
-left-1 c s = judged-passes _ refl (proper-judged (c .before) s) (c .if1 .left)
+      module _ (recent : not d ≡ false) (f : Bool) (below : f ≡ every (λ k. ltb k (nextOf ws)) ns) where
+        left-3 : Left 3
+        left-3 = judged-passes _ left-2 (column-test (λ p. p .pinged) (setsOf ws) times _ within) recent
 
-left-2 : (c : tie.Else2) (s : List ℕ) → Left 2 (c .before .before .before .before) s
-left-2 c s = judged-passes _ (left-1 (c .before .before) s) (before-judged (c .before) s) (c .if2 .left)
+        above : not f ≡ true → false ≡ holding (setClauses (view (memory ws s)))
+        above h = judged-fails _ left-3 (below ∙ ap (every (λ k. ltb k (nextOf ws))) numbers) h
 
-left-3 : (c : tie.Else3) (s : List ℕ) → Left 3 (c .before .before .before .before .before .before) s
-left-3 c s = judged-passes _ (left-2 (c .before .before) s) (recent-judged (c .before) s) (c .if3 .left)
+        module _ (under : not f ≡ false) where
+          left-4 : Left 4
+          left-4 = judged-passes _ left-3 (below ∙ ap (every (λ k. ltb k (nextOf ws))) numbers) under
 
-left-4 : (c : tie.Else4) (s : List ℕ) → Left 4 (c .before .before .before .before .before .before .before .before) s
-left-4 c s = judged-passes _ (left-3 (c .before .before) s) (below-judged (c .before) s) (c .if4 .left)
+          next-zero : nextOf ws ≡ 0 → false ≡ holding (setClauses (view (memory ws s)))
+          next-zero h = holding-fails _ _ left-4 (ap not (eq-eqb _ 0 h))
 
-left-5 : (c : tie.Else5) (s : List ℕ) → Left 5 (c .before .before .before .before .before .before .before .before .before) s
-left-5 c s = holding-passes _ _ (left-4 (c .before) s) (ap not (ne-eqb _ 0 (c .if5 .left)))
+          members-last : (nextOf ws ≡ 0 → ⊥) → (r : Bool) → Holds (λ e. r ≡ setMembersLive e) ws → r ≡ holding (setClauses (view (memory ws s)))
+          members-last h r live = judged-last (holding-passes _ _ left-4 (ap not (ne-eqb _ 0 h))) (live s)
 
 are-proper-requires : tie.Need-are-proper-requires
 are-proper-requires c κs =
@@ -83,13 +80,13 @@ sets-sound-spec =
     (λ c κs. search needs)
     (λ c κs. search needs)
     are-proper-requires
-    (λ c. λ s. judged-fails _ refl (proper-judged (c .before) s) (c .if1 .taken))
+    (λ c s. search not-proper)
     (λ c κs. search needs)
-    (λ c. λ s. judged-fails _ (left-1 (c .before .before) s) (before-judged (c .before) s) (c .if2 .taken))
+    (λ c s. search ahead)
     (λ c κs. search needs)
-    (λ c. λ s. judged-fails _ (left-2 (c .before .before) s) (recent-judged (c .before) s) (c .if3 .taken))
+    (λ c s. search late)
     (λ c κs. search needs)
-    (λ c. λ s. judged-fails _ (left-3 (c .before .before) s) (below-judged (c .before) s) (c .if4 .taken))
-    (λ c. λ s. holding-fails _ _ (left-4 (c .before) s) (ap not (eq-eqb _ 0 (c .if5 .taken))))
+    (λ c s. search above)
+    (λ c s. search next-zero)
     (λ c κs. search needs)
-    (λ c. λ s. judged-last (left-5 (c .before) s) (c .members-live .ensures s)))
+    (λ c s. search members-last))
