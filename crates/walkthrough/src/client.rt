@@ -1,34 +1,36 @@
 // A client, and the clock.
-use crate::recorder;
+use crate::LOG;
 use crate::say;
 use crate::server;
+use kinds::Guid;
+use kinds::Oid;
 use kinds::Oxid;
 use kinds::SetId;
 use kinds::answer;
 use kinds::limits;
 use references::Block;
 use references::Reference;
-use resolver::Expired;
-use resolver::MemberCount;
-use resolver::Pinged;
 use resolver::Released;
 
 // Goes where the reference leads, takes references of its own, and puts the object into a set; the set.
 pub fn take_up<'a>(
-    log: &mut [u8; recorder::LOG],
+    log: &mut [u8; LOG],
     words: &mut [u64; limits::WORDS],
     store: &'a [u8; limits::BYTES],
     reference: &'a [u8; server::REFERENCE],
 ) -> SetId {
     let block = look_up(log, words, store, reference);
-    let oid = block.oid;
-    say::done(
-        recorder::add(log, words, store, 0, block.ipid, 2, 1),
+    add(
+        log,
+        words,
+        store,
+        0,
+        block.ipid,
+        2,
+        1,
         b"client: takes 2 public and 1 private references more",
     );
-    let r = recorder::make_set(log, words, store, oid);
-    made(r);
-    r.set
+    make_set(log, words, store, block.oid)
 }
 
 // Reads the reference and asks for addresses; its block.
@@ -54,21 +56,25 @@ fn read(reference: &[u8]) -> Block {
 }
 
 fn next_stop<'a>(log: &'a mut [u8], words: &'a [u64], store: &'a [u8], reference: &'a [u8]) {
-    let place = recorder::next_stop_place(log, words, store, reference);
+    let place = resolver::next_stop_place(words, store, reference);
+    let stop = resolver::next_stop(words, store, reference);
+    recorder::next_stop(log, reference, place.answer, stop);
     say::answer(place.answer);
     print::either(
         place.in_store,
         b"client: asks where to go next, the exporter's list, ",
         b"client: asks where to go next, the reference's own list, ",
     );
-    say::address(resolver::next_stop(words, store, reference));
+    say::address(stop);
 }
 
 fn resolve<'a>(log: &'a mut [u8], words: &'a [u64], store: &'a [u8], oxid: Oxid) {
     let mut list = [0u8; limits::LONGEST_LIST];
-    let r = recorder::resolve(log, words, store, oxid, &mut list);
+    let r = resolver::resolve(words, store, oxid, &mut list);
     let n = fields::within(&list, r.length);
-    resolved(r.answer, &list[0..n]);
+    let s = &list[0..n];
+    recorder::resolve(log, oxid, limits::LONGEST_LIST, r.answer, r.unknown, s);
+    resolved(r.answer, s);
 }
 
 fn resolved(number: u32, list: &[u8]) {
@@ -91,7 +97,17 @@ fn resolved(number: u32, list: &[u8]) {
 // Asks for addresses of one protocol alone, UDP, which the server does not offer.
 fn resolve_udp<'a>(log: &'a mut [u8], words: &'a [u64], store: &'a [u8], oxid: Oxid) {
     let mut list = [0u8; limits::LONGEST_LIST];
-    let r = recorder::resolve_udp(log, words, store, oxid, &mut list);
+    let r = resolver::resolve_filtered(words, store, oxid, &[8], &mut list);
+    let n = fields::within(&list, r.length);
+    recorder::resolve_filtered(
+        log,
+        oxid,
+        limits::LONGEST_LIST,
+        b"\x08\x00",
+        r.answer,
+        r.unknown,
+        &list[0..n],
+    );
     say::results(
         r.answer,
         b"client: resolves it for UDP alone, # bytes\n",
@@ -109,7 +125,7 @@ fn later(time: u64) -> u64 {
 
 // The clock runs on for so many periods of two minutes, and the client pings or not.
 pub fn wait(
-    log: &mut [u8; recorder::LOG],
+    log: &mut [u8; LOG],
     words: &mut [u64; limits::WORDS],
     store: &[u8; limits::BYTES],
     set: SetId,
@@ -122,47 +138,50 @@ pub fn wait(
     while k < periods {
         k += 1;
         time = later(time);
-        passed(recorder::clock(log, words, store, time));
+        pass(log, words, store, time);
         if pinging {
-            pinged(recorder::simple_ping(log, words, store, set));
+            ping(log, words, store, set);
         }
     }
 }
 
 // Pings once more, and gives the references back. Another client has taken a private reference.
 pub fn leave(
-    log: &mut [u8; recorder::LOG],
+    log: &mut [u8; LOG],
     words: &mut [u64; limits::WORDS],
     store: &[u8; limits::BYTES],
     set: SetId,
 ) {
-    pinged(recorder::simple_ping(log, words, store, set));
-    say::done(
-        recorder::add(log, words, store, 1, server::IPID, 0, 1),
+    ping(log, words, store, set);
+    add(
+        log,
+        words,
+        store,
+        1,
+        server::IPID,
+        0,
+        1,
         b"client 1: takes 1 private reference",
     );
-    released(recorder::release(log, words, store, 0, server::IPID, 7, 1));
-    counted(recorder::members(log, words, store, set));
+    release(log, words, store);
+    count(log, words, store, set);
 }
 
 // The object stays until the references of the other client, which is lost, are dropped.
 pub fn lose_other(
-    log: &mut [u8; recorder::LOG],
+    log: &mut [u8; LOG],
     words: &mut [u64; limits::WORDS],
     store: &[u8; limits::BYTES],
     set: SetId,
 ) {
-    say::done(
-        recorder::drop_client(log, words, store, 1),
-        b"server: drops the private references of client 1",
-    );
-    counted(recorder::members(log, words, store, set));
-    server::counted(recorder::census(log, words, store));
+    server::drop_client(log, words, store);
+    count(log, words, store, set);
+    server::census(log, words, store);
 }
 
 // Pings no more.
 pub fn fall_silent<'a>(
-    log: &mut [u8; recorder::LOG],
+    log: &mut [u8; LOG],
     words: &mut [u64; limits::WORDS],
     store: &'a [u8; limits::BYTES],
     reference: &'a [u8; server::REFERENCE],
@@ -170,14 +189,14 @@ pub fn fall_silent<'a>(
 ) {
     let set = take_up(log, words, store, reference);
     wait(log, words, store, set, clock, 3, false);
-    released(recorder::release(log, words, store, 0, server::IPID, 7, 1));
-    pinged(recorder::simple_ping(log, words, store, set));
-    server::counted(recorder::census(log, words, store));
+    release(log, words, store);
+    ping(log, words, store, set);
+    server::census(log, words, store);
 }
 
 // A reference is read after its exporter left.
 pub fn come_late<'a>(
-    log: &mut [u8; recorder::LOG],
+    log: &mut [u8; LOG],
     words: &'a [u64; limits::WORDS],
     store: &'a [u8; limits::BYTES],
     reference: &'a [u8; server::REFERENCE],
@@ -186,15 +205,46 @@ pub fn come_late<'a>(
     next_stop(log, words, store, reference);
 }
 
-fn made(r: Pinged) {
+fn add<'a>(
+    log: &'a mut [u8],
+    words: &'a mut [u64],
+    store: &'a [u8],
+    client: u32,
+    ipid: Guid,
+    public: u32,
+    private: u32,
+    what: &'a [u8],
+) {
+    let number = resolver::add(words, store, client, ipid, public, private);
+    recorder::add(log, client, ipid, public, private, number);
+    say::done(number, what);
+}
+
+// Pings with one object in a new set; the set.
+fn make_set<'a>(log: &'a mut [u8], words: &'a mut [u64], store: &'a [u8], oid: Oid) -> SetId {
+    let r = resolver::complex_ping(words, store, SetId(0), 1, &[oid.0], &[]);
+    recorder::make_set(log, oid, r.answer, r.set, r.backoff);
     say::results(
         r.answer,
         b"client: pings with the object in a new set, set #, backoff #\n",
         &[r.set.0, r.backoff as u64],
     );
+    r.set
 }
 
-fn passed(r: Expired) {
+fn pass<'a>(log: &'a mut [u8], words: &'a mut [u64], store: &'a [u8], time: u64) {
+    let r = resolver::clock(words, store, time);
+    recorder::clock(
+        log,
+        time,
+        &[
+            r.answer as u64,
+            r.exporters as u64,
+            r.objects as u64,
+            r.interfaces as u64,
+            r.sets as u64,
+        ],
+    );
     say::results(
         r.answer,
         b"clock: two minutes later, # objects, # interfaces and # sets went\n",
@@ -202,8 +252,29 @@ fn passed(r: Expired) {
     );
 }
 
-fn pinged(number: u32) {
+fn ping<'a>(log: &'a mut [u8], words: &'a mut [u64], store: &'a [u8], set: SetId) {
+    let number = resolver::simple_ping(words, store, set);
+    recorder::simple_ping(log, set, number);
     say::done(number, b"client: pings its set");
+}
+
+fn release<'a>(log: &'a mut [u8], words: &'a mut [u64], store: &'a [u8]) {
+    let r = resolver::release(words, store, 0, server::IPID, 7, 1);
+    recorder::release(
+        log,
+        0,
+        server::IPID,
+        7,
+        1,
+        &[
+            r.answer as u64,
+            r.public as u64,
+            r.private as u64,
+            r.interfaces as u64,
+            r.objects as u64,
+        ],
+    );
+    released(r);
 }
 
 fn released(r: Released) {
@@ -224,7 +295,9 @@ fn released(r: Released) {
     );
 }
 
-fn counted(r: MemberCount) {
+fn count<'a>(log: &'a mut [u8], words: &'a [u64], store: &'a [u8], set: SetId) {
+    let r = resolver::members(words, store, set);
+    recorder::members(log, set, r.answer, r.count);
     say::results(
         r.answer,
         b"client: counts the members of its set, #\n",

@@ -10,23 +10,25 @@ use kinds::SetId;
 use kinds::limits;
 
 mod client;
-mod recorder;
 mod say;
 mod server;
+
+// Room for the recording of a day, in bytes.
+pub const LOG: usize = 8192;
 
 fn main() {
     print::text(
         b"     0 done, 4 the server has left, 6 the tank level group has ended, 11 the client was silent too long and begins anew\n",
     );
     let mut snapshot = [0u8; server::SNAPSHOT];
-    let mut log = [0u8; recorder::LOG];
+    let mut log = [0u8; LOG];
     let set = until_noon(&mut log, &mut snapshot);
     after_noon(&mut log, &snapshot, set);
     replay(&log);
 }
 
 // The first box; the client's set.
-fn until_noon(log: &mut [u8; recorder::LOG], snapshot: &mut [u8; server::SNAPSHOT]) -> SetId {
+fn until_noon(log: &mut [u8; LOG], snapshot: &mut [u8; server::SNAPSHOT]) -> SetId {
     let mut words = [0u64; limits::WORDS];
     let mut store = [0u8; limits::BYTES];
     let mut reference = [0u8; server::REFERENCE];
@@ -39,7 +41,7 @@ fn until_noon(log: &mut [u8; recorder::LOG], snapshot: &mut [u8; server::SNAPSHO
 }
 
 // The box that takes over.
-fn after_noon(log: &mut [u8; recorder::LOG], snapshot: &[u8; server::SNAPSHOT], set: SetId) {
+fn after_noon(log: &mut [u8; LOG], snapshot: &[u8; server::SNAPSHOT], set: SetId) {
     let mut words = [0u64; limits::WORDS];
     let mut store = [0u8; limits::BYTES];
     let mut reference = [0u8; server::REFERENCE];
@@ -54,7 +56,7 @@ fn after_noon(log: &mut [u8; recorder::LOG], snapshot: &[u8; server::SNAPSHOT], 
 }
 
 // Support replays the day in a table of its own.
-fn replay(log: &[u8; recorder::LOG]) {
+fn replay(log: &[u8; LOG]) {
     replay_bytes(log);
 }
 

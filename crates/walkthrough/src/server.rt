@@ -1,5 +1,5 @@
 // The process-data server.
-use crate::recorder;
+use crate::LOG;
 use crate::say;
 use kinds::Guid;
 use kinds::Oid;
@@ -7,7 +7,6 @@ use kinds::Oxid;
 use kinds::limits;
 use references::Block;
 use references::Reference;
-use resolver::LiveCounts;
 
 // Identifiers that the server chose.
 pub const OXID: Oxid = Oxid(0x1101);
@@ -71,34 +70,46 @@ pub const OPENED: u64 = 42720;
 
 // Registers at eight minutes to noon.
 pub fn open(
-    log: &mut [u8; recorder::LOG],
+    log: &mut [u8; LOG],
     words: &mut [u64; limits::WORDS],
     store: &mut [u8; limits::BYTES],
 ) {
-    say::done(
-        recorder::reset(log, words, store, OPENED),
-        b"server: resets its table at eight minutes to noon",
-    );
+    reset(log, words, store);
     let mut list = [0u8; 44];
     list_writer::write(&EXPORTER, &[], &mut list);
-    say::done(
-        recorder::enter_exporter(log, words, store, OXID, UNKNOWN, &list),
-        b"server: registers as exporter",
-    );
+    register(log, words, store, &list);
+}
+
+fn reset<'a>(log: &'a mut [u8], words: &'a mut [u64], store: &'a [u8]) {
+    let number = resolver::reset(words, store, OPENED);
+    recorder::reset(log, OPENED, number);
+    say::done(number, b"server: resets its table at eight minutes to noon");
+}
+
+fn register<'a>(log: &'a mut [u8], words: &'a mut [u64], store: &'a mut [u8], list: &'a [u8]) {
+    let number = resolver::enter_exporter(words, store, OXID, UNKNOWN, list);
+    recorder::enter_exporter(log, OXID, UNKNOWN, list, number);
+    say::done(number, b"server: registers as exporter");
 }
 
 // Enters the group and writes its reference, which carries the resolver's address (MS-DCOM, sections 2.2.18.4 and 2.2.19.3).
 pub fn offer(
-    log: &mut [u8; recorder::LOG],
+    log: &mut [u8; LOG],
     words: &mut [u64; limits::WORDS],
     store: &[u8; limits::BYTES],
     reference: &mut [u8; REFERENCE],
 ) {
+    enter(log, words, store);
+    write(reference);
+}
+
+fn enter<'a>(log: &'a mut [u8], words: &'a mut [u64], store: &'a [u8]) {
+    let number = resolver::enter_object(words, store, OID, OXID, IPID, IID, 5, false);
+    recorder::enter_object(log, OID, OXID, IPID, IID, 5, number);
     say::done(
-        recorder::enter_object(log, words, store, OID, OXID, IPID, IID, 5),
+        number,
         b"server: enters the tank level group with 5 public references",
     );
-    write(reference);
 }
 
 fn write(reference: &mut [u8; REFERENCE]) {
@@ -114,12 +125,18 @@ fn write(reference: &mut [u8; REFERENCE]) {
 
 // The snapshot of the box that goes.
 pub fn save<'a>(
-    log: &mut [u8; recorder::LOG],
+    log: &mut [u8; LOG],
     words: &'a [u64; limits::WORDS],
     store: &'a [u8; limits::BYTES],
     snapshot: &mut [u8; SNAPSHOT],
 ) {
-    let r = recorder::write_snapshot(log, words, store, snapshot);
+    save_bytes(log, words, store, snapshot);
+}
+
+fn save_bytes<'a>(log: &'a mut [u8], words: &'a [u64], store: &'a [u8], snapshot: &'a mut [u8]) {
+    let r = resolver::write_snapshot(words, store, snapshot);
+    let n = fields::within(snapshot, r.length);
+    recorder::write_snapshot(log, snapshot.len(), r.answer, &snapshot[0..n]);
     say::results(
         r.answer,
         b"server: writes a snapshot of its table at noon, # bytes\n",
@@ -129,40 +146,60 @@ pub fn save<'a>(
 
 // The box that comes; the clock from which it goes on by the seconds that pass there: the snapshot's, not its own.
 pub fn take_over(
-    log: &mut [u8; recorder::LOG],
+    log: &mut [u8; LOG],
     words: &mut [u64; limits::WORDS],
     store: &mut [u8; limits::BYTES],
     snapshot: &[u8; SNAPSHOT],
 ) -> u64 {
+    load(log, words, store, snapshot);
+    fields::read_u64(snapshot, 2)
+}
+
+fn load<'a>(log: &'a mut [u8], words: &'a mut [u64], store: &'a mut [u8], snapshot: &'a [u8]) {
+    let number = resolver::load_snapshot(words, store, snapshot);
+    recorder::load_snapshot(log, snapshot, number);
     say::done(
-        recorder::load_snapshot(log, words, store, snapshot),
+        number,
         b"server: loads it into another box, which takes over",
     );
-    fields::read_u64(snapshot, 2)
+}
+
+// Drops a client that was lost.
+pub fn drop_client<'a>(log: &'a mut [u8], words: &'a mut [u64], store: &'a [u8]) {
+    let number = resolver::drop_client(words, store, 1);
+    recorder::drop_client(log, 1, number);
+    say::done(number, b"server: drops the private references of client 1");
 }
 
 // Leaves.
 pub fn close(
-    log: &mut [u8; recorder::LOG],
+    log: &mut [u8; LOG],
     words: &mut [u64; limits::WORDS],
     store: &mut [u8; limits::BYTES],
 ) {
-    say::done(
-        recorder::remove_exporter(log, words, store, OXID),
-        b"server: leaves",
-    );
+    let number = resolver::remove_exporter(words, store, OXID);
+    recorder::remove_exporter(log, OXID, number);
+    say::done(number, b"server: leaves");
 }
 
 // What is live.
-pub fn counted(r: LiveCounts) {
-    say::results(
+pub fn census<'a>(log: &'a mut [u8], words: &'a [u64], store: &'a [u8]) {
+    let r = resolver::census(words, store);
+    counted(
+        log,
         r.answer,
+        r.exporters as u64,
+        r.objects as u64,
+        r.interfaces as u64,
+        r.sets as u64,
+    );
+}
+
+fn counted(log: &mut [u8], number: u32, exporters: u64, objects: u64, interfaces: u64, sets: u64) {
+    recorder::census(log, &[number as u64, exporters, objects, interfaces, sets]);
+    say::results(
+        number,
         b"server: census, # exporters, # objects, # interfaces, # sets\n",
-        &[
-            r.exporters as u64,
-            r.objects as u64,
-            r.interfaces as u64,
-            r.sets as u64,
-        ],
+        &[exporters, objects, interfaces, sets],
     );
 }

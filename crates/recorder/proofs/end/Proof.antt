@@ -1,8 +1,8 @@
--- `recorder::end`: the records that were passed are counted up.
+-- `end`: the records that were passed are counted up.
 use borrow.Author.Needs.{needs}
 use Prim.Native.Nat.{_-_}
-use Rattle.walkthrough.proofs.recorder.end.Statement.{statement}
-use Rattle.walkthrough.proofs.recorder.end.Tie as tie
+use Rattle.recorder.proofs.end.Statement.{statement}
+use Rattle.recorder.proofs.end.Tie as tie
 
 abbrev Inv-loop : tie.InvT-loop
 Inv-loop log n at₀ k₀ at k = Unit {0}
