@@ -1,90 +1,93 @@
-// A call and an answer as a record tells them.
+// A call and an answer as a record tells them: a line of text for each code, in which marks stand for the numbers.
 
 // The call of a section: its name and its numbers.
 pub fn call(s: &[u8]) {
-    let code = recording::byte(s, 0);
-    print::text(b"call: ");
-    if code < 5 {
-        entry(code, s);
-    } else if code < 10 {
-        count(code, s);
-    } else if code < 15 {
-        ping(code, s);
-    } else {
-        look(code, s);
-    }
-    print::end_line();
-}
-
-fn numbers<'a>(s: &'a [u8]) -> &'a [u8] {
     let from = fields::within(s, 1);
-    &s[from..]
-}
-
-fn entry(code: u8, s: &[u8]) {
-    let n = numbers(s);
-    match code {
-        0 => print::pattern::told(b"reset, time #", n),
-        1 => print::pattern::told(b"enter exporter, OXID 0x%, remote unknown @", n),
-        2 => print::pattern::told(b"remove exporter, OXID 0x%", n),
-        3 => print::pattern::told(
-            b"enter object, OID 0x%, OXID 0x%, IPID @, IID @, public $, not pinged: !",
-            n,
-        ),
-        _ => print::pattern::told(b"enter interface, OID 0x%, IPID @, IID @, public $", n),
-    }
-}
-
-fn count(code: u8, s: &[u8]) {
-    let n = numbers(s);
-    match code {
-        5 => print::pattern::told(b"add, client $, IPID @, public $, private $", n),
-        6 => print::pattern::told(b"release, client $, IPID @, public $, private $", n),
-        7 => print::pattern::told(b"drop client $", n),
-        8 => print::pattern::told(b"add list, client $, # bytes for results", n),
-        _ => print::pattern::told(b"release list, client $, # bytes for results", n),
-    }
-}
-
-fn ping(code: u8, s: &[u8]) {
-    let n = numbers(s);
-    match code {
-        10 => print::pattern::told(b"simple ping, set #", n),
-        11 => print::pattern::told(b"complex ping, set #, sequence &", n),
-        12 => print::pattern::told(b"clock, time #", n),
-        13 => print::pattern::told(b"resolve, OXID 0x%, a buffer of # bytes", n),
-        _ => print::pattern::told(b"resolve by protocols, OXID 0x%, a buffer of # bytes", n),
-    }
-}
-
-fn look(code: u8, s: &[u8]) {
-    let n = numbers(s);
-    match code {
-        15 => print::pattern::told(b"census", n),
-        16 => print::pattern::told(b"members, set #", n),
-        17 => print::pattern::told(b"next stop", n),
-        18 => print::pattern::told(b"write snapshot, a buffer of # bytes", n),
-        _ => print::pattern::told(b"load snapshot", n),
-    }
+    print::text(b"call: ");
+    told(
+        b"reset, time #\n\
+        enter exporter, OXID 0x%, remote unknown @\n\
+        remove exporter, OXID 0x%\n\
+        enter object, OID 0x%, OXID 0x%, IPID @, IID @, public $, not pinged: !\n\
+        enter interface, OID 0x%, IPID @, IID @, public $\n\
+        add, client $, IPID @, public $, private $\n\
+        release, client $, IPID @, public $, private $\n\
+        drop client $\n\
+        add list, client $, # bytes for results\n\
+        release list, client $, # bytes for results\n\
+        simple ping, set #\n\
+        complex ping, set #, sequence &\n\
+        clock, time #\n\
+        resolve, OXID 0x%, a buffer of # bytes\n\
+        resolve by protocols, OXID 0x%, a buffer of # bytes\n\
+        census\n\
+        members, set #\n\
+        next stop\n\
+        write snapshot, a buffer of # bytes\n\
+        load snapshot\n",
+        recording::byte(s, 0),
+        &s[from..],
+    );
 }
 
 // The answer of a call of this code: its number and its results.
 pub fn answer(code: u8, s: &[u8]) {
-    match code {
-        6 => print::pattern::told(
-            b"#, taken public #, private #, interfaces that went #, objects #",
-            s,
-        ),
-        11 => print::pattern::told(b"#, set #, backoff #", s),
-        12 => print::pattern::told(
-            b"#, exporters that went #, objects #, interfaces #, sets #",
-            s,
-        ),
-        13 | 14 => print::pattern::told(b"#, length #, remote unknown @", s),
-        15 => print::pattern::told(b"#, exporters #, objects #, interfaces #, sets #", s),
-        16 => print::pattern::told(b"#, members #", s),
-        18 => print::pattern::told(b"#, length #", s),
-        _ => print::pattern::told(b"#", s),
-    }
+    told(
+        b"#\n#\n#\n#\n#\n#\n\
+        #, taken public #, private #, interfaces that went #, objects #\n\
+        #\n#\n#\n#\n\
+        #, set #, backoff #\n\
+        #, exporters that went #, objects #, interfaces #, sets #\n\
+        #, length #, remote unknown @\n\
+        #, length #, remote unknown @\n\
+        #, exporters #, objects #, interfaces #, sets #\n\
+        #, members #\n\
+        #\n\
+        #, length #\n\
+        #\n",
+        code,
+        s,
+    );
+}
+
+// The line of a code, with the numbers that stand in the bytes.
+fn told<'a>(lines: &'a [u8], code: u8, s: &'a [u8]) {
+    let from = fields::within(lines, start(lines, code));
+    first(&lines[from..], s);
+}
+
+// The first line.
+fn first<'a>(lines: &'a [u8], s: &'a [u8]) {
+    let to = fields::within(lines, length(lines));
+    print::pattern::told(&lines[0..to], s);
     print::end_line();
+}
+
+// Where line k begins, from 0.
+fn start(lines: &[u8], k: u8) -> usize {
+    let mut left = k;
+    let mut i = 0;
+    while i < lines.len() {
+        if left == 0 {
+            return i;
+        }
+        let c = lines[i];
+        i += 1;
+        if c == b'\n' {
+            left -= 1;
+        }
+    }
+    i
+}
+
+// The bytes before the first end of a line.
+fn length(lines: &[u8]) -> usize {
+    let mut i = 0;
+    while i < lines.len() {
+        if lines[i] == b'\n' {
+            return i;
+        }
+        i += 1;
+    }
+    i
 }

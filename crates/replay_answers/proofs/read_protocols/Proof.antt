@@ -1,10 +1,10 @@
--- `ours::read_oids`: the places stay as many.
+-- `read_protocols`: the places stay as many.
 use borrow.Author.Needs.{needs}
 use Prim.Native.Nat.{_-_}
 use mathlib.Core.Path.{_≡_}
 use lib.ListN.{length}
-use Rattle.replay.proofs.ours.read_oids.Statement.{statement}
-use Rattle.replay.proofs.ours.read_oids.Tie as tie
+use Rattle.replay_answers.proofs.read_protocols.Statement.{statement}
+use Rattle.replay_answers.proofs.read_protocols.Tie as tie
 
 abbrev Inv-loop : tie.InvT-loop
 Inv-loop to₀ s i₀ to i = length to ≡ length to₀
@@ -12,8 +12,8 @@ Inv-loop to₀ s i₀ to i = length to ≡ length to₀
 abbrev μ-loop : tie.MeasureT-loop
 μ-loop to₀ s i₀ to i = length to₀ - i
 
-pub read-oids-spec : {M : Type 1} → statement M
-read-oids-spec =
+pub read-protocols-spec : {M : Type 1} → statement M
+read-protocols-spec =
     tie.close
     (tie.spec
     Inv-loop
