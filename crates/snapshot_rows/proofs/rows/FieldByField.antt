@@ -16,17 +16,21 @@ use Rattle.bindings.specs.Bindings.{joined, listAnswer}
 use Rattle.lists.specs.Lists.{tabulate}
 use Rattle.lists.proofs.Tests.{and-right}
 use Rattle.lists.proofs.Lists.{every-at, tabulate-getD, map-tabulate}
+use Rattle.table_columns.specs.Members.{memberRows}
+use Rattle.table_columns.specs.declared.members.Members.{Members}
 use Rattle.table_columns.proofs.Loops.{table-step, table-end}
 use Rattle.rules.specs.Entries.{Exporter, Object, Interface, PingSet}
-use Rattle.rules.specs.Rules.{noExporter}
+use Rattle.rules.specs.Rules.{noExporter, noSet}
 use Rattle.rules.specs.Sound.{longestList, listsKept}
-use Rattle.rules.specs.Snapshot.{inRow, exporterBytes, objectBytes, interfaceBytes, setBytes}
+use Rattle.rules.specs.Snapshot.{inRow, membersInOrder, exporterBytes, objectBytes, interfaceBytes, setBytes}
 use Rattle.rules.proofs.SnapshotReading.{length-numbers}
 use Rattle.rules.proofs.SnapshotSizes.{interface-size, set-size}
-use Rattle.table_view.specs.View.{exporterCount, exportersOf, memory, view}
+use Rattle.table_view.specs.View.{exporterCount, setCount, exportersOf, setsOf, membersAt, memory, view}
 use Rattle.table_view.proofs.LiveRows.{exporters-length}
 use Rattle.snapshot_rows.specs.Writing.{Room, Wrote}
+use Rattle.snapshot_rows.specs.Rows.{risingOids, memberBytesAt, ObjectsSorted}
 use Rattle.snapshot_rows.proofs.Writing.{left-all, left-same, left-step, left-none, row-map, row-none}
+use Rattle.snapshot_rows.proofs.rows.MembersInOrder.{members-row, members-number}
 
 -- ---- fields
 
@@ -65,12 +69,12 @@ exporter-put x {b} {at = at} room p q r e₁ e₂ e₃ e₄ =
     let l₃ = left-step (encode 2 (length (x .bindings))) _ room l₂ (wrote-number 2 (ap length r) e₃ a₃) in
     left-none refl (left-step (x .bindings) _ room l₃ (wrote-bytes r e₄ refl))
 
-pub object-put : (x : Object) {b b₁ b₂ b₃ b₄ : List ℕ} {at o e h : ℕ} {f : Bool} → Room b at (objectBytes x)
+pub object-put : (x : Object) (b b₁ b₂ b₃ b₄ : List ℕ) (at o e h : ℕ) (f : Bool) → Room b at (objectBytes x)
     → o ≡ x .oid → e ≡ x .exporter → f ≡ x .noping → h ≡ x .heard
     → b₁ ≡ written b at (encode 8 o) → b₂ ≡ written b₁ (at + 8) (encode 8 e) → b₃ ≡ written b₂ (at + 16) (encode 1 (cond f 1 0)) → b₄ ≡ written b₃ (at + 17) (encode 8 h)
     → Wrote b at (objectBytes x) b₄ (at + 25)
 unfolding objectBytes joined
-object-put x {b} {at = at} room p q r s e₁ e₂ e₃ e₄ =
+object-put x b b₁ b₂ b₃ b₄ at o e h f room p q r s e₁ e₂ e₃ e₄ =
     let a₂ : at + 16 ≡ at + 8 + 8 = omega arith in
     let a₃ : at + 17 ≡ at + 16 + 1 = omega arith in
     let l₁ = left-step (encode 8 (x .oid)) _ room (left-all b at (objectBytes x)) (wrote-number 8 p e₁ refl) in
@@ -114,21 +118,25 @@ members-room x b c at room s =
     let m = length-numbers 8 (x .members) in
     omega arith
 
-pub set-put : (x : PingSet) {b b₁ b₂ b₃ b₄ b₅ : List ℕ} {at n q p k end : ℕ} → Room b at (setBytes x)
-    → n ≡ x .number → q ≡ x .sequence → p ≡ x .pinged → k ≡ length (x .members)
+pub set-put : {b b₁ b₂ b₃ b₄ b₅ : List ℕ} {at n q p k end : ℕ} {m : Members} (ws rows : List ℕ) (i : ℕ) → ObjectsSorted ws rows → i < setCount ws
+    → let x = membersInOrder (risingOids ws) (getD (setsOf ws) i noSet) in Room b at (setBytes x)
+    → n ≡ x .number → q ≡ x .sequence → p ≡ x .pinged → m ≡ membersAt ws i → k ≡ length (memberRows m)
     → b₁ ≡ written b at (encode 8 n) → b₂ ≡ written b₁ (at + 8) (encode 2 q) → b₃ ≡ written b₂ (at + 10) (encode 8 p) → b₄ ≡ written b₃ (at + 18) (encode 2 k)
-    → Wrote b₄ (at + 20) (inRow (encode 8) (x .members)) b₅ end
+    → Wrote b₄ (at + 20) (inRow (memberBytesAt ws m) rows) b₅ end
     → Wrote b at (setBytes x) b₅ end
 unfolding setBytes joined
-set-put x {b} {at = at} room e f g h e₁ e₂ e₃ e₄ w =
+set-put {b} {at = at} {k = k} ws rows i t live room e f g r h e₁ e₂ e₃ e₄ w =
+    let x = membersInOrder (risingOids ws) (getD (setsOf ws) i noSet) in
+    let count : k ≡ length (x .members) = h ∙ ap (λ (m : Members). length (memberRows m)) r ∙ members-number ws rows t i live in
     let a₂ : at + 10 ≡ at + 8 + 2 = omega arith in
     let a₃ : at + 18 ≡ at + 10 + 8 = omega arith in
     let a₄ : at + 20 ≡ at + 18 + 2 = omega arith in
     let l₁ = left-step (encode 8 (x .number)) _ room (left-all b at (setBytes x)) (wrote-number 8 e e₁ refl) in
     let l₂ = left-step (encode 2 (x .sequence)) _ room l₁ (wrote-number 2 f e₂ a₂) in
     let l₃ = left-step (encode 8 (x .pinged)) _ room l₂ (wrote-number 8 g e₃ a₃) in
-    let l₄ = left-step (encode 2 (length (x .members))) _ room (left-same (append-assoc (encode 2 (length (x .members))) (inRow (encode 8) (x .members)) []) l₃) (wrote-number 2 h e₄ a₄) in
-    left-none refl (left-step (inRow (encode 8) (x .members)) _ room l₄ w)
+    let l = left-same (append-assoc (encode 2 (length (x .members))) (inRow (encode 8) (x .members)) []) l₃ in
+    let l₄ = left-step (encode 2 (length (x .members))) _ room l (wrote-number 2 count e₄ a₄) in
+    left-none refl (left-step (inRow (encode 8) (x .members)) _ room l₄ (rw (r, members-row ws rows t i live) at w))
 
 -- ---- loops over numbered elements
 
@@ -157,5 +165,5 @@ pub list-short : (ws s : List ℕ) (i : ℕ) → i < exporterCount ws → listsK
 list-short ws s i h kept =
     let n = exporters-length ws s in
     let x = getD (exportersOf ws s) i noExporter in
-    leb-true (length (x .bindings)) longestList
-    (and-right (eqb (listAnswer (x .bindings)) 0) (leb (length (x .bindings)) longestList) (every-at (λ (x : Exporter). eqb (listAnswer (x .bindings)) 0 && leb (length (x .bindings)) longestList) (exportersOf ws s) noExporter i (omega arith) kept))
+    let short = every-at (λ (x : Exporter). eqb (listAnswer (x .bindings)) 0 && leb (length (x .bindings)) longestList) (exportersOf ws s) noExporter i (omega arith) kept in
+    leb-true (length (x .bindings)) longestList (and-right (eqb (listAnswer (x .bindings)) 0) (leb (length (x .bindings)) longestList) short)

@@ -65,14 +65,16 @@ module _ (ws rows : List ℕ) (t : ObjectsSorted ws rows) (i : ℕ) (h : i < set
       ap (λ (m : Bool). cond m (encode 8 (oid j)) []) (sym (object-member ws (t .ids) (t .below) i j h (omega arith)))) rows (t .order .live)
       ∙ sym (row-map (λ o. cond (member o) (encode 8 o) []) oid rows)
       ∙ sym (row-keep (encode 8) member (map oid rows))
-      ∙ ap (λ (os : List ℕ). inRow (encode 8) (keep member os)) (sym (map-map (λ (o : Object). o .oid) (λ j. getD (objectsOf ws) j noObject) rows) ∙ ap (map (λ (o : Object). o .oid)) (t .order .rises))
+      ∙ ap (λ (os : List ℕ). inRow (encode 8) (keep member os))
+      (sym (map-map (λ (o : Object). o .oid) (λ j. getD (objectsOf ws) j noObject) rows) ∙ ap (map (λ (o : Object). o .oid)) (t .order .rises))
 
   -- their number
   pub members-number : length (memberRows (membersAt ws i)) ≡ length kept
   members-number =
       let member : ℕ → Bool = among (getD (setsOf ws) i noSet .members) in
       let oid : Object → ℕ = λ o. o .oid in
-      let count : (os : List Object) → length (keep member (map oid os)) ≡ length (keep (λ o. member (oid o)) os) = λ os. ap length (keep-map member oid os) ∙ length-map (keep (λ o. member (oid o)) os) oid in
+      let count : (os : List Object) → length (keep member (map oid os)) ≡ length (keep (λ o. member (oid o)) os) =
+      λ os. ap length (keep-map member oid os) ∙ length-map (keep (λ o. member (oid o)) os) oid in
       sym (row-size ws i h)
       ∙ ap length (sym (row-ordered ws (t .ids) (t .below) i h))
       ∙ count (objectsOf ws)

@@ -18,13 +18,11 @@ use Rattle.snapshot_rows.proofs.rows.put_counts.Statement.{statement}
 use Rattle.snapshot_rows.proofs.rows.put_counts.Tie as tie
 
 abbrev Inv-loop : tie.InvT-loop
-Inv-loop words i buffer₀ at next₀ k₀ buffer next k = (k ≤ 9) × Left buffer₀ at (inRow (countBytesAt words i) (tabulate 9 (λ j. j))) buffer next (inRow (countBytesAt words i) (drop k (tabulate 9 (λ j. j))))
+Inv-loop words i buffer₀ at next₀ k₀ buffer next k =
+    (k ≤ 9) × Left buffer₀ at (inRow (countBytesAt words i) (tabulate 9 (λ j. j))) buffer next (inRow (countBytesAt words i) (drop k (tabulate 9 (λ j. j))))
 
 abbrev μ-loop : tie.MeasureT-loop
 μ-loop words i buffer₀ at next₀ k₀ buffer next k = 9 - k
-
-loop-holds : tie.Need-loop-holds Inv-loop μ-loop
-loop-holds c = (omega arith, left-all _ _ _)
 
 add-next : tie.Need-add-next Inv-loop μ-loop
 add-next c =
@@ -55,7 +53,7 @@ put-counts-spec =
     (tie.spec
     Inv-loop
     μ-loop
-    loop-holds
+    (λ c. (omega arith, left-all _ _ _))
     (λ c κs. search needs)
     (λ c κs. search needs)
     add-next

@@ -11,13 +11,11 @@ use Rattle.snapshot_rows.proofs.rows.put_members.Statement.{statement}
 use Rattle.snapshot_rows.proofs.rows.put_members.Tie as tie
 
 abbrev Inv-loop : tie.InvT-loop
-Inv-loop words members rows buffer₀ at next₀ k₀ buffer next k = (k ≤ length rows) × Left buffer₀ at (inRow (memberBytesAt words members) rows) buffer next (inRow (memberBytesAt words members) (drop k rows))
+Inv-loop words members rows buffer₀ at next₀ k₀ buffer next k =
+    (k ≤ length rows) × Left buffer₀ at (inRow (memberBytesAt words members) rows) buffer next (inRow (memberBytesAt words members) (drop k rows))
 
 abbrev μ-loop : tie.MeasureT-loop
 μ-loop words members rows buffer₀ at next₀ k₀ buffer next k = length rows - k
-
-loop-holds : tie.Need-loop-holds Inv-loop μ-loop
-loop-holds c = (omega arith, left-all _ _ _)
 
 put-member-requires : tie.Need-put-member-requires Inv-loop μ-loop
 put-member-requires c κs =
@@ -25,7 +23,8 @@ put-member-requires c κs =
     let l = c .before .before .before .loop in
     let rows = start .args .rows .now in
     let row = memberBytesAt (start .args .words .now) (start .args .members) in
-    (start .pre .0, next-live row rows (objectCount (start .args .words .now)) (start .pre .1) (l .k) (omega arith), next-room row rows (objectCount (start .args .words .now)) (start .pre .1) (l .k) (omega arith) (start .pre .2) (l .inv .1))
+    let n = objectCount (start .args .words .now) in
+    (start .pre .0, next-live row rows n (start .pre .1) (l .k) (omega arith), next-room row rows n (start .pre .1) (l .k) (omega arith) (start .pre .2) (l .inv .1))
 
 loop-again : tie.Need-loop-again Inv-loop μ-loop
 loop-again c =
@@ -46,7 +45,7 @@ put-members-spec =
     (tie.spec
     Inv-loop
     μ-loop
-    loop-holds
+    (λ c. (omega arith, left-all _ _ _))
     (λ c. search needs)
     (λ c. search needs)
     put-member-requires

@@ -1,5 +1,6 @@
 -- `rows::put_object`: field by field.
-use lib.ListN.{getD}
+use Prim.Native.Nat.{_+_, _≤_}
+use lib.ListN.{length, getD}
 use native.Mathlib.Omega.{arith}
 use Rattle.rules.specs.Rules.{noObject}
 use Rattle.rules.proofs.SnapshotSizes.{object-size}
@@ -9,21 +10,15 @@ use borrow.Author.Needs.{needs}
 use Rattle.snapshot_rows.proofs.rows.put_object.Statement.{statement}
 use Rattle.snapshot_rows.proofs.rows.put_object.Tie as tie
 
+room : (c : tie.After-write-u64) → let a = c .before .before .before .before .before .before .args in a .at + 25 ≤ length (a .buffer .now)
+room c = let start = c .before .before .before .before .before .before in rw (object-size (getD (objectsOf (start .args .words .now)) (start .args .i) noObject)) at (start .pre .2)
+
 put-flag-requires : tie.Need-put-flag-requires
 put-flag-requires c κs =
-    let start = c .before .before .before .before .before .before .before .before .before .before .before .before .before .before in
-    let n = object-size (getD (objectsOf (start .args .words .now)) (start .args .i) noObject) in
-    let r = start .pre .2 in
+    let r = room (c .before .before .before .before .before .before .before .before) in
     let k = c .before .before .before .before .before .before .before .before .write-u64 .kept in
     let l = c .before .before .before .before .write-u642 .kept in
     omega arith
-
-returns : tie.Need-returns
-returns c =
-    let start = c .before .before .before .before .before .before .before .before .before .before .before .before .before .before .before .before .before .before .before .before .before .before in
-    object-put (getD (objectsOf (start .args .words .now)) (start .args .i) noObject) (start .pre .2)
-    (c .before .before .before .before .before .before .before .before .before .before .before .before .before .before .before .before .before .before .before .oid .ensures) (c .before .before .before .before .before .before .before .before .before .before .before .before .before .before .before .before .before .before .object-exporter .ensures) (c .before .before .before .before .before .before .before .before .is-unpinged .ensures) (c .before .before .before .heard .ensures)
-    (c .before .before .before .before .before .before .before .before .before .before .before .before .before .before .before .before .write-u64 .ensures) (c .before .before .before .before .before .before .before .before .before .before .before .before .write-u642 .ensures) (c .before .before .before .before .before .before .before .put-flag .ensures) (c .before .before .write-u643 .ensures)
 
 pub put-object-spec : {M : Type 1} → statement M
 put-object-spec =
@@ -42,4 +37,4 @@ put-object-spec =
     (λ c κs. search needs)
     (λ c. search needs)
     (λ c. search needs)
-    returns)
+    (λ c. search object-put))

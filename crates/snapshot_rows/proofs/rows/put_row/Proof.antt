@@ -27,18 +27,6 @@ put-set-requires c κs =
     let e = c .before .enum-told4 .given .1 in
     (start .pre .1, rw e at (start .pre .2), rw e at (start .pre .3))
 
-returns : tie.Need-returns
-returns c = rw (c .before .before .before .before .enum-told .given .1) (c .before .before .put-exporter .ensures)
-
-returns-2 : tie.Need-returns-2
-returns-2 c = rw (c .before .before .before .before .enum-told2 .given .1) (c .before .before .put-object .ensures)
-
-returns-3 : tie.Need-returns-3
-returns-3 c = rw (c .before .before .before .before .enum-told3 .given .1) (c .before .before .put-interface .ensures)
-
-returns-4 : tie.Need-returns-4
-returns-4 c = rw (c .before .before .before .before .enum-told4 .given .1) (c .before .before .put-set .ensures)
-
 pub put-row-spec : {M : Type 1} → statement M
 put-row-spec =
     tie.close
@@ -52,10 +40,10 @@ put-row-spec =
     (λ c. search needs)
     put-set-requires
     (λ c. search needs)
-    returns
+    (λ c. rw (c .before .before .before .before .enum-told .given .1) (c .before .before .put-exporter .ensures))
     (λ c. search needs)
-    returns-2
+    (λ c. rw (c .before .before .before .before .enum-told2 .given .1) (c .before .before .put-object .ensures))
     (λ c. search needs)
-    returns-3
+    (λ c. rw (c .before .before .before .before .enum-told3 .given .1) (c .before .before .put-interface .ensures))
     (λ c. search needs)
-    returns-4)
+    (λ c. rw (c .before .before .before .before .enum-told4 .given .1) (c .before .before .put-set .ensures)))
