@@ -55,8 +55,12 @@ exporter-fits x e h =
     (λ t.
     let k = and-right (every kept xs) (kept x) (sym lists ∙ clause-at _ 1 t) in
     eq-eqb _ 0
-    (fits-list e (x .bindings)
-    (eqb-true _ 0 (and-left (eqb (listAnswer (x .bindings)) 0) _ k), leb-true _ longestList (and-right (eqb (listAnswer (x .bindings)) 0) _ k), ltb-true _ exporterPlaces (sym room ∙ clause-at _ 0 t), leb-true _ storeBytes (sym bytes ∙ clause-at _ 2 t))))
+    (fits-list e (x .bindings) (
+      eqb-true _ 0 (and-left (eqb (listAnswer (x .bindings)) 0) _ k),
+      leb-true _ longestList (and-right (eqb (listAnswer (x .bindings)) 0) _ k),
+      ltb-true _ exporterPlaces (sym room ∙ clause-at _ 0 t),
+      leb-true _ storeBytes (sym bytes ∙ clause-at _ 2 t),
+    )))
     (λ t.
     let f = list-fits e (x .bindings) (eqb-true _ 0 t) in
     ((room ∙ lt-ltb (length xs) exporterPlaces (f .2))
@@ -121,8 +125,9 @@ row-less Interfaces s e t = fewer (e .interfaces) (readInterface s .value) 256 t
 row-less Sets s e t =
     let ps = e .sets in
     let p = readSet s .value in
+    let ordered : PingSet → Bool = λ q. inOrder (oids e) (q .members) in
     (fewer ps p 32 (clause-at _ 0 t)
-    and and-left (every (λ (q : PingSet). inOrder (oids e) (q .members)) ps) (inOrder (oids e) (p .members)) (sym (every-snoc (λ (q : PingSet). inOrder (oids e) (q .members)) ps p) ∙ clause-at _ 1 t)
+    and and-left (every ordered ps) (ordered p) (sym (every-snoc ordered ps p) ∙ clause-at _ 1 t)
     and none)
     .together
 

@@ -1,9 +1,10 @@
 -- The four sections, read one after the other into a table without entries, are the entries of the bytes; those of a snapshot fit.
 use Prim.Native.Nat.{ℕ, _≤_, min}
 use mathlib.Core.Path.{_≡_, refl, sym, ap, subst, _∙_}
-use mathlib.Core.Bool.{true}
+use mathlib.Core.Bool.{true, false, not}
 use mathlib.Core.List.{List, [], _∷_, map}
 use native.Mathlib.Omega.{arith}
+use borrow.Author.Tests.{not-true}
 use lib.ListN.{length, getD, drop}
 use lib.Seq.{drop-drop}
 use Rattle.fields.specs.Fields.{field}
@@ -19,9 +20,10 @@ use Rattle.snapshot_rows.specs.declared.Section.{Section}
 use Rattle.snapshot_rows.specs.declared.Section.the-variants.{Exporters, Objects, Interfaces, Sets}
 use Rattle.snapshot_reader.specs.declared.sections.Place.{Place}
 use Rattle.snapshot_reader.specs.ReadRows.{Left, withSection, inOrder, fits}
-use Rattle.snapshot_reader.specs.ReadSections.{begun, SectionRead}
+use Rattle.snapshot_reader.specs.ReadSections.{begun, SectionRead, TableRead}
 use Rattle.snapshot_reader.proofs.rows.RowFields.{drop-within}
 use Rattle.snapshot_reader.proofs.rows.Walk.{kept-in-order}
+use Rattle.snapshot_reader.proofs.sections.Refused.{no-snapshot, table-refused}
 use Rattle.snapshot_reader.proofs.sections.RowByRow.{rows-read}
 
 -- ---- the two numbers
@@ -175,3 +177,7 @@ module _ (k : Section) {s : List ℕ} {l l′ : Left} {e e′ : Entries} {at : �
   -- one that is not has entries that do not fit
   pub reached-read : r .read ≡ fits k (l′ .entries)
   reached-read = h .read ∙ ap (λ (x : Left). fits k (x .entries)) as-left
+
+  -- bytes whose section is not read, where that of a snapshot fits, are no snapshot
+  pub reached-refused : (isSnapshot s ≡ true → fits k (l′ .entries) ≡ true) → not (r .read) ≡ true → (x : Entries) → TableRead s false x
+  reached-refused f t x = table-refused s x (no-snapshot s _ _ reached-read f (not-true _ t))

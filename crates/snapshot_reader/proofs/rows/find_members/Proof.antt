@@ -24,9 +24,6 @@ loop-holds c =
     let a = c .before .before .before .args in
     (omega arith, walk-begun (oidsOf (a .words .now)) (membersIn (a .s .now) (a .n)) _ refl refl)
 
-with-member-requires : tie.Need-with-member-requires Inv-loop μ-loop
-with-member-requires c κs = let l = c .before .before .loop in l .inv .1 .none (l .j) (omega arith)
-
 counted-requires : tie.Need-counted-requires Inv-loop μ-loop
 counted-requires c κs =
     let w = c .before .before .before .loop .inv .1 .place in
@@ -70,7 +67,7 @@ find-members-spec =
     (λ c κs. search needs)
     loop-holds
     (λ c κs. search needs)
-    with-member-requires
+    (λ c κs. let l = c .before .before .loop in l .inv .1 .none (l .j) (omega arith))
     counted-requires
     (λ c. omega arith)
     (λ c. omega arith)

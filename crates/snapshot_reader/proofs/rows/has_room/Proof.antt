@@ -5,7 +5,6 @@ use Prim.Native.Nat.{ℕ}
 use Rattle.table_view.specs.View.{memory, view}
 use Rattle.snapshot_reader.proofs.rows.SectionFits.{exporter-fits}
 use Rattle.snapshot_reader.proofs.rows.Reading.{lists-kept}
-use borrow.Author.Needs.{needs}
 use Rattle.snapshot_reader.proofs.rows.has_room.Statement.{statement}
 use Rattle.snapshot_reader.proofs.rows.has_room.Tie as tie
 

@@ -15,33 +15,36 @@ use Rattle.snapshot_reader.proofs.rows.read_exporter.Tie as tie
 returns : tie.Need-returns
 unfolding readExporter
 returns c =
-    let st = c .before .before .before .before .before .before .before .before .before .before .before .before in
-    let a = st .args in
+    let test = c .before in
+    let a = test .before .before .before .before .before .before .before .before .before .before .before .args in
     let s = a .s .now in
-    let l = list-read s _ _ _ (c .before .before .before .before .before .before .before .before .read-u16 .ensures) (c .before .before .before .before .before .before .before .within .ensures) (c .before .before .before .before .before .before .within2 .ensures) in
+    let to = test .before .before .before .before .before in
+    let l = list-read s _ _ _ (to .before .before .read-u16 .ensures) (to .before .within .ensures) (to .within2 .ensures) in
     row-refused Exporters s (view (memory (a .words .now) (a .store .now))) (c .no-row .result) (c .no-row .ensures)
-    (rw l at (sym (c .before .before .has-room .ensures (field s 0 8) (guidAt s 8)) ∙ not-true _ (c .before .if1 .taken)))
+    (rw l at (sym (test .before .has-room .ensures (field s 0 8) (guidAt s 8)) ∙ not-true _ (test .if1 .taken)))
 
 put-exporter-requires : tie.Need-put-exporter-requires
 put-exporter-requires c κs =
-    let st = c .before .before .before .before .before .before .before .before .before .before .before .before .before .before .before in
-    let a = st .args in
-    let r = room-made (a .words .now) (a .store .now) (st .pre .2) _ (sym (c .before .before .before .before .before .has-room .ensures 0 (record { low = 0; high = 0 })) ∙ not-false _ (c .before .before .before .before .if1 .left)) in
+    let test = c .before .before .before .before in
+    let st = test .before .before .before .before .before .before .before .before .before .before .before in
+    let room = sym (test .before .has-room .ensures 0 (record { low = 0; high = 0 })) ∙ not-false _ (test .if1 .left) in
+    let r = room-made (st .args .words .now) (st .args .store .now) (st .pre .2) _ room in
     (st .pre .0, st .pre .1, r .0, r .1, r .2)
 
 returns-2 : tie.Need-returns-2
 unfolding readExporter
 returns-2 c =
-    let st = c .before .before .before .before .before .before .before .before .before .before .before .before .before .before .before .before .before .before .before .before in
-    let a = st .args in
+    let test = c .before .before .before .before .before .before .before .before .before in
+    let a = test .before .before .before .before .before .before .before .before .before .before .before .args in
     let s = a .s .now in
-    let size = c .before .before .before .before .before .before .before .before .before .before .before .before .before .before .before .before .read-u16 .ensures in
-    let from = c .before .before .before .before .before .before .before .before .before .before .before .before .before .before .before .within .ensures in
-    let to = c .before .before .before .before .before .before .before .before .before .before .before .before .before .before .within2 .ensures in
+    let size = test .before .before .before .before .before .before .before .read-u16 .ensures in
+    let from = test .before .before .before .before .before .before .within .ensures in
+    let to = test .before .before .before .before .before .within2 .ensures in
     let l = list-read s _ _ _ size from to in
     row-read Exporters s (view (memory (a .words .now) (a .store .now))) _ _
-    (rw l at (sym (c .before .before .before .before .before .before .before .before .before .before .has-room .ensures (field s 0 8) (guidAt s 8)) ∙ not-false _ (c .before .before .before .before .before .before .before .before .before .if1 .left)))
-    (rw (l, c .before .before .before .before .before .before .before .before .read-u64 .ensures, c .before .before .before .before .before .before .before .read-guid .ensures) at (c .before .before .before .before .put-exporter .ensures))
+    (rw l at (sym (test .before .has-room .ensures (field s 0 8) (guidAt s 8)) ∙ not-false _ (test .if1 .left)))
+    (rw (l, c .before .before .before .before .before .before .before .before .read-u64 .ensures, c .before .before .before .before .before .before .before .read-guid .ensures)
+    at (c .before .before .before .before .put-exporter .ensures))
     (exporter-after s _ _ _ size from to)
     (omega arith)
 

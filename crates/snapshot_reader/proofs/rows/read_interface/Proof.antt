@@ -26,14 +26,30 @@ returns c t =
 returns-2 : tie.Need-returns-2
 unfolding readInterface tabulate
 returns-2 c t =
-    let st = c .before .before .before .before .before .before .before .before .before .before .before .before .before .before .before .before .before .before .before .before .before .before .before in
+    let four = c .before .before .before .before .before .before .before .before .before .before in
+    let front = four .before .before .before .before in
+    let test = front .before .before .before .before in
+    let st = test .before .before .before .before .before in
     let ws = st .args .words .now in
     let s = st .args .s .now in
-    let n = c .before .before .before .before .before .before .before .before .before .before .before .before .before .before .before .before .before .before .before .interface-count in
+    let n = test .before .interface-count in
     let e = c .within .ensures in
     row-read Interfaces s (view (memory ws t)) (c .within .result) _
-    (interface-fits _ (view (memory ws t)) ∙ rw (interfaces-length ws, ← n .ensures .0) (lt-ltb (n .result) interfacePlaces (c .before .before .before .before .before .before .before .before .before .before .before .before .before .before .before .before .before .before .if1 .left)))
-    (rw (c .before .before .before .before .before .before .before .before .before .before .before .before .before .before .before .before .before .read-guid .ensures, c .before .before .before .before .before .before .before .before .before .before .before .before .before .before .before .before .read-guid2 .ensures, c .before .before .before .before .before .before .before .before .before .before .before .before .before .before .before .read-u64 .ensures, c .before .before .before .before .before .before .before .before .before .before .before .before .before .before .read-u32 .ensures, c .before .before .before .before .before .before .before .before .before .before .before .before .before .read-u322 .ensures, c .before .before .before .before .before .before .before .before .before .before .before .before .read-u323 .ensures, c .before .before .before .before .before .before .before .before .before .before .before .read-u324 .ensures, c .before .before .before .before .before .before .before .before .before .before .read-u325 .ensures, c .before .before .before .before .before .before .before .before .before .read-u326 .ensures, c .before .before .before .before .before .before .before .before .read-u327 .ensures, c .before .before .before .before .before .before .before .read-u328 .ensures, c .before .before .before .before .before .before .read-u329 .ensures)
+    (interface-fits _ (view (memory ws t)) ∙ rw (interfaces-length ws, ← n .ensures .0) (lt-ltb (n .result) interfacePlaces (test .if1 .left)))
+    (rw (
+      front .before .before .before .read-guid .ensures,
+      front .before .before .read-guid2 .ensures,
+      front .before .read-u64 .ensures,
+      front .read-u32 .ensures,
+      four .before .before .before .read-u322 .ensures,
+      four .before .before .read-u323 .ensures,
+      four .before .read-u324 .ensures,
+      four .read-u325 .ensures,
+      c .before .before .before .before .before .before .before .before .before .read-u326 .ensures,
+      c .before .before .before .before .before .before .before .before .read-u327 .ensures,
+      c .before .before .before .before .before .before .before .read-u328 .ensures,
+      c .before .before .before .before .before .before .read-u329 .ensures,
+    )
     at (c .before .before .before .add-interface .ensures t))
     (rw e (drop-within s 76))
     (omega arith)

@@ -32,14 +32,21 @@ add-object-requires c κs =
 returns-2 : tie.Need-returns-2
 unfolding readObject
 returns-2 c t =
-    let st = c .before .before .before .before .before .before .before .before .before .before .before .before .before .before in
+    let test = c .before .before .before .before .before .before .before .before .before in
+    let st = test .before .before .before .before .before in
     let ws = st .args .words .now in
     let s = st .args .s .now in
-    let n = c .before .before .before .before .before .before .before .before .before .before .object-count in
+    let n = test .before .object-count in
     let e = c .within .ensures in
     row-read Objects s (view (memory ws t)) (c .within .result) _
-    (object-fits _ (view (memory ws t)) (st .pre .1 t) ∙ rw (objects-length ws, ← n .ensures .0) (lt-ltb (n .result) objectPlaces (c .before .before .before .before .before .before .before .before .before .if1 .left)))
-    (rw (c .before .before .before .before .before .before .before .before .read-u64 .ensures, c .before .before .before .before .before .before .before .read-u642 .ensures, c .before .before .before .before .before .before .is-zero .ensures, c .before .before .before .before .before .read-u643 .ensures) at (c .before .before .before .add-object .ensures t))
+    (object-fits _ (view (memory ws t)) (st .pre .1 t) ∙ rw (objects-length ws, ← n .ensures .0) (lt-ltb (n .result) objectPlaces (test .if1 .left)))
+    (rw (
+      c .before .before .before .before .before .before .before .before .read-u64 .ensures,
+      c .before .before .before .before .before .before .before .read-u642 .ensures,
+      c .before .before .before .before .before .before .is-zero .ensures,
+      c .before .before .before .before .before .read-u643 .ensures,
+    )
+    at (c .before .before .before .add-object .ensures t))
     (rw e (drop-within s 25))
     (omega arith)
 

@@ -26,15 +26,6 @@ read-set-requires c κs =
 returns : tie.Need-returns
 returns c = rw (c .before .before .before .before .before .before .before .enum-told .given .1) (c .before .before .before .before .read-exporter .ensures)
 
-returns-2 : tie.Need-returns-2
-returns-2 c = rw (c .before .before .before .before .enum-told2 .given .1) (c .before .before .read-object .ensures (c .before .before .before .before .before .before .before .before .before .args .store .now))
-
-returns-3 : tie.Need-returns-3
-returns-3 c = rw (c .before .before .before .before .enum-told3 .given .1) (c .before .before .read-interface .ensures (c .before .before .before .before .before .before .before .before .before .args .store .now))
-
-returns-4 : tie.Need-returns-4
-returns-4 c = rw (c .before .before .before .before .enum-told4 .given .1) (c .before .before .read-set .ensures (c .before .before .before .before .before .before .before .before .before .args .store .now))
-
 pub read-row-spec : {M : Type 1} → statement M
 read-row-spec =
     tie.close
@@ -51,8 +42,8 @@ read-row-spec =
     (λ c. search needs)
     returns
     (λ c. search needs)
-    returns-2
+    (λ c. rw (c .before .before .before .before .enum-told2 .given .1) (c .before .before .read-object .ensures _))
     (λ c. search needs)
-    returns-3
+    (λ c. rw (c .before .before .before .before .enum-told3 .given .1) (c .before .before .read-interface .ensures _))
     (λ c. search needs)
-    returns-4)
+    (λ c. rw (c .before .before .before .before .enum-told4 .given .1) (c .before .before .read-set .ensures _)))

@@ -21,29 +21,33 @@ returns c t =
 
 returns-2 : tie.Need-returns-2
 returns-2 c t =
-    let st = c .before .before .before .before .before .before .before .before .before .before .before in
+    let one = c .before .before .before .before .before .before in
+    let st = one .before .before .before .before .before in
     let ws = st .args .words .now in
     let s = st .args .s .now in
-    let n = c .before .before .before .before .before .before .before .set-count in
+    let n = one .before .set-count in
     let found = c .before .before .before .find-members in
     row-refused Sets s (view (memory ws t)) (c .no-row2 .result) (c .no-row2 .ensures)
-    (set-judged ws s t (st .pre .1 t) (n .result) (n .ensures .0) (c .before .before .before .before .before .before .if1 .left) (found .result) _ (c .before .before .before .before .before .read-u16 .ensures) (found .ensures)
+    (set-judged ws s t (st .pre .1 t) (n .result) (n .ensures .0) (one .if1 .left) (found .result) _ (c .before .before .before .before .before .read-u16 .ensures) (found .ensures)
     ∙ not-true _ (c .before .if2 .taken))
 
 returns-3 : tie.Need-returns-3
 returns-3 c t =
-    let st = c .before .before .before .before .before .before .before .before .before .before .before .before .before .before .before .before .before .before .before in
+    let two = c .before .before .before .before .before .before .before .before .before in
+    let one = two .before .before .before .before .before in
+    let st = one .before .before .before .before .before in
     let ws = st .args .words .now in
     let s = st .args .s .now in
-    let n = c .before .before .before .before .before .before .before .before .before .before .before .before .before .before .before .set-count in
-    let found = c .before .before .before .before .before .before .before .before .before .before .before .find-members in
-    let all = not-false _ (c .before .before .before .before .before .before .before .before .before .if2 .left) in
-    let k = c .before .before .before .before .before .before .before .before .before .before .before .before .before .read-u16 .ensures in
+    let n = one .before .set-count in
+    let found = two .before .before .find-members in
+    let all = not-false _ (two .if2 .left) in
+    let k = two .before .before .before .before .read-u16 .ensures in
     let e = c .within .ensures in
     row-read Sets s (view (memory ws t)) (c .within .result) _
-    (set-judged ws s t (st .pre .1 t) (n .result) (n .ensures .0) (c .before .before .before .before .before .before .before .before .before .before .before .before .before .before .if1 .left) (found .result) _ k (found .ensures) ∙ all)
+    (set-judged ws s t (st .pre .1 t) (n .result) (n .ensures .0) (one .if1 .left) (found .result) _ k (found .ensures) ∙ all)
     (c .before .before .before .add-set .ensures t
-    ∙ set-entered s _ k _ _ _ _ (c .before .before .before .before .before .before .before .before .read-u64 .ensures) (c .before .before .before .before .before .before .before .read-u162 .ensures) (c .before .before .before .before .before .before .read-u642 .ensures) (found .ensures .members all) (view (memory ws t)))
+    ∙ set-entered s _ k _ _ _ _ (c .before .before .before .before .before .before .before .before .read-u64 .ensures) (c .before .before .before .before .before .before .before .read-u162 .ensures)
+    (c .before .before .before .before .before .before .read-u642 .ensures) (found .ensures .members all) (view (memory ws t)))
     (set-after s _ k (c .within .result) e)
     (omega arith)
 

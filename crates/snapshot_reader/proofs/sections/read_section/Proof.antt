@@ -13,7 +13,8 @@ use Rattle.snapshot_reader.proofs.sections.read_section.Statement.{stat
 use Rattle.snapshot_reader.proofs.sections.read_section.Tie as tie
 
 abbrev Inv-loop : tie.InvT-loop
-Inv-loop words₀ store₀ section s at n next₀ i₀ words store next i = Whole words × Whole store × RowsLeft section s n i next (view (memory words store)) (withSection section (drop at s) (view (memory words₀ store₀)))
+Inv-loop words₀ store₀ section s at n next₀ i₀ words store next i =
+    Whole words × Whole store × RowsLeft section s n i next (view (memory words store)) (withSection section (drop at s) (view (memory words₀ store₀)))
 
 abbrev μ-loop : tie.MeasureT-loop
 μ-loop words₀ store₀ section s at n next₀ i₀ words store next i = n - i
@@ -27,40 +28,32 @@ loop-holds c =
       rows-begun (a .section) (a .s .now) _ (a .at) (c .within .result) (view (memory (a .words .now) (a .store .now))) (c .before .read-u16 .ensures) (c .within .ensures) (st .pre .4),
     )
 
-sub-read-row : tie.Need-sub-read-row Inv-loop μ-loop
-sub-read-row c = let p = c .before .before .before .loop .inv .2 .inside in omega arith
-
-part-read-row-start : tie.Need-part-read-row-start Inv-loop μ-loop
-part-read-row-start c = let p = c .before .before .before .loop .inv .2 .inside in omega arith
-
-read-row-requires : tie.Need-read-row-requires Inv-loop μ-loop
-read-row-requires c κs = let i = c .before .before .before .before .loop .inv in (i .0, i .1, i .2 .fit)
-
 returns : tie.Need-returns Inv-loop μ-loop
 returns c =
-    let st = c .before .before .before .before .before .before .before .before .before .before .before .before .before .before .before .before .before in
-    let a = st .args in
-    let l = c .before .before .before .before .before .before .before .before .before .before .before .loop in
+    let loop = c .before .before .before .before .before .before .before .before .before .before .before in
+    let a = loop .before .before .before .before .before .before .args in
+    let l = loop .loop in
     let h = rw (take-rest (a .s .now) (l .next)) at (c .before .before .before .before .before .before .read-row .ensures) in
     rows-stopped (a .section) (a .s .now) (a .at) (view (memory (a .words .now) (a .store .now))) (l .next) _ (l .inv .2 .inside)
     (row-stops (l .inv .2) (omega arith) h (not-true _ (c .if1 .taken)))
 
 add-next : tie.Need-add-next Inv-loop μ-loop
 add-next c =
-    let st = c .before .before .before .before .before .before .before .before .before .before .before .before .before .before .before .before .before .before in
-    let l = c .before .before .before .before .before .before .before .before .before .before .before .before .loop in
+    let loop = c .before .before .before .before .before .before .before .before .before .before .before .before in
+    let s = loop .before .before .before .before .before .before .args .s .now in
+    let l = loop .loop in
     let p = c .before .before .before .before .before .before .before .read-row .ensures .inside in
     let q = l .inv .2 .inside in
-    let d = rw (take-rest (st .args .s .now) (l .next)) at p in
-    let e = length-drop (l .next) (st .args .s .now) in
-    let z = st .pre .3 in
+    let d = rw (take-rest s (l .next)) at p in
+    let e = length-drop (l .next) s in
+    let z = loop .before .before .before .before .before .before .pre .3 in
     omega arith
 
 loop-again : tie.Need-loop-again Inv-loop μ-loop
 loop-again c =
-    let st = c .before .before .before .before .before .before .before .before .before .before .before .before .before .before .before .before .before .before in
-    let l = c .before .before .before .before .before .before .before .before .before .before .before .before .loop in
-    let h = rw (take-rest (st .args .s .now) (l .next)) at (c .before .before .before .before .before .before .before .read-row .ensures) in
+    let loop = c .before .before .before .before .before .before .before .before .before .before .before .before in
+    let l = loop .loop in
+    let h = rw (take-rest (loop .before .before .before .before .before .before .args .s .now) (l .next)) at (c .before .before .before .before .before .before .before .read-row .ensures) in
     let w = l .inv .0 in
     let b = l .inv .1 in
     (omega arith, omega arith, row-off (l .inv .2) (omega arith) h (not-false _ (c .before .if1 .left)))
@@ -83,10 +76,10 @@ read-section-spec =
     (λ c. omega arith)
     (λ c κs. search needs)
     loop-holds
-    sub-read-row
-    part-read-row-start
+    (λ c. let p = c .before .before .before .loop .inv .2 .inside in omega arith)
+    (λ c. let p = c .before .before .before .loop .inv .2 .inside in omega arith)
     (λ c. omega arith)
-    read-row-requires
+    (λ c κs. let i = c .before .before .before .before .loop .inv in (i .0, i .1, i .2 .fit))
     (λ c. omega arith)
     (λ c. omega arith)
     returns
