@@ -22,42 +22,48 @@ put-sorted-requires c κs =
 
 put-section-requires : tie.Need-put-section-requires
 put-section-requires c κs =
-    let start = c .before .before .before .before .before .before .before .before .before .before .before .before .before in
+    let numbers = c .before .before .before .before .before .before .before in
+    let start = numbers .before .before .before .before .before .before in
     let room = start .pre .2 in
     let l₀ = parts-all (start .args .buffer .now) (view (memory (start .args .words .now) (start .args .store .now))) in
-    let l₁ = part-put _ _ room l₀ (c .before .before .before .before .before .before .before .put-numbers .ensures) in
+    let l₁ = part-put _ _ room l₀ (numbers .put-numbers .ensures) in
     let l₂ = part-put _ _ room l₁ (c .before .before .before .put-sorted .ensures) in
     (start .pre .0, start .pre .1, start .pre .1 .order, part-room _ _ room l₂)
 
 put-sorted-requires-2 : tie.Need-put-sorted-requires-2
 put-sorted-requires-2 c κs =
-    let start = c .before .before .before .before .before .before .before .before .before .before .before .before .before .before .before .before .before in
+    let numbers = c .before .before .before .before .before .before .before .before .before .before .before in
+    let start = numbers .before .before .before .before .before .before in
     let room = start .pre .2 in
     let l₀ = parts-all (start .args .buffer .now) (view (memory (start .args .words .now) (start .args .store .now))) in
-    let l₁ = part-put _ _ room l₀ (c .before .before .before .before .before .before .before .before .before .before .before .put-numbers .ensures) in
+    let l₁ = part-put _ _ room l₀ (numbers .put-numbers .ensures) in
     let l₂ = part-put _ _ room l₁ (c .before .before .before .before .before .before .before .put-sorted .ensures) in
     let l₃ = part-put _ _ room l₂ (c .before .before .before .put-section .ensures) in
     (start .pre .0, start .pre .1, part-room _ _ room l₃)
 
 put-sorted-requires-3 : tie.Need-put-sorted-requires-3
 put-sorted-requires-3 c κs =
-    let start = c .before .before .before .before .before .before .before .before .before .before .before .before .before .before .before .before .before .before .before .before .before in
+    let section = c .before .before .before .before .before .before .before in
+    let numbers = section .before .before .before .before .before .before .before .before in
+    let start = numbers .before .before .before .before .before .before in
     let room = start .pre .2 in
     let l₀ = parts-all (start .args .buffer .now) (view (memory (start .args .words .now) (start .args .store .now))) in
-    let l₁ = part-put _ _ room l₀ (c .before .before .before .before .before .before .before .before .before .before .before .before .before .before .before .put-numbers .ensures) in
-    let l₂ = part-put _ _ room l₁ (c .before .before .before .before .before .before .before .before .before .before .before .put-sorted .ensures) in
-    let l₃ = part-put _ _ room l₂ (c .before .before .before .before .before .before .before .put-section .ensures) in
+    let l₁ = part-put _ _ room l₀ (numbers .put-numbers .ensures) in
+    let l₂ = part-put _ _ room l₁ (section .before .before .before .before .put-sorted .ensures) in
+    let l₃ = part-put _ _ room l₂ (section .put-section .ensures) in
     let l₄ = part-put _ _ room l₃ (c .before .before .before .put-sorted2 .ensures) in
     (start .pre .0, start .pre .1, part-room _ _ room l₄)
 
 returns : tie.Need-returns
 returns c =
-    let start = c .before .before .before .before .before .before .before .before .before .before .before .before .before .before .before .before .before .before .before .before .before .before .before .before in
+    let section = c .before .before .before .before .before .before .before .before .before .before in
+    let numbers = section .before .before .before .before .before .before .before .before in
+    let start = numbers .before .before .before .before .before .before in
     let room = start .pre .2 in
     let l₀ = parts-all (start .args .buffer .now) (view (memory (start .args .words .now) (start .args .store .now))) in
-    let l₁ = part-put _ _ room l₀ (c .before .before .before .before .before .before .before .before .before .before .before .before .before .before .before .before .before .before .put-numbers .ensures) in
-    let l₂ = part-put _ _ room l₁ (c .before .before .before .before .before .before .before .before .before .before .before .before .before .before .put-sorted .ensures) in
-    let l₃ = part-put _ _ room l₂ (c .before .before .before .before .before .before .before .before .before .before .put-section .ensures) in
+    let l₁ = part-put _ _ room l₀ (numbers .put-numbers .ensures) in
+    let l₂ = part-put _ _ room l₁ (section .before .before .before .before .put-sorted .ensures) in
+    let l₃ = part-put _ _ room l₂ (section .put-section .ensures) in
     let l₄ = part-put _ _ room l₃ (c .before .before .before .before .before .before .put-sorted2 .ensures) in
     let l₅ = part-put _ _ room l₄ (c .before .before .put-sorted3 .ensures) in
     parts-end l₅

@@ -7,10 +7,11 @@ use Rattle.call_save.proofs.sections.put_numbers.Tie as tie
 
 returns : tie.Need-returns
 returns c =
-    let start = c .before .before .before .before .before .before .before .before .before .before .before .before .before .before .before .before in
+    let count = c .before .before .before .before .before .before .before .before .before .before .before .before in
+    let start = count .before .before .before .before in
     let d = c .before .before .before .before in
     let ws = start .args .words .now in
-    numbers-put (clockOf ws) (nextOf ws) (start .pre .1) (c .before .before .before .before .before .before .before .before .before .before .before .before .write-u16 .ensures)
+    numbers-put (clockOf ws) (nextOf ws) (start .pre .1) (count .write-u16 .ensures)
     (rw (d .before .before .before .before .clock .ensures) at (d .before .before .before .write-u64 .ensures))
     (rw (d .next-set .ensures) at (c .before .before .write-u642 .ensures))
 

@@ -34,27 +34,27 @@ add-next c =
     let r = start .pre .3 in
     omega arith
 
-loop-holds : tie.Need-loop-holds Inv-loop μ-loop
-loop-holds c = (omega arith, left-all _ _ _)
-
 put-row-requires : tie.Need-put-row-requires Inv-loop μ-loop
 put-row-requires c κs =
-    let start = c .before .before .before .before .before .before .before .before .before .before .before .before .before in
+    let count = c .before .before .before .before .before .before in
+    let start = count .before .before .before .before .before .before .before in
     let a = start .args in
     let o = start .pre .2 in
-    let begun = rows-left (a .words .now) (a .store .now) (a .rows .now) (a .section) o (start .pre .3) (c .before .before .before .before .before .before .write-u16 .ensures) in
+    let begun = rows-left (a .words .now) (a .store .now) (a .rows .now) (a .section) o (start .pre .3) (count .write-u16 .ensures) in
     let l = c .before .before .before .loop in
     let row = rowBytes (a .section) (a .words .now) (a .store .now) in
     let n = rowCount (a .section) (a .words .now) in
     let live = rows-live (a .words .now) (a .store .now) (a .rows .now) (a .section) o in
-    (start .pre .0, start .pre .1, next-live row (a .rows .now) n live (l .k) (omega arith), next-room row (a .rows .now) n live (l .k) (omega arith) (left-fits (start .pre .3) begun) (l .inv .1))
+    let fits = left-fits (start .pre .3) begun in
+    (start .pre .0, start .pre .1, next-live row (a .rows .now) n live (l .k) (omega arith), next-room row (a .rows .now) n live (l .k) (omega arith) fits (l .inv .1))
 
 loop-again : tie.Need-loop-again Inv-loop μ-loop
 loop-again c =
-    let start = c .before .before .before .before .before .before .before .before .before .before .before .before .before .before .before .before in
+    let count = c .before .before .before .before .before .before .before .before .before in
+    let start = count .before .before .before .before .before .before .before in
     let a = start .args in
     let o = start .pre .2 in
-    let begun = rows-left (a .words .now) (a .store .now) (a .rows .now) (a .section) o (start .pre .3) (c .before .before .before .before .before .before .before .before .before .write-u16 .ensures) in
+    let begun = rows-left (a .words .now) (a .store .now) (a .rows .now) (a .section) o (start .pre .3) (count .write-u16 .ensures) in
     let l = c .before .before .before .before .before .before .loop in
     let row = rowBytes (a .section) (a .words .now) (a .store .now) in
     let n = rowCount (a .section) (a .words .now) in
@@ -79,7 +79,7 @@ put-section-spec =
     cast-write-u16
     (λ c κs. search needs)
     add-next
-    loop-holds
+    (λ c. (omega arith, left-all _ _ _))
     (λ c. search needs)
     (λ c. search needs)
     put-row-requires

@@ -22,12 +22,6 @@ Inv-loop words n total₀ i₀ total i =
 abbrev μ-loop : tie.MeasureT-loop
 μ-loop words n total₀ i₀ total i = n - i
 
-loop-holds : tie.Need-loop-holds Inv-loop μ-loop
-loop-holds c = (omega arith, omega arith, sym (zero-add _))
-
-add-total : tie.Need-add-total Inv-loop μ-loop
-add-total c = let b = few-members (c .before .members .result) in omega arith
-
 loop-again : tie.Need-loop-again Inv-loop μ-loop
 loop-again c =
     let l = c .before .before .before .loop in
@@ -56,10 +50,10 @@ member-count-spec =
     Inv-loop
     μ-loop
     (λ c κs. search needs)
-    loop-holds
+    (λ c. (omega arith, omega arith, sym (zero-add _)))
     (λ c κs. search needs)
     (λ c κs. search needs)
-    add-total
+    (λ c. let b = few-members (c .before .members .result) in omega arith)
     (λ c. search needs)
     (λ c. search needs)
     loop-again

@@ -1,4 +1,5 @@
 -- `size::snapshot_length`: the entries of each kind, lists and members counted.
+use Prim.Native.Nat.{_≤_}
 use native.Mathlib.Omega.{arith}
 use Rattle.call_save.proofs.size.MemberSum.{lists-inside, by-counts}
 use borrow.Author.Needs.{needs}
@@ -11,22 +12,18 @@ list-start-requires c κs =
     let h = lists-inside (start .args .words .now) (start .args .store .now) (start .pre) (c .exporter-count .ensures .0) in
     (start .pre .store, omega (arith, start .pre .store))
 
-add-result-2 : tie.Need-add-result-2
-add-result-2 c = let h = lists-inside (c .before .before .before .before .before .before .before .before .args .words .now) (c .before .before .before .before .before .before .before .before .args .store .now) (c .before .before .before .before .before .before .before .before .pre) (c .before .before .before .before .before .exporter-count .ensures .0) in let e = c .before .before .before .before .list-start .ensures in omega arith
-
-add-result-3 : tie.Need-add-result-3
-add-result-3 c = let h = lists-inside (c .before .before .before .before .before .before .before .before .args .words .now) (c .before .before .before .before .before .before .before .before .args .store .now) (c .before .before .before .before .before .before .before .before .pre) (c .before .before .before .before .before .exporter-count .ensures .0) in let e = c .before .before .before .before .list-start .ensures in omega arith
-
-add-result-4 : tie.Need-add-result-4
-add-result-4 c = let h = lists-inside (c .before .before .before .before .before .before .before .before .args .words .now) (c .before .before .before .before .before .before .before .before .args .store .now) (c .before .before .before .before .before .before .before .before .pre) (c .before .before .before .before .before .exporter-count .ensures .0) in let e = c .before .before .before .before .list-start .ensures in omega arith
-
-add-result-5 : tie.Need-add-result-5
-add-result-5 c = let h = lists-inside (c .before .before .before .before .before .before .before .before .args .words .now) (c .before .before .before .before .before .before .before .before .args .store .now) (c .before .before .before .before .before .before .before .before .pre) (c .before .before .before .before .before .exporter-count .ensures .0) in let e = c .before .before .before .before .list-start .ensures in omega arith
+inside : (c : tie.After-list-start) → c .list-start .result ≤ 8192
+inside c =
+    let start = c .before .before .before .before in
+    let h = lists-inside (start .args .words .now) (start .args .store .now) (start .pre) (c .before .exporter-count .ensures .0) in
+    let e = c .list-start .ensures in
+    omega arith
 
 returns : tie.Need-returns
 returns c =
     let start = c .before .before .before .before .before .before .before .before in
-    by-counts (start .args .words .now) (start .args .store .now) (start .pre) (c .before .before .before .before .before .exporter-count .ensures .0) (c .before .before .before .before .list-start .ensures)
+    by-counts (start .args .words .now) (start .args .store .now) (start .pre)
+    (c .before .before .before .before .before .exporter-count .ensures .0) (c .before .before .before .before .list-start .ensures)
     (c .before .before .before .object-count .ensures .0) (c .before .before .interface-count .ensures .0) (c .before .set-count .ensures .0) (c .member-count .ensures .0)
 
 pub snapshot-length-spec : {M : Type 1} → statement M
@@ -46,8 +43,8 @@ snapshot-length-spec =
     (λ c. search needs)
     (λ c. search needs)
     (λ c. search needs)
-    add-result-2
-    add-result-3
-    add-result-4
-    add-result-5
+    (λ c. let h = inside (c .before .before .before .before) in omega arith)
+    (λ c. let h = inside (c .before .before .before .before) in omega arith)
+    (λ c. let h = inside (c .before .before .before .before) in omega arith)
+    (λ c. let h = inside (c .before .before .before .before) in omega arith)
     returns)
