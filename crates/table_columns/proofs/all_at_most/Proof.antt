@@ -16,9 +16,6 @@ Inv-loop col limit i₀ i = every (λ x. leb x limit) col ≡ every (λ x. leb x
 abbrev μ-loop : tie.MeasureT-loop
 μ-loop col limit i₀ i = length col - i
 
-loop-holds : tie.Need-loop-holds Inv-loop μ-loop
-loop-holds c = refl
-
 returns : tie.Need-returns Inv-loop μ-loop
 returns c =
     let l = c .before .before .before .loop in
@@ -29,20 +26,17 @@ loop-again c =
     let l = c .before .before .before .loop in
     every-passes (column-step _ 0 (l .i) (search needs)) _ (l .inv) (le-leb _ _ (c .if1 .left))
 
-returns-2 : tie.Need-returns-2 Inv-loop μ-loop
-returns-2 c = let l = c .before .loop in every-end (column-end _ (l .i) (search needs)) _ (l .inv)
-
 pub all-at-most-spec : {M : Type 1} → statement M
 all-at-most-spec =
     tie.close
     (tie.spec
     Inv-loop
     μ-loop
-    loop-holds
+    (λ c. refl)
     (λ c. search needs)
     (λ c. search needs)
     returns
     (λ c. search needs)
     (λ c. search needs)
     loop-again
-    returns-2)
+    (λ c. let l = c .before .loop in every-end (column-end _ (l .i) (search needs)) _ (l .inv)))

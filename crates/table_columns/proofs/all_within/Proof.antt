@@ -17,9 +17,6 @@ Inv-loop col clock limit i₀ i = every (λ t. not (leb limit (clock - t))) col 
 abbrev μ-loop : tie.MeasureT-loop
 μ-loop col clock limit i₀ i = length col - i
 
-loop-holds : tie.Need-loop-holds Inv-loop μ-loop
-loop-holds c = refl
-
 returns : tie.Need-returns Inv-loop μ-loop
 returns c =
     let l = c .before .before .before .before .loop in
@@ -30,16 +27,13 @@ loop-again c =
     let l = c .before .before .before .before .loop in
     every-passes (column-step _ 0 (l .i) (search needs)) _ (l .inv) (sym (c .before .is-within .ensures) ∙ not-false _ (c .if1 .left))
 
-returns-2 : tie.Need-returns-2 Inv-loop μ-loop
-returns-2 c = let l = c .before .loop in every-end (column-end _ (l .i) (search needs)) _ (l .inv)
-
 pub all-within-spec : {M : Type 1} → statement M
 all-within-spec =
     tie.close
     (tie.spec
     Inv-loop
     μ-loop
-    loop-holds
+    (λ c. refl)
     (λ c. search needs)
     (λ c. search needs)
     (λ c κs. search needs)
@@ -47,4 +41,4 @@ all-within-spec =
     (λ c. search needs)
     (λ c. search needs)
     loop-again
-    returns-2)
+    (λ c. let l = c .before .loop in every-end (column-end _ (l .i) (search needs)) _ (l .inv)))

@@ -65,7 +65,8 @@ module _ {A : Type 0} (bucket : A → ℕ) where
       }
 
   -- an element whose bucket is not marked is not among them
-  pub unmarked : (same : A → A → Bool) → Decides same → {xs : List A} {marks : List Bool} {b : ℕ} (x : A) → Marked bucket marks xs → (b ≡ bucket x) × (b < 4096) → getD marks b false ≡ false → some (same x) xs ≡ false
+  pub unmarked : (same : A → A → Bool) → Decides same → {xs : List A} {marks : List Bool} {b : ℕ} (x : A) → Marked bucket marks xs
+      → (b ≡ bucket x) × (b < 4096) → getD marks b false ≡ false → some (same x) xs ≡ false
   unmarked same d {xs} {marks} x m q f = each-absent bucket (λ (t : Bool). t) false same d xs marks x (m .each) (rw (← q .0) f)
 
 -- ---- distinct elements, from the last to the first

@@ -21,12 +21,6 @@ returns : tie.Need-returns Inv-loop μ-loop
 unfolding copiedDown
 returns c = let v = c .before .args in rw (lt-leb (v .to) (v .from) (c .if1 .taken))
 
-returns-2 : tie.Need-returns-2 Inv-loop μ-loop
-returns-2 c = let v = c .before .before .args in short-copied (v .store .now) (v .from) (v .to) (v .n) (omega arith)
-
-returns-3 : tie.Need-returns-3 Inv-loop μ-loop
-returns-3 c = let v = c .before .before .before .args in short-copied (v .store .now) (v .from) (v .to) (v .n) (omega arith)
-
 loop-holds : tie.Need-loop-holds Inv-loop μ-loop
 loop-holds c =
     let v = c .before .before .before .args in
@@ -51,9 +45,9 @@ copy-down-spec =
     Inv-loop
     μ-loop
     returns
-    returns-2
+    (λ c. let v = c .before .before .args in short-copied (v .store .now) (v .from) (v .to) (v .n) (omega arith))
     (λ c. search needs)
-    returns-3
+    (λ c. let v = c .before .before .before .args in short-copied (v .store .now) (v .from) (v .to) (v .n) (omega arith))
     loop-holds
     (λ c. search needs)
     (λ c. search needs)

@@ -17,23 +17,19 @@ Inv-loop lows highs from g i₀ i = from + firstIndex (sameGuid g) (drop from (g
 abbrev μ-loop : tie.MeasureT-loop
 μ-loop lows highs from g i₀ i = length lows - i
 
-loop-holds : tie.Need-loop-holds Inv-loop μ-loop
-loop-holds c = refl
-
 returns : tie.Need-returns Inv-loop μ-loop
 returns c =
     let l = c .before .before .before .loop in
     let v = c .before .before .before .before .before .before .args in
-    first-found (guids-step _ _ (l .i) (search needs)) (l .i) _ (l .inv) (told (sameGuid (v .g)) {a = guidAt (v .lows .now) (v .highs .now) (l .i)} refl (c .before .is-guid-at .ensures) (c .if1 .taken))
+    first-found (guids-step _ _ (l .i) (search needs)) (l .i) _ (l .inv)
+    (told (sameGuid (v .g)) {a = guidAt (v .lows .now) (v .highs .now) (l .i)} refl (c .before .is-guid-at .ensures) (c .if1 .taken))
 
 loop-again : tie.Need-loop-again Inv-loop μ-loop
 loop-again c =
     let l = c .before .before .before .loop in
     let v = c .before .before .before .before .before .before .args in
-    first-passed (guids-step _ _ (l .i) (search needs)) (l .i) _ (l .inv) (told (sameGuid (v .g)) {a = guidAt (v .lows .now) (v .highs .now) (l .i)} refl (c .before .is-guid-at .ensures) (c .if1 .left))
-
-returns-2 : tie.Need-returns-2 Inv-loop μ-loop
-returns-2 c = let l = c .before .loop in first-end (guids-end _ _ (l .i) (search needs)) (l .i) _ (l .inv)
+    first-passed (guids-step _ _ (l .i) (search needs)) (l .i) _ (l .inv)
+    (told (sameGuid (v .g)) {a = guidAt (v .lows .now) (v .highs .now) (l .i)} refl (c .before .is-guid-at .ensures) (c .if1 .left))
 
 pub guid-index-from-spec : {M : Type 1} → statement M
 guid-index-from-spec =
@@ -41,10 +37,10 @@ guid-index-from-spec =
     (tie.spec
     Inv-loop
     μ-loop
-    loop-holds
+    (λ c. refl)
     (λ c κs. search needs)
     returns
     (λ c. search needs)
     (λ c. search needs)
     loop-again
-    returns-2)
+    (λ c. let l = c .before .loop in first-end (guids-end _ _ (l .i) (search needs)) (l .i) _ (l .inv)))

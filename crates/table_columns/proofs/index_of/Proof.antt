@@ -26,9 +26,6 @@ loop-again c =
     let l = c .before .before .before .loop in
     first-passed (column-step _ 0 (l .i) (search needs)) (l .i) _ (l .inv) (ne-eqb _ _ (c .if1 .left))
 
-returns-2 : tie.Need-returns-2 Inv-loop μ-loop
-returns-2 c = let l = c .before .loop in first-end (column-end _ (l .i) (search needs)) (l .i) _ (l .inv)
-
 pub index-of-spec : {M : Type 1} → statement M
 index-of-spec =
     tie.close
@@ -42,4 +39,4 @@ index-of-spec =
     (λ c. search needs)
     (λ c. search needs)
     loop-again
-    returns-2)
+    (λ c. let l = c .before .loop in first-end (column-end _ (l .i) (search needs)) (l .i) _ (l .inv)))

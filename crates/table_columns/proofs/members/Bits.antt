@@ -14,7 +14,8 @@ use Rattle.lists.specs.Lists.{keep, every, tabulate, deleteAt, skip}
 use Rattle.table_columns.specs.Members.{bitOf, hasMember, memberRows, Cut}
 use Rattle.table_columns.specs.declared.members.Members.{Members}
 use Rattle.lists.proofs.Tests.{true-or-false, below-or-not}
-use Rattle.lists.proofs.Lists.{every-keep, keep-ext, keep-nil, keep-no, keep-append, keep-map, keep-comm, map-ext, map-map, length-tabulate, getD-tabulate, tabulate-snoc, map-tabulate, every-tabulate, every-tabulate-at, skip-from, getD-delete, delete-tabulate, delete-keep}
+use Rattle.lists.proofs.Lists.{every-keep, keep-ext, keep-nil, keep-no, keep-append, keep-map, keep-comm, map-ext, map-map, skip-from, getD-delete, delete-tabulate, delete-keep}
+use Rattle.lists.proofs.Lists.{length-tabulate, getD-tabulate, tabulate-snoc, map-tabulate, every-tabulate, every-tabulate-at}
 use Rattle.table_columns.proofs.members.WordBits.{bit-past}
 
 module _ (m : Members) where

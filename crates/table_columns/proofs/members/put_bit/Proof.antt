@@ -12,18 +12,9 @@ use Rattle.table_columns.proofs.members.put_bit.Tie as tie
 small : (c : tie.Start) → putBit (c .args .w) (c .args .k) (c .args .b) < 2 ^ 64
 small c = put-lt (c .args .w) (c .args .k) (c .args .b) (c .pre .1) (c .fits .w .fits) (c .pre .0)
 
-mul-result : tie.Need-mul-result
-mul-result c = record { fits = omega (arith, shr-le (c .args .w) (c .args .k)) }
-
-add-result : tie.Need-add-result
-add-result c = record { fits = omega (arith, shr-le (c .args .w) (c .args .k)) }
-
 mul-result-2 : tie.Need-mul-result-2
 unfolding putBit
 mul-result-2 c = rw (unit (c .args .k) (c .pre .0)) (record { fits = omega (arith, small c) })
-
-rem-result : tie.Need-rem-result
-rem-result c = rw (unit (c .args .k) (c .pre .0)) (pow-pos (c .args .k))
 
 add-result-2 : tie.Need-add-result-2
 unfolding putBit
@@ -39,9 +30,9 @@ put-bit-spec =
     (tie.spec
     (λ c. search needs)
     (λ c. search needs)
-    mul-result
-    add-result
+    (λ c. record { fits = omega (arith, shr-le (c .args .w) (c .args .k)) })
+    (λ c. record { fits = omega (arith, shr-le (c .args .w) (c .args .k)) })
     mul-result-2
-    rem-result
+    (λ c. rw (unit (c .args .k) (c .pre .0)) (pow-pos (c .args .k)))
     add-result-2
     returns)

@@ -22,30 +22,12 @@ room c =
     let h = column-in (c .before .before .args .k) (l .j) (l .at) (l .inv .1) (omega arith) in
     omega arith
 
-loop-holds : tie.Need-loop-holds Inv-loop μ-loop
-loop-holds c = (omega arith, omega arith, put-none _ _ _ _ (c .pre .0))
-
-add-ws : tie.Need-add-ws Inv-loop μ-loop
-add-ws c = let h = room (c .before) in omega arith
-
-mul-ws-2 : tie.Need-mul-ws-2 Inv-loop μ-loop
-mul-ws-2 c = let h = room (c .before) in omega arith
-
-slice-write-ws : tie.Need-slice-write-ws Inv-loop μ-loop
-slice-write-ws c = let h = room (c .before) in omega arith
-
-add-at : tie.Need-add-at Inv-loop μ-loop
-add-at c = let h = room (c .before .before) in omega arith
-
 loop-again : tie.Need-loop-again Inv-loop μ-loop
 loop-again c =
     let l = c .before .before .before .loop in
     let s = c .before .before .before .before in
     let h = room (c .before .before) in
     (omega arith, next-column (s .args .k) (l .j) (l .at) (l .inv .1), put-one _ _ _ _ (s .pre .0) (l .ws) (l .j) (l .at) (l .inv .2) (l .inv .1) (omega arith))
-
-same-length : tie.Need-same-length Inv-loop μ-loop
-same-length c = c .before .loop .inv .2 .size
 
 returns : tie.Need-returns Inv-loop μ-loop
 returns c =
@@ -60,15 +42,15 @@ put-row-spec =
     (tie.spec
     Inv-loop
     μ-loop
-    loop-holds
+    (λ c. (omega arith, omega arith, put-none _ _ _ _ (c .pre .0)))
     (λ c. search needs)
     (λ c. search needs)
-    add-ws
-    mul-ws-2
-    slice-write-ws
-    add-at
+    (λ c. let h = room (c .before) in omega arith)
+    (λ c. let h = room (c .before) in omega arith)
+    (λ c. let h = room (c .before) in omega arith)
+    (λ c. let h = room (c .before .before) in omega arith)
     (λ c. search needs)
     (λ c. search needs)
     loop-again
-    same-length
+    (λ c. c .before .loop .inv .2 .size)
     returns)
