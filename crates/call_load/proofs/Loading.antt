@@ -56,7 +56,8 @@ module _ (a b : List ℕ) (i : ℕ) (h : i < length a) (g : i < length b) where
   same-stops e = same-first ∙ rw (ne-eqb (getD a i 0) (getD b i 0) e)
 
 -- the same, where a block of both begins at `at`
-pub same-on : (a b : List ℕ) (at j : ℕ) → at + j < length a → at + j < length b → getD a (at + j) 0 ≡ getD b (at + j) 0 → sameWords (drop (at + j) a) (drop (at + j) b) ≡ sameWords (drop (at + (j + 1)) a) (drop (at + (j + 1)) b)
+pub same-on : (a b : List ℕ) (at j : ℕ) → at + j < length a → at + j < length b → getD a (at + j) 0 ≡ getD b (at + j) 0
+    → sameWords (drop (at + j) a) (drop (at + j) b) ≡ sameWords (drop (at + (j + 1)) a) (drop (at + (j + 1)) b)
 same-on a b at j h g e =
     let s : at + (j + 1) ≡ at + j + 1 = omega arith in
     rw s (same-next a b (at + j) h g e)
@@ -90,7 +91,8 @@ lent ws store t w b =
     }
 
 -- a buffer that is long enough holds it at the front
-module _ (m : Memory) (t : SoundTable m) (l : Lent m) (b b′ : List ℕ) (r : Written) (size : length b ≡ longestSnapshot) (w : Stepped (Call.looking (Look.writeSnapshot b)) m (writtenReply r b′) m) where
+module _ (m : Memory) (t : SoundTable m) (l : Lent m) (b b′ : List ℕ) (r : Written) (size : length b ≡ longestSnapshot)
+    (w : Stepped (Call.looking (Look.writeSnapshot b)) m (writtenReply r b′) m) where
   abbrev bytes : List ℕ
   bytes = snapshotBytes (view m)
 

@@ -14,9 +14,6 @@ Inv-loop to₀ from i₀ to i = (i ≤ length from) × (length to ≡ length fro
 abbrev μ-loop : tie.MeasureT-loop
 μ-loop to₀ from i₀ to i = length from - i
 
-loop-holds : tie.Need-loop-holds Inv-loop μ-loop
-loop-holds c = (omega arith, c .pre, refl)
-
 loop-again : tie.Need-loop-again Inv-loop μ-loop
 loop-again c =
     let l = c .before .before .loop in
@@ -36,7 +33,7 @@ copy-words-spec =
     (tie.spec
     Inv-loop
     μ-loop
-    loop-holds
+    (λ c. (omega arith, c .pre, refl))
     (λ c. omega arith)
     (λ c. omega arith)
     (λ c. omega arith)

@@ -30,18 +30,21 @@ returns-3 : tie.Need-returns-3
 unfolding refusedReply results
 returns-3 c =
     let a = c .before .before .before .before .before .before .before .before .before .before .before .args in
-    load-refused (a .snapshot .now) (memory (a .words .now) (a .store .now)) (c .before .before .before .before .before .before .before .if1 .left) (c .before .before .before .before .before .before .if2 .left)
+    load-refused (a .snapshot .now) (memory (a .words .now) (a .store .now))
+    (c .before .before .before .before .before .before .before .if1 .left) (c .before .before .before .before .before .before .if2 .left)
     (sym (c .before .before .before .read-snapshot .ensures .accepted) ∙ not-true _ (c .if3 .taken))
 
 returns-4 : tie.Need-returns-4
 unfolding acceptedReply results
 returns-4 c =
-    let a = c .before .before .before .before .before .before .before .before .before .before .before .before .before .before .before .before .before .before .before .before .before .args in
-    let h = c .before .before .before .before .before .before .before .before .before .before .before .before .before .read-snapshot in
-    let t : h .result ≡ true = not-false _ (c .before .before .before .before .before .before .before .before .before .before .if3 .left) in
+    let three = c .before .before .before .before .before .before .before .before .before .before in
+    let two = three .before .before .before .before .before .before in
+    let a = two .before .before .before .before .before .args in
+    let h = three .before .before .before .read-snapshot in
+    let t : h .result ≡ true = not-false _ (three .if3 .left) in
     let words = c .before .before .before .before .before .before .before .copy-words .ensures in
     let store = c .before .before .copy .ensures ∙ copied-all _ (h .last .1 .0) (omega arith) in
-    load-accepted (a .snapshot .now) (memory (a .words .now) (a .store .now)) (c .before .before .before .before .before .before .before .before .before .before .before .before .before .before .before .before .before .if1 .left) (c .before .before .before .before .before .before .before .before .before .before .before .before .before .before .before .before .if2 .left) _ _
+    load-accepted (a .snapshot .now) (memory (a .words .now) (a .store .now)) (two .before .if1 .left) (two .if2 .left) _ _
     (sym (h .ensures .accepted) ∙ t) (ap length words ∙ omega arith) (ap length store ∙ omega arith)
     ((λ u. view (memory (words u) (store u))) ∙ h .ensures .entries t)
 

@@ -14,12 +14,6 @@ Inv-loop a b i₀ i = (i ≤ length a) × (sameWords a b ≡ sameWords (drop i a
 abbrev μ-loop : tie.MeasureT-loop
 μ-loop a b i₀ i = length a - i
 
-returns : tie.Need-returns Inv-loop μ-loop
-returns c = sym (other-lengths _ _ (c .if1 .taken))
-
-loop-holds : tie.Need-loop-holds Inv-loop μ-loop
-loop-holds c = c .same-blocks .ensures
-
 returns-2 : tie.Need-returns-2 Inv-loop μ-loop
 returns-2 c =
     let l = c .before .before .before .before .loop in
@@ -44,9 +38,9 @@ same-bytes-spec =
     (tie.spec
     Inv-loop
     μ-loop
-    returns
+    (λ c. sym (other-lengths _ _ (c .if1 .taken)))
     (λ c κs. omega arith)
-    loop-holds
+    (λ c. c .same-blocks .ensures)
     (λ c. omega arith)
     (λ c. omega arith)
     returns-2
