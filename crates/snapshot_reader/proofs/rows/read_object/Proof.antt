@@ -40,13 +40,7 @@ returns-2 c t =
     let e = c .within .ensures in
     row-read Objects s (view (memory ws t)) (c .within .result) _
     (object-fits _ (view (memory ws t)) (st .pre .1 t) ∙ rw (objects-length ws, ← n .ensures .0) (lt-ltb (n .result) objectPlaces (test .if1 .left)))
-    (rw (
-      c .before .before .before .before .before .before .before .before .read-u64 .ensures,
-      c .before .before .before .before .before .before .before .read-u642 .ensures,
-      c .before .before .before .before .before .before .is-zero .ensures,
-      c .before .before .before .before .before .read-u643 .ensures,
-    )
-    at (c .before .before .before .add-object .ensures t))
+    (cc (c .before .before .before .add-object .ensures t))
     (rw e (drop-within s 25))
     (omega arith)
 
