@@ -86,7 +86,8 @@ module _ (ids : List ℕ) (p : proper ids ≡ true) where
     put-nil m w = record { words = w; rows = λ j. rw (and-false (ltb j (length ids))) }
 
     -- one more
-    pub put-snoc : (listed : List ℕ) (oid : ℕ) {m r r′ : Members} → MembersUpdated member ids listed m r → MembersUpdated member ids (oid ∷ []) r r′ → MembersUpdated member ids (listed ++ (oid ∷ [])) m r′
+    pub put-snoc : (listed : List ℕ) (oid : ℕ) {m r r′ : Members} → MembersUpdated member ids listed m r → MembersUpdated member ids (oid ∷ []) r r′
+        → MembersUpdated member ids (listed ++ (oid ∷ [])) m r′
     put-snoc listed oid {m} a b =
         record {
           words = b .words;
@@ -112,14 +113,18 @@ module _ (ids : List ℕ) (p : proper ids ≡ true) where
     pub listed-none : InWords m → AllListed member ids [] m (record { members = m; live = true })
     listed-none w = record { members = λ t. put-nil member m w; live = sym (rw (every-nil (among ids), or-true (not member))) }
 
-    module _ (listed : List ℕ) (k : ℕ) {r r′ : Listed} {oid : ℕ} (before : AllListed member ids (take k listed) m r) (live : r .live ≡ true) (h : k < length listed) (e : oid ≡ getD listed k 0) (one : OneListed member ids oid r r′) where
+    module _ (listed : List ℕ) (k : ℕ) {r r′ : Listed} {oid : ℕ} (before : AllListed member ids (take k listed) m r) (live : r .live ≡ true) (h : k < length listed)
+        (e : oid ≡ getD listed k 0) (one : OneListed member ids oid r r′) where
       -- one more
       pub listed-next : AllListed member ids (take (k + 1) listed) m r′
       listed-next =
           rw (add-one k, take-suc listed k 0 h, ← e)
           (record {
             members = λ t. put-snoc member (take k listed) oid (before .members live) (one .members);
-            live = one .live live ∙ both member (every (among ids) (take k listed)) (among ids oid) (sym live ∙ before .live) ∙ ap (_||_ (not member)) (sym (every-snoc (among ids) (take k listed) oid));
+            live =
+                one .live live
+                ∙ both member (every (among ids) (take k listed)) (among ids oid) (sym live ∙ before .live)
+                ∙ ap (_||_ (not member)) (sym (every-snoc (among ids) (take k listed) oid));
           })
         where
           both : (t a b : Bool) → true ≡ (not t || a) → (not t || b) ≡ (not t || (a && b))
@@ -132,7 +137,11 @@ module _ (ids : List ℕ) (p : proper ids ≡ true) where
       listed-dead d =
           record {
             members = λ t. absurd (true-false (sym t ∙ d));
-            live = d ∙ past member (every (among ids) (take (k + 1) listed)) (every (among ids) (drop (k + 1) listed)) (sym d ∙ listed-next .live) ∙ ap (_||_ (not member)) (sym (every-append (among ids) (take (k + 1) listed) (drop (k + 1) listed)) ∙ ap (every (among ids)) (take-append-drop (k + 1) listed));
+            live =
+                d
+                ∙ past member (every (among ids) (take (k + 1) listed)) (every (among ids) (drop (k + 1) listed)) (sym d ∙ listed-next .live)
+                ∙ ap (_||_ (not member))
+                (sym (every-append (among ids) (take (k + 1) listed) (drop (k + 1) listed)) ∙ ap (every (among ids)) (take-append-drop (k + 1) listed));
           }
         where
           past : (t a b : Bool) → false ≡ (not t || a) → false ≡ (not t || (a && b))
@@ -145,7 +154,8 @@ module _ (ids : List ℕ) (p : proper ids ≡ true) where
     listed-all listed k before e = rw (e, take-length listed) at before
 
   -- adds, then deletes: the OIDs that stay or join, and are not deleted
-  pub new-members : (adds dels : List ℕ) (m a r : Members) → length ids ≤ 128 → ((j : ℕ) → length ids ≤ j → hasMember m j ≡ false) → MembersUpdated true ids adds m a → MembersUpdated false ids dels a r
+  pub new-members : (adds dels : List ℕ) (m a r : Members) → length ids ≤ 128 → ((j : ℕ) → length ids ≤ j → hasMember m j ≡ false)
+      → MembersUpdated true ids adds m a → MembersUpdated false ids dels a r
       → memberValues ids r ≡ keep (λ (o : ℕ). (among (memberValues ids m) o || among adds o) && not (among dels o)) ids
   new-members adds dels m a r l none joins leaves =
       members-kept ids p r (λ o. (among (memberValues ids m) o || among adds o) && not (among dels o)) l

@@ -48,7 +48,8 @@ pub complex-rows : (s n : ℕ) (adds dels : List ℕ) (e : Entries)
     → number (Call.editing (Edit.complexPing s n adds dels)) e ≡ order (passes (order (earlyRows s n (length adds) (length dels) e)) ∷ not (every (isLiveObject e) adds) gives 5 ∷ lateRows s e)
 unfolding number refusals order
 complex-rows s n adds dels e =
-    parts (tooMany adds) (tooMany dels) (eqb s 0) (not (isLiveSet e s)) (staleSequence (setOf e s .sequence) n) (not (every (isLiveObject e) adds)) (leb setPlaces (length (e .sets))) (eqb (e .next) (2 ^ 64 - 1))
+    parts (tooMany adds) (tooMany dels) (eqb s 0) (not (isLiveSet e s)) (staleSequence (setOf e s .sequence) n) (not (every (isLiveObject e) adds))
+    (leb setPlaces (length (e .sets))) (eqb (e .next) (2 ^ 64 - 1))
   where
     parts : (a d z g t l f u : Bool)
         → order ((a || d) gives 10 ∷ cond z (l gives 5 ∷ f gives 9 ∷ u gives 18 ∷ []) (g gives 11 ∷ t gives 12 ∷ l gives 5 ∷ []))
@@ -170,7 +171,8 @@ before-row ws st s {r} {m} z found h below held =
     }
 
 -- of both lists
-pub reduced : (s n : ℕ) (adds dels : List ℕ) (e : Entries) {m : Members} {a d : Listed} → proper (oids e) ≡ true → length (oids e) ≤ 128 → order (earlyRows s n (length adds) (length dels) e) ≡ 0 → MembersBefore s e m
+pub reduced : (s n : ℕ) (adds dels : List ℕ) (e : Entries) {m : Members} {a d : Listed} → proper (oids e) ≡ true → length (oids e) ≤ 128
+    → order (earlyRows s n (length adds) (length dels) e) ≡ 0 → MembersBefore s e m
     → AllListed true (oids e) adds m a → a .live ≡ true → AllListed false (oids e) dels (a .members) d → Reduced s n adds dels e (d .members)
 reduced s n adds dels e {m} {a} {d} p l early before joins live leaves =
     record {

@@ -50,12 +50,14 @@ live-left c s =
     ∙ ap (λ (t : Bool). order (cond t [] (liveRows (a .set .0) (a .sequence) (a .adds) (a .deletes) (At st s)))) (ne-eqb (a .set .0) 0 (c .if3 .left))
 
 -- tests of the rows
-set-judged : (c : tie.After-set-count) (s : List ℕ) → isLiveSet (At (c .before .before .before .before .before .before .before) s) (c .before .before .before .before .before .before .before .args .set .0) ≡ ltb (c .before .set-row .result) (c .set-count .result)
+set-judged : (c : tie.After-set-count) (s : List ℕ) → let st = c .before .before .before .before .before .before .before in
+    isLiveSet (At st s) (st .args .set .0) ≡ ltb (c .before .set-row .result) (c .set-count .result)
 set-judged c s =
     let a = c .before .before .before .before .before .before .before .args in
     set-tested (a .words .now) s (a .set .0) (c .before .set-row .ensures s) (c .set-count .ensures .0)
 
-stale-judged : (c : tie.After-is-stale) (s : List ℕ) → staleSequence (setOf (At (c .before .before .before .before .before .before .before .before .before .before) s) (c .before .before .before .before .before .before .before .before .before .before .args .set .0) .sequence) (c .before .before .before .before .before .before .before .before .before .before .args .sequence) ≡ c .is-stale .result
+stale-judged : (c : tie.After-is-stale) (s : List ℕ) → let st = c .before .before .before .before .before .before .before .before .before .before in
+    staleSequence (setOf (At st s) (st .args .set .0) .sequence) (st .args .sequence) ≡ c .is-stale .result
 stale-judged c s =
     let a = c .before .before .before .before .before .before .before .before .before .before .args in
     stale-tested (a .words .now) s (a .set .0) (a .sequence) (c .before .before .before .before .set-row .ensures s) (c .before .sequence .ensures) (c .is-stale .ensures)

@@ -17,10 +17,16 @@ stale-by last new d e b l =
     ap (λ (k : ℕ). eqb k 0 || ltb 32767 k) h
 
 returns : tie.Need-returns
-returns c = rw (eq-eqb _ 0 (c .if1 .taken)) at (stale-by (c .before .before .args .last) (c .before .before .args .new) (c .before .wrapping-sub-u16 .result) (c .before .wrapping-sub-u16 .ensures) (omega arith) (omega arith))
+returns c =
+    let a = c .before .before .args in
+    let d = c .before .wrapping-sub-u16 in
+    rw (eq-eqb _ 0 (c .if1 .taken)) at (stale-by (a .last) (a .new) (d .result) (d .ensures) (omega arith) (omega arith))
 
 returns-2 : tie.Need-returns-2
-returns-2 c = rw (ne-eqb _ 0 (c .if1 .left)) at (stale-by (c .before .before .args .last) (c .before .before .args .new) (c .before .wrapping-sub-u16 .result) (c .before .wrapping-sub-u16 .ensures) (omega arith) (omega arith))
+returns-2 c =
+    let a = c .before .before .args in
+    let d = c .before .wrapping-sub-u16 in
+    rw (ne-eqb _ 0 (c .if1 .left)) at (stale-by (a .last) (a .new) (d .result) (d .ensures) (omega arith) (omega arith))
 
 pub is-stale-spec : {M : Type 1} → statement M
 is-stale-spec = tie.close (tie.spec (λ c κs. search needs) returns returns-2)

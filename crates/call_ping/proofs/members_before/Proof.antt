@@ -21,7 +21,8 @@ returns-2 c s =
     let start = c .before .before .before .before .before in
     let a = start .args in
     let z = c .before .before .if1 .left in
-    before-row (a .words .now) s (a .set .0) z (c .before .set-row .ensures s) (named-row (a .words .now) [] (a .set .0) (start .pre .1) z (c .before .set-row .ensures [])) (start .pre .2) (c .members .ensures)
+    let found = c .before .set-row .ensures in
+    before-row (a .words .now) s (a .set .0) z (found s) (named-row (a .words .now) [] (a .set .0) (start .pre .1) z (found [])) (start .pre .2) (c .members .ensures)
 
 pub members-before-spec : {M : Type 1} → statement M
 members-before-spec = tie.close (tie.spec returns (λ c κs. search needs) members-requires returns-2)

@@ -58,26 +58,33 @@ update-set-requires c κs =
 
 ping-row-requires : tie.Need-ping-row-requires
 ping-row-requires c κs =
-    let st = c .before .before .before .before .before .before .before .before .before .before .before .before .before .before .before .before in
+    let row = c .before .before .before .before .before .before .before in
+    let st = row .before .before .before .before .before .before .before .before .before in
     let a = st .args in
-    let r = c .before .before .before .before .before .before .before .ping-set-row in
+    let r = row .ping-set-row in
     let u = c .before .before .before .update-set in
-    let q = ping-asked (a .set .0) (At st) (st .pre .0 .entries) (st .pre .1) (a .store .now) (r .last .0) (r .result) (r .ensures .0 (a .store .now)) (r .ensures .1 (a .store .now)) (a .sequence) (a .members) (u .last .0) (u .ensures) in
+    let s = a .store .now in
+    let q =
+    ping-asked (a .set .0) (At st) (st .pre .0 .entries) (st .pre .1) s (r .last .0) (r .result) (r .ensures .0 s) (r .ensures .1 s) (a .sequence) (a .members)
+    (u .last .0) (u .ensures) in
     (search needs, q .0, q .1)
 
 returns-2 : tie.Need-returns-2
 unfolding acceptedReply results
 returns-2 c adds dels left =
-    let late = c .before .before .before .before .before .before .before .before .before .before .before .before .before .before .before in
+    let row = c .before .before .before .before .before .before .before .before .before .before in
+    let test = row .before .before .before .before in
+    let late = test .before in
     let st = late .before .before .before .before in
     let a = st .args in
-    let r = c .before .before .before .before .before .before .before .before .before .before .ping-set-row in
+    let s = a .store .now in
+    let r = row .ping-set-row in
     let u = c .before .before .before .before .before .before .update-set in
     let p = c .before .before .ping-row in
-    rw (c .before .before .before .before .before .before .before .before .before .before .before .before .ping-set-number .ensures)
-    (accepted-step 0 (sym (c .before .before .before .before .before .before .before .before .before .before .before .before .before .before .if1 .left) ∙ numbered late adds dels left) refl _
-    (pinged-next (a .set .0) (At st) (st .pre .0 .entries) (st .pre .1) (a .store .now) (r .last .0) (r .result) (r .ensures .0 (a .store .now)) (r .ensures .1 (a .store .now)) (a .sequence) (a .members) (u .last .0) (u .ensures)
-    adds dels (left .members) (p .last .0) (p .ensures)))
+    rw (row .before .before .ping-set-number .ensures)
+    (accepted-step 0 (sym (test .if1 .left) ∙ numbered late adds dels left) refl _
+    (pinged-next (a .set .0) (At st) (st .pre .0 .entries) (st .pre .1) s (r .last .0) (r .result) (r .ensures .0 s) (r .ensures .1 s) (a .sequence) (a .members)
+    (u .last .0) (u .ensures) adds dels (left .members) (p .last .0) (p .ensures)))
 
 pub ping-listed-spec : {M : Type 1} → statement M
 ping-listed-spec =

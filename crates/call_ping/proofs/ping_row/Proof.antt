@@ -16,15 +16,18 @@ set-pinged-requires c κs =
     let start = c .before .before .before .before .before .before .before .before .before .before in
     let ws = start .args .words .now in
     let b = start .pre .1 in
-    let sets : setCount (c .before .before .before .hear .last .0) ≡ setCount ws = sym (sets-length (c .before .before .before .hear .last .0)) ∙ ap (λ (e : Entries). length (e .sets)) (c .before .before .before .hear .ensures ws) ∙ sets-length ws in
+    let heard = c .before .before .before .hear in
+    let sets : setCount (heard .last .0) ≡ setCount ws = sym (sets-length (heard .last .0)) ∙ ap (λ (e : Entries). length (e .sets)) (heard .ensures ws) ∙ sets-length ws in
     (search needs, omega arith)
 
 returns : tie.Need-returns
 returns c s =
-    let start = c .before .before .before .before .before .before .before .before .before .before .before .before .before in
+    let read = c .before .before .before .before .before .before .before .before .before .before in
+    let start = read .before .before .before in
     let ws = start .args .words .now in
     rw (c .before .before .before .before .before .before .before .before .clock .ensures) at (c .before .before .set-pinged .ensures s)
-    ∙ ap (changeSet (start .args .i) (pingedAt (clockOf ws))) (c .before .before .before .before .before .before .hear .ensures s ∙ row-heard ws (start .args .i) (c .before .before .before .before .before .before .before .before .before .before .members .result) s (start .pre .1) (c .before .before .before .before .before .before .before .before .before .before .members .ensures))
+    ∙ ap (changeSet (start .args .i) (pingedAt (clockOf ws)))
+    (c .before .before .before .before .before .before .hear .ensures s ∙ row-heard ws (start .args .i) (read .members .result) s (start .pre .1) (read .members .ensures))
 
 pub ping-row-spec : {M : Type 1} → statement M
 ping-row-spec = tie.close (tie.spec (λ c κs. search needs) (λ c κs. search needs) (λ c κs. search needs) set-pinged-requires (λ c. search needs) returns)

@@ -47,9 +47,10 @@ ping-row-requires c κs =
 returns-3 : tie.Need-returns-3
 unfolding acceptedReply results
 returns-3 c =
-    let a = c .before .before .before .before .before .before .before .before .before .before .before .before .before .args in
+    let test = c .before .before .before .before .before .before .before .before .before in
+    let st = test .before .before .before .before in
+    let a = st .args in
     let e = view (memory (a .words .now) (a .store .now)) in
-    let t = c .before .before .before .before .before .before .before .before .before .before .before .before .before .pre in
     let found = c .before .before .before .before .before .before .before .set-row .ensures (a .store .now) in
     let count = c .before .before .before .before .before .set-count .ensures .0 in
     let live = c .before .before .before .before .if2 .left in
@@ -58,9 +59,9 @@ returns-3 c =
     accepted-step 0
     (rows-end
     (live-passes (set-tested (a .words .now) (a .store .now) (a .set .0) found count) _ _
-    (row-passes _ _ _ (simple-rows _ _) (ne-eqb _ 0 (c .before .before .before .before .before .before .before .before .before .if1 .left))) live))
+    (row-passes _ _ _ (simple-rows _ _) (ne-eqb _ 0 (test .if1 .left))) live))
     refl _
-    (c .before .before .ping-row .ensures (a .store .now) ∙ ap (λ (k : ℕ). pingedRow k e) found ∙ sym (simple-ping-row e (t .entries) (a .set .0) here))
+    (c .before .before .ping-row .ensures (a .store .now) ∙ ap (λ (k : ℕ). pingedRow k e) found ∙ sym (simple-ping-row e (st .pre .entries) (a .set .0) here))
 
 pub simple-ping-step-spec : {M : Type 1} → statement M
 simple-ping-step-spec =

@@ -31,14 +31,19 @@ returns c s =
     let l = c .before .before .before .before .before .loop in
     let start = c .before .before .before .before .before .before .before .before in
     let a = start .args in
-    listed-dead (oids (view (memory (a .words .now) s))) (start .pre .1) (a .member) (a .members) (a .ids .now) (l .k) (l .inv .2 s) (l .inv .1) (omega arith) refl (c .before .before .update-member .ensures s) (not-true _ (c .if1 .taken))
+    listed-dead (oids (view (memory (a .words .now) s))) (start .pre .1) (a .member) (a .members) (a .ids .now) (l .k) (l .inv .2 s) (l .inv .1) (omega arith) refl
+    (c .before .before .update-member .ensures s) (not-true _ (c .if1 .taken))
 
 loop-again : tie.Need-loop-again Inv-loop μ-loop
 loop-again c =
     let l = c .before .before .before .before .before .loop in
     let start = c .before .before .before .before .before .before .before .before in
     let a = start .args in
-    (omega arith, not-false _ (c .if1 .left), λ s. listed-next (oids (view (memory (a .words .now) s))) (start .pre .1) (a .member) (a .members) (a .ids .now) (l .k) (l .inv .2 s) (l .inv .1) (omega arith) refl (c .before .before .update-member .ensures s))
+    let one = c .before .before .update-member .ensures in (
+      omega arith,
+      not-false _ (c .if1 .left),
+      λ s. listed-next (oids (view (memory (a .words .now) s))) (start .pre .1) (a .member) (a .members) (a .ids .now) (l .k) (l .inv .2 s) (l .inv .1) (omega arith) refl (one s),
+    )
 
 returns-2 : tie.Need-returns-2 Inv-loop μ-loop
 returns-2 c s =

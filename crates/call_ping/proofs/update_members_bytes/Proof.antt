@@ -34,7 +34,9 @@ returns c s =
     let start = c .before .before .before .before .before .before .before .before in
     let a = start .args in
     let n = length-tabulate (length (a .bytes .now) / 8) (λ k. field (a .bytes .now) (8 * k) 8) in
-    listed-dead (oids (view (memory (a .words .now) s))) (start .pre .1) (a .member) (a .members) (oidsIn (a .bytes .now)) (l .k) (l .inv .2 s) (l .inv .1) (omega arith) (c .before .before .before .read-u64 .ensures ∙ sym (getD-tabulate (length (a .bytes .now) / 8) (λ k. field (a .bytes .now) (8 * k) 8) 0 (l .k) (omega arith))) (c .before .before .update-member .ensures s) (not-true _ (c .if1 .taken))
+    let id = c .before .before .before .read-u64 .ensures ∙ sym (getD-tabulate (length (a .bytes .now) / 8) (λ k. field (a .bytes .now) (8 * k) 8) 0 (l .k) (omega arith)) in
+    listed-dead (oids (view (memory (a .words .now) s))) (start .pre .1) (a .member) (a .members) (oidsIn (a .bytes .now)) (l .k) (l .inv .2 s) (l .inv .1) (omega arith) id
+    (c .before .before .update-member .ensures s) (not-true _ (c .if1 .taken))
 
 loop-again : tie.Need-loop-again Inv-loop μ-loop
 loop-again c =
@@ -42,7 +44,12 @@ loop-again c =
     let start = c .before .before .before .before .before .before .before .before in
     let a = start .args in
     let n = length-tabulate (length (a .bytes .now) / 8) (λ k. field (a .bytes .now) (8 * k) 8) in
-    (omega arith, not-false _ (c .if1 .left), λ s. listed-next (oids (view (memory (a .words .now) s))) (start .pre .1) (a .member) (a .members) (oidsIn (a .bytes .now)) (l .k) (l .inv .2 s) (l .inv .1) (omega arith) (c .before .before .before .read-u64 .ensures ∙ sym (getD-tabulate (length (a .bytes .now) / 8) (λ k. field (a .bytes .now) (8 * k) 8) 0 (l .k) (omega arith))) (c .before .before .update-member .ensures s))
+    let id = c .before .before .before .read-u64 .ensures ∙ sym (getD-tabulate (length (a .bytes .now) / 8) (λ k. field (a .bytes .now) (8 * k) 8) 0 (l .k) (omega arith)) in
+    let one = c .before .before .update-member .ensures in (
+      omega arith,
+      not-false _ (c .if1 .left),
+      λ s. listed-next (oids (view (memory (a .words .now) s))) (start .pre .1) (a .member) (a .members) (oidsIn (a .bytes .now)) (l .k) (l .inv .2 s) (l .inv .1) (omega arith) id (one s),
+    )
 
 returns-2 : tie.Need-returns-2 Inv-loop μ-loop
 returns-2 c s =

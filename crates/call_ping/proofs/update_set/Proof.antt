@@ -16,7 +16,8 @@ set-sequence-requires c κs =
     let ws = start .args .words .now in
     let b = start .pre .1 in
     let put = c .before .before .before .set-members in
-    let sets : setCount (put .last .0) ≡ setCount ws = sym (sets-length (put .last .0)) ∙ ap (λ (e : Entries). length (e .sets)) (put .ensures ws) ∙ length-set (setsOf ws) (start .args .i) _ ∙ sets-length ws in
+    let sets : setCount (put .last .0) ≡ setCount ws =
+    sym (sets-length (put .last .0)) ∙ ap (λ (e : Entries). length (e .sets)) (put .ensures ws) ∙ length-set (setsOf ws) (start .args .i) _ ∙ sets-length ws in
     (search needs, omega arith)
 
 returns : tie.Need-returns
