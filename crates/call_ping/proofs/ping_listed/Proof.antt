@@ -18,12 +18,16 @@ use Rattle.call_ping.proofs.ping_listed.Tie as tie
 abbrev At : tie.Start → Entries
 At st = view (memory (st .args .words .now) (st .args .store .now))
 
+-- where the call began
+abbrev start : tie.After-late-number → tie.Start
+start c = c .before .before .before .before
+
 -- the number that the rules give
-numbered : (c : tie.After-late-number) (adds dels : List ℕ) → let a = c .before .before .before .before .args in
-    Reduced (a .set .0) (a .sequence) adds dels (At (c .before .before .before .before)) (a .members)
-    → c .late-number .result ≡ number (Call.editing (Edit.complexPing (a .set .0) (a .sequence) adds dels)) (At (c .before .before .before .before))
+numbered : (c : tie.After-late-number) (adds dels : List ℕ) → let a = start c .args in
+    Reduced (a .set .0) (a .sequence) adds dels (At (start c)) (a .members)
+    → c .late-number .result ≡ number (Call.editing (Edit.complexPing (a .set .0) (a .sequence) adds dels)) (At (start c))
 numbered c adds dels r =
-    let st = c .before .before .before .before in
+    let st = start c in
     let a = st .args in
     c .late-number .ensures (a .store .now) ∙ sym (late-left (a .set .0) (a .sequence) adds dels (At st) (r .early) (r .alive))
 
@@ -39,7 +43,7 @@ ping-set-number-requires c κs = c .before .before .before .before .before .befo
 
 ping-set-row-requires : tie.Need-ping-set-row-requires
 ping-set-row-requires c κs =
-    let st = c .before .before .before .before .before .before .before .before in
+    let st = start (c .before .before .before .before) in
     let a = st .args in
     let known = c .before .before .before .before .before .before .before .slice-known .given 1 in
     let l = sets-length (a .words .now) in (
@@ -51,7 +55,7 @@ ping-set-row-requires c κs =
 
 update-set-requires : tie.Need-update-set-requires
 update-set-requires c κs =
-    let st = c .before .before .before .before .before .before .before .before .before .before .before .before in
+    let st = start (c .before .before .before .before .before .before .before .before) in
     let a = st .args in
     let r = c .before .before .before .ping-set-row in
     (search needs, update-asked (a .set .0) (At st) (st .pre .0 .entries) (st .pre .1) (a .store .now) (r .last .0) (r .result) (r .ensures .0 (a .store .now)) (r .ensures .1 (a .store .now)))
@@ -59,7 +63,7 @@ update-set-requires c κs =
 ping-row-requires : tie.Need-ping-row-requires
 ping-row-requires c κs =
     let row = c .before .before .before .before .before .before .before in
-    let st = row .before .before .before .before .before .before .before .before .before in
+    let st = start (row .before .before .before .before .before) in
     let a = st .args in
     let r = row .ping-set-row in
     let u = c .before .before .before .update-set in
@@ -75,7 +79,7 @@ returns-2 c adds dels left =
     let row = c .before .before .before .before .before .before .before .before .before .before in
     let test = row .before .before .before .before in
     let late = test .before in
-    let st = late .before .before .before .before in
+    let st = start late in
     let a = st .args in
     let s = a .store .now in
     let r = row .ping-set-row in

@@ -11,11 +11,15 @@ use Rattle.call_ping.proofs.Pings.{row-heard}
 use Rattle.call_ping.proofs.ping_row.Statement.{statement}
 use Rattle.call_ping.proofs.ping_row.Tie as tie
 
+-- where the call began
+abbrev start : tie.After-members → tie.Start
+start c = c .before .before .before
+
 set-pinged-requires : tie.Need-set-pinged-requires
 set-pinged-requires c κs =
-    let start = c .before .before .before .before .before .before .before .before .before .before in
-    let ws = start .args .words .now in
-    let b = start .pre .1 in
+    let st = start (c .before .before .before .before .before .before .before) in
+    let ws = st .args .words .now in
+    let b = st .pre .1 in
     let heard = c .before .before .before .hear in
     let sets : setCount (heard .last .0) ≡ setCount ws = sym (sets-length (heard .last .0)) ∙ ap (λ (e : Entries). length (e .sets)) (heard .ensures ws) ∙ sets-length ws in
     (search needs, omega arith)
@@ -23,11 +27,11 @@ set-pinged-requires c κs =
 returns : tie.Need-returns
 returns c s =
     let read = c .before .before .before .before .before .before .before .before .before .before in
-    let start = read .before .before .before in
-    let ws = start .args .words .now in
+    let st = start read in
+    let ws = st .args .words .now in
     rw (c .before .before .before .before .before .before .before .before .clock .ensures) at (c .before .before .set-pinged .ensures s)
-    ∙ ap (changeSet (start .args .i) (pingedAt (clockOf ws)))
-    (c .before .before .before .before .before .before .hear .ensures s ∙ row-heard ws (start .args .i) (read .members .result) s (start .pre .1) (read .members .ensures))
+    ∙ ap (changeSet (st .args .i) (pingedAt (clockOf ws)))
+    (c .before .before .before .before .before .before .hear .ensures s ∙ row-heard ws (st .args .i) (read .members .result) s (st .pre .1) (read .members .ensures))
 
 pub ping-row-spec : {M : Type 1} → statement M
 ping-row-spec = tie.close (tie.spec (λ c κs. search needs) (λ c κs. search needs) (λ c κs. search needs) set-pinged-requires (λ c. search needs) returns)

@@ -17,29 +17,34 @@ use Rattle.call_ping.proofs.simple_ping_step.Statement.{statement}
 use Rattle.call_ping.proofs.simple_ping_step.Tie as tie
 use Rattle.rules.specs.Entries.{setRow}
 
+-- where the call began
+abbrev start : tie.Else1 → tie.Start
+start c = c .before .before .before .before
+
 returns : tie.Need-returns
 unfolding refusedReply results
 returns c =
     refused-step 11 (row-gives _ _ _ (simple-rows _ _) (eq-eqb _ 0 (c .if1 .taken))) (λ z. omega arith)
 
 set-row-requires : tie.Need-set-row-requires
-set-row-requires c κs = c .before .before .before .before .before .pre .words
+set-row-requires c κs = start (c .before) .pre .words
 
 set-count-requires : tie.Need-set-count-requires
-set-count-requires c κs = c .before .before .before .before .before .before .before .pre .words
+set-count-requires c κs = start (c .before .before .before) .pre .words
 
 returns-2 : tie.Need-returns-2
 unfolding refusedReply results
 returns-2 c =
-    let a = c .before .before .before .before .before .before .before .before .before .args in
+    let test = c .before .before .before .before .before in
+    let a = start test .args in
     refused-step 11
     (gone-gives (set-tested (a .words .now) (a .store .now) (a .set .0) (c .before .before .before .set-row .ensures (a .store .now)) (c .before .set-count .ensures .0)) _ _
-    (row-passes _ _ _ (simple-rows _ _) (ne-eqb _ 0 (c .before .before .before .before .before .if1 .left))) (c .if2 .taken))
+    (row-passes _ _ _ (simple-rows _ _) (ne-eqb _ 0 (test .if1 .left))) (c .if2 .taken))
     (λ z. omega arith)
 
 ping-row-requires : tie.Need-ping-row-requires
 ping-row-requires c κs =
-    let t = c .before .before .before .before .before .before .before .before .before .before .pre in
+    let t = start (c .before .before .before .before .before .before) .pre in
     let count = c .before .before .set-count .ensures .0 in
     let live = c .before .if2 .left in
     (t .words, omega arith, sound-fields _ (t .entries) .objectsProper)
@@ -48,7 +53,7 @@ returns-3 : tie.Need-returns-3
 unfolding acceptedReply results
 returns-3 c =
     let test = c .before .before .before .before .before .before .before .before .before in
-    let st = test .before .before .before .before in
+    let st = start test in
     let a = st .args in
     let e = view (memory (a .words .now) (a .store .now)) in
     let found = c .before .before .before .before .before .before .before .set-row .ensures (a .store .now) in
