@@ -22,9 +22,9 @@ abbrev μ-loop : tie.MeasureT-loop
 
 loop-holds : tie.Need-loop-holds Inv-loop μ-loop
 loop-holds c =
-    let start = c .before .before .before in
-    let ws = start .args .words .now in
-    (search needs, λ s. going-none (λ e. e .interfaces) (λ e. noneOf (start .args .client)) (cleared (start .args .client)) noInterface (view (memory ws s)) _ (c .interface-count .ensures .0 ∙ sym (interfaces-length ws)))
+    let a = c .before .before .before .args in
+    let n = c .interface-count .ensures .0 ∙ sym (interfaces-length (a .words .now)) in
+    (search needs, λ s. going-none (λ e. e .interfaces) (λ e. noneOf (a .client)) (cleared (a .client)) noInterface (view (memory (a .words .now) s)) _ n)
 
 put-count-requires : tie.Need-put-count-requires Inv-loop μ-loop
 put-count-requires c κs =
@@ -36,8 +36,12 @@ put-count-requires c κs =
 loop-again : tie.Need-loop-again Inv-loop μ-loop
 loop-again c =
     let l = c .before .before .before .before .before .loop in
-    let start = c .before .before .before .before .before .before .before .before .before in
-    (search needs, λ s. rw (c .before .before .put-count .ensures s, add-one (start .args .client)) (clearing-row (start .args .client) (view (memory (start .args .words .now) s)) (view (memory (l .words) s)) (l .i) (l .inv .1 s) _ (omega arith)))
+    let a = c .before .before .before .before .before .before .before .before .before .args in (
+      search needs,
+      λ s.
+          let e = view (memory (a .words .now) s) in
+          rw (c .before .before .put-count .ensures s, add-one (a .client)) (clearing-row (a .client) e (view (memory (l .words) s)) (l .i) (l .inv .1 s) _ (omega arith)),
+    )
 
 returns : tie.Need-returns Inv-loop μ-loop
 returns c s =

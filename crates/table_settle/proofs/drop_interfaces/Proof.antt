@@ -34,9 +34,13 @@ leave-interface-requires c κs =
 
 loop-again : tie.Need-loop-again Inv-loop μ-loop
 loop-again c =
-    let l = c .before .before .before .before .before .before .loop in
-    let start = c .before .before .before .before .before .before .before .before .before .before .before .before .before in
-    (search needs, λ s. rw (c .before .before .leave-interface .ensures s) (interfaces-row (view (memory (start .args .words .now) s)) (view (memory (l .words) s)) (l .i) (l .inv .1 s) _ (omega arith)))
+    let round = c .before .before .before .before .before .before in
+    let l = round .loop in
+    let ws = round .before .before .before .before .before .before .before .args .words .now in (
+      search needs,
+      λ s.
+          rw (c .before .before .leave-interface .ensures s) (interfaces-row (view (memory ws s)) (view (memory (l .words) s)) (l .i) (l .inv .1 s) _ (omega arith)),
+    )
 
 returns : tie.Need-returns Inv-loop μ-loop
 returns c s =

@@ -28,9 +28,10 @@ abbrev μ-loop : tie.MeasureT-loop
 loop-holds : tie.Need-loop-holds Inv-loop μ-loop
 loop-holds c =
     let start = c .before .before .before .before in
-    let ws = start .args .words .now in (
+    let a = start .args in
+    let n = c .object-count .ensures .0 ∙ sym (objects-length (a .words .now)) in (
       search needs,
-      λ s. going-none (λ e. e .objects) (stays (start .args .why)) (λ e. objectsLeft (stays (start .args .why) e) e) noObject (view (memory ws s)) _ (c .object-count .ensures .0 ∙ sym (objects-length ws)),
+      λ s. going-none (λ e. e .objects) (stays (a .why)) (λ e. objectsLeft (stays (a .why) e) e) noObject (view (memory (a .words .now) s)) _ n,
       start .pre .1,
       start .pre .2,
     )

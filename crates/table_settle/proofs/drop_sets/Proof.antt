@@ -22,9 +22,9 @@ abbrev μ-loop : tie.MeasureT-loop
 
 loop-holds : tie.Need-loop-holds Inv-loop μ-loop
 loop-holds c =
-    let start = c .before .before .before in
-    let ws = start .args .words .now in
-    (search needs, λ s. going-none (λ e. e .sets) (λ e. pingedWithin (start .args .time)) (setsLeft (start .args .time)) noSet (view (memory ws s)) _ (c .set-count .ensures .0 ∙ sym (sets-length ws)))
+    let a = c .before .before .before .args in
+    let n = c .set-count .ensures .0 ∙ sym (sets-length (a .words .now)) in
+    (search needs, λ s. going-none (λ e. e .sets) (λ e. pingedWithin (a .time)) (setsLeft (a .time)) noSet (view (memory (a .words .now) s)) _ n)
 
 leave-set-requires : tie.Need-leave-set-requires Inv-loop μ-loop
 leave-set-requires c κs =
@@ -36,8 +36,12 @@ leave-set-requires c κs =
 loop-again : tie.Need-loop-again Inv-loop μ-loop
 loop-again c =
     let l = c .before .before .before .before .before .loop in
-    let start = c .before .before .before .before .before .before .before .before .before in
-    (search needs, λ s. rw (c .before .before .leave-set .ensures s) (sets-row (start .args .time) (view (memory (start .args .words .now) s)) (view (memory (l .words) s)) (l .i) (l .inv .1 s) _ (omega arith)))
+    let start = c .before .before .before .before .before .before .before .before .before in (
+      search needs,
+      λ s.
+          let e = view (memory (start .args .words .now) s) in
+          rw (c .before .before .leave-set .ensures s) (sets-row (start .args .time) e (view (memory (l .words) s)) (l .i) (l .inv .1 s) _ (omega arith)),
+    )
 
 returns : tie.Need-returns Inv-loop μ-loop
 returns c s =
