@@ -57,7 +57,9 @@ module _ (ws s : List ℕ) (c : ℕ) (i : Guid) (p q : ℕ) {r n : ℕ} (client 
         let b : interfaceRow (view (memory ws s)) i < length (interfacesOf ws) = omega arith in
         let x : Interface = getD (interfacesOf ws) r noInterface in
         let y : x ≡ interfaceIn (view (memory ws s)) i = ap (λ (k : ℕ). getD (interfacesOf ws) k noInterface) found in
-        let z = counts-as c (h .public + p) (h .private + q) x (λ (m : ℕ). m + p) (λ (m : ℕ). m + q) (ap (λ (k : InterfaceCounts). k .public + p) held) (ap (λ (k : InterfaceCounts). k .private + q) held) in
+        let public = ap (λ (k : InterfaceCounts). k .public + p) held in
+        let private = ap (λ (k : InterfaceCounts). k .private + q) held in
+        let z = counts-as c (h .public + p) (h .private + q) x (λ (m : ℕ). m + p) (λ (m : ℕ). m + q) public private in
         (λ u. withInterfaces (set (interfacesOf ws) (found u) ((z ∙ ap (atCounts c (λ (m : ℕ). m + p) (λ (m : ℕ). m + q)) y) u)) (view (memory ws s)))
         ∙ sym (add-row (view (memory ws s)) t c i p q b)
 
@@ -73,8 +75,10 @@ sums-left : (c : tie.After-interface-counts) → let a = c .before .before .befo
     number (Call.editing (Edit.add (a .client) (a .ipid) (a .public) (a .private))) (view (memory (a .words .now) (a .store .now)))
     ≡ order (passesCount (h .public + a .public) gives 8 ∷ passesCount (h .private + a .private) gives 8 ∷ [])
 sums-left c =
-    let a = c .before .before .before .before .before .before .before .before .args in
-    sums (a .words .now) (a .store .now) (a .client) (a .ipid) (a .public) (a .private) (c .before .before .before .before .before .if1 .left) (c .before .before .before .before .before .before .before .before .pre .1 (a .store .now)) (c .before .before .before .interface-count .ensures .0)
+    let start = c .before .before .before .before .before .before .before .before in
+    let a = start .args in
+    sums (a .words .now) (a .store .now) (a .client) (a .ipid) (a .public) (a .private)
+    (c .before .before .before .before .before .if1 .left) (start .pre .1 (a .store .now)) (c .before .before .before .interface-count .ensures .0)
     (c .interface-counts .ensures) (c .before .before .if2 .left)
 
 returns : tie.Need-returns
@@ -86,9 +90,11 @@ returns c =
 returns-2 : tie.Need-returns-2
 unfolding refusedReply results
 returns-2 c =
-    let a = c .before .before .before .before .before .before .args in
+    let start = c .before .before .before .before .before .before in
+    let a = start .args in
     refused-step 6
-    (gone (a .words .now) (a .store .now) (a .client) (a .ipid) (a .public) (a .private) (c .before .before .before .if1 .left) (c .before .before .before .before .before .before .pre .1 (a .store .now)) (c .before .interface-count .ensures .0) (c .if2 .taken))
+    (gone (a .words .now) (a .store .now) (a .client) (a .ipid) (a .public) (a .private)
+    (c .before .before .before .if1 .left) (start .pre .1 (a .store .now)) (c .before .interface-count .ensures .0) (c .if2 .taken))
     (λ z. omega arith)
 
 returns-3 : tie.Need-returns-3
@@ -108,14 +114,18 @@ returns-4 c =
 returns-5 : tie.Need-returns-5
 unfolding acceptedReply results
 returns-5 c =
-    let a = c .before .before .before .before .before .before .before .before .before .before .before .before .before .before .before .before .args in
-    let t = c .before .before .before .before .before .before .before .before .before .before .before .before .before .before .before .before .pre .0 in
+    let counts = c .before .before .before .before .before .before .before .before in
+    let start = counts .before .before .before .before .before .before .before .before in
+    let a = start .args in
+    let public = c .before .before .before .before .before .if3 .left in
+    let private = c .before .before .before .before .if4 .left in
     accepted-step 0
-    (rows-end (row-passes _ _ _ (row-passes _ _ _ (sums-left (c .before .before .before .before .before .before .before .before)) (within-count _ (c .before .before .before .before .before .if3 .left))) (within-count _ (c .before .before .before .before .if4 .left))))
+    (rows-end (row-passes _ _ _ (row-passes _ _ _ (sums-left counts) (within-count _ public)) (within-count _ private)))
     refl _
     (c .before .before .set-counts .ensures (a .store .now)
-    ∙ added (a .words .now) (a .store .now) (a .client) (a .ipid) (a .public) (a .private) (c .before .before .before .before .before .before .before .before .before .before .before .before .before .if1 .left) (c .before .before .before .before .before .before .before .before .before .before .before .before .before .before .before .before .pre .1 (a .store .now)) (c .before .before .before .before .before .before .before .before .before .before .before .interface-count .ensures .0)
-    (c .before .before .before .before .before .before .before .before .interface-counts .ensures) (c .before .before .before .before .before .before .before .before .before .before .if2 .left) (t .entries))
+    ∙ added (a .words .now) (a .store .now) (a .client) (a .ipid) (a .public) (a .private)
+    (counts .before .before .before .before .before .if1 .left) (start .pre .1 (a .store .now)) (counts .before .before .before .interface-count .ensures .0)
+    (counts .interface-counts .ensures) (counts .before .before .if2 .left) (start .pre .0 .entries))
 
 pub add-at-spec : {M : Type 1} → statement M
 add-at-spec =

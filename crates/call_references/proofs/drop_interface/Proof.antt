@@ -39,13 +39,14 @@ remove-object-requires c κs =
 
 returns-2 : tie.Need-returns-2
 returns-2 c s =
-    let start = c .before .before .before .before .before .before .before .before .before .before .before .before .before .before in
+    let judged = c .before .before .before .before .before .before .before in
+    let start = judged .before .before .before .before .before .before .before in
     let ws = start .args .words .now in
     let l = interfaces-length ws in
     let inside : start .args .i < length (interfacesOf ws) = let h = start .pre .1 in omega arith in
-    let served = c .before .before .before .before .before .before .before .is-served in
+    let served = judged .is-served in
     not-served (start .args .i) (start .args .object .0) (view (memory ws s)) (start .pre .4 s) inside (start .pre .3)
-    (served .result) _ (c .before .before .before .before .before .before .before .before .before .before .before .remove-interface .ensures s) (served .ensures s) (c .before .before .before .before .before .before .if1 .left)
+    (served .result) _ (judged .before .before .before .before .remove-interface .ensures s) (served .ensures s) (c .before .before .before .before .before .before .if1 .left)
     (asked ws s (start .pre .2) (start .pre .3) .1)
     (c .before .before .before .before .object-row .result) _ (c .before .before .before .before .object-row .ensures s) (c .before .before .remove-object .ensures .0 s)
 

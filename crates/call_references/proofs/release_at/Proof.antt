@@ -5,9 +5,9 @@ use Rattle.call_references.proofs.release_at.Statement.{statement}
 use Rattle.call_references.proofs.release_at.Tie as tie
 
 -- what is known once the counts are stored
-taking : (c : tie.After-set-counts) → let a = c .before .before .before .before .before .before .before .before .before .before .before .before .before .before .args in
-    Taking (a .words .now) (a .store .now) (a .client) (a .ipid) (a .public) (a .private) (a .i) (c .before .before .before .before .before .before .before .before .before .interface-count .result)
-    (c .before .before .before .before .before .before .interface-counts .result) (c .before .before .before .before .before .smaller .result) (c .before .before .before .before .smaller2 .result)
+taking : (c : tie.After-set-counts) → let counts = c .before .before .before .before .before .before in let a = counts .before .before .before .before .before .before .before .before .args in
+    Taking (a .words .now) (a .store .now) (a .client) (a .ipid) (a .public) (a .private) (a .i) (counts .before .before .before .interface-count .result)
+    (counts .interface-counts .result) (c .before .before .before .before .before .smaller .result) (c .before .before .before .before .smaller2 .result)
 taking c = search
 
 pub release-at-spec : {M : Type 1} → statement M
@@ -37,4 +37,5 @@ release-at-spec =
     (λ c. search needs)
     (λ c.
     let d = c .before .before .before .before .before .before .before .before .before in
-    empty-done (taking d) _ (d .set-counts .ensures) (c .before .before .before .before .before .is-held .ensures) (c .before .before .before .before .if3 .left) (c .before .before .drop-interface .ensures)))
+    empty-done (taking d) _ (d .set-counts .ensures)
+    (c .before .before .before .before .before .is-held .ensures) (c .before .before .before .before .if3 .left) (c .before .before .drop-interface .ensures)))
