@@ -27,7 +27,8 @@ module _ (ws s : List ℕ) (t : ℕ) (h : SoundTable (memory ws s)) where
   before = view (memory ws s)
 
   -- the clock would go back
-  pub clock-back : ltb t (getD ws 0 0) ≡ true → Stepped (Call.editing (Edit.clock t)) (memory ws s) (clockReply (record { answer = 2; exporters = 0; objects = 0; interfaces = 0; sets = 0 })) (memory ws s)
+  pub clock-back : ltb t (getD ws 0 0) ≡ true
+      → Stepped (Call.editing (Edit.clock t)) (memory ws s) (clockReply (record { answer = 2; exporters = 0; objects = 0; interfaces = 0; sets = 0 })) (memory ws s)
   unfolding refusedReply results number refusals order
   clock-back l =
       let e : number (Call.editing (Edit.clock t)) before ≡ 2 = rw l in

@@ -18,8 +18,9 @@ exporter-count-requires c κs = c .before .before .before .before .before .pre .
 
 returns : tie.Need-returns
 returns c =
-    let a = c .before .before .before .before .before .before .before .args in
-    no-exporter (a .words .now) (a .store .now) (a .oxid .0) (c .before .before .before .before .before .before .before .pre) _ _ (c .before .before .before .exporter-row .ensures (a .store .now)) (c .before .exporter-count .ensures .0) (c .if1 .taken)
+    let start = c .before .before .before .before .before .before .before in
+    let a = start .args in
+    no-exporter (a .words .now) (a .store .now) (a .oxid .0) (start .pre) _ _ (c .before .before .before .exporter-row .ensures (a .store .now)) (c .before .exporter-count .ensures .0) (c .if1 .taken)
 
 remove-leaving-requires : tie.Need-remove-leaving-requires
 remove-leaving-requires c κs =
@@ -30,23 +31,27 @@ remove-leaving-requires c κs =
 
 remove-exporter-requires : tie.Need-remove-exporter-requires
 remove-exporter-requires c κs =
-    let a = c .before .before .before .before .before .before .before .before .before .before .before .before .before .args in
-    let t = c .before .before .before .before .before .before .before .before .before .before .before .before .before .pre in
+    let counted = c .before .before .before .before .before .before .before in
+    let a = counted .before .before .before .before .before .before .args in
+    let t = counted .before .before .before .before .before .before .pre in
     let w = t .words in
     let b = t .store in
     let n = leaving-count (ExporterRemoved (a .oxid)) (a .words .now) _ (a .store .now) (c .before .before .before .before .remove-leaving .ensures) in
-    let m = c .before .before .before .before .before .before .before .exporter-count .ensures .0 in
+    let m = counted .exporter-count .ensures .0 in
     let i = c .before .before .before .before .before .before .if1 .left in
     let e = list-starts (a .words .now) (a .store .now) (sound-fields _ (t .entries) .listsKept) (exporterCount (a .words .now)) (omega arith) in
     (search needs, b, omega arith, rw n (omega arith))
 
 returns-2 : tie.Need-returns-2
 returns-2 c =
-    let a = c .before .before .before .before .before .before .before .before .before .before .before .before .before .before .before .before .before .before .args in
-    let t = c .before .before .before .before .before .before .before .before .before .before .before .before .before .before .before .before .before .before .pre in
+    let counted = c .before .before .before .before .before .before .before .before .before .before .before .before in
+    let a = counted .before .before .before .before .before .before .args in
+    let t = counted .before .before .before .before .before .before .pre in
     let w = t .words in
     let b = t .store in
-    exporter-gone (a .words .now) (a .store .now) (a .oxid .0) (c .before .before .before .before .before .before .before .before .before .before .before .before .before .before .before .before .before .before .pre) _ _ (c .before .before .before .before .before .before .before .before .before .before .before .before .before .before .exporter-row .ensures (a .store .now)) (c .before .before .before .before .before .before .before .before .before .before .before .before .exporter-count .ensures .0) (c .before .before .before .before .before .before .before .before .before .before .before .if1 .left)
+    exporter-gone (a .words .now) (a .store .now) (a .oxid .0) t _ _
+    (counted .before .before .exporter-row .ensures (a .store .now)) (counted .exporter-count .ensures .0)
+    (c .before .before .before .before .before .before .before .before .before .before .before .if1 .left)
     _ _ _ (c .before .before .before .before .before .before .before .before .before .remove-leaving .ensures) (c .before .before .before .before .remove-exporter .ensures)
 
 pub remove-exporter-step-spec : {M : Type 1} → statement M
