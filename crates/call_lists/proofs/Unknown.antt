@@ -63,7 +63,8 @@ ipids-kept p w c t e h =
     by-test (λ (f : Entries). every p (interfaceIpids f) ≡ true) (eqb (number (itemCall w c t) e) 0) (counted w c (t .ipid) (t .public) (t .private) e) e
     (λ u. counted-kept p (t .ipid) (t .public) (t .private) c e h w) (λ u. h)
 
-pub marked-next : (w : Counting) (c : ℕ) (t : Item) {m m′ : Memory} {r : ℕ} {marks : List Bool} → ItemStepped w c t m r m′ → Marked guidBucket marks (interfaceIpids (view m)) → Marked guidBucket marks (interfaceIpids (view m′))
+pub marked-next : (w : Counting) (c : ℕ) (t : Item) {m m′ : Memory} {r : ℕ} {marks : List Bool} → ItemStepped w c t m r m′
+    → Marked guidBucket marks (interfaceIpids (view m)) → Marked guidBucket marks (interfaceIpids (view m′))
 marked-next w c t {m} {m′} {r} {marks} s k =
     record {
       size = k .size;

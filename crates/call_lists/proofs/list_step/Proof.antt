@@ -24,12 +24,18 @@ returns-3 c =
 returns-4 : tie.Need-returns-4
 returns-4 c =
     let a = c .before .before .before .before .before .before .before .before .args in
-    no-room (wayOf (a .back)) (a .client) (a .items .now) (a .buffer .now) (memory (a .words .now) (a .store .now)) (c .before .before .before .if1 .left) (c .before .before .if2 .left) (c .before .if3 .left) (c .if4 .taken)
+    no-room (wayOf (a .back)) (a .client) (a .items .now) (a .buffer .now) (memory (a .words .now) (a .store .now))
+    (c .before .before .before .if1 .left) (c .before .before .if2 .left) (c .before .if3 .left) (c .if4 .taken)
 
 search-items-requires : tie.Need-search-items-requires
 search-items-requires c κs = (
   c .before .before .before .before .before .before .before .before .before .before .before .pre,
-  record { client = c .before .before .before .before .before .before .if1 .left; whole = c .before .before .before .before .before .if2 .left; most = c .before .before .before .before .if3 .left; room = c .before .before .before .if4 .left },
+  record {
+    client = c .before .before .before .before .before .before .if1 .left;
+    whole = c .before .before .before .before .before .if2 .left;
+    most = c .before .before .before .before .if3 .left;
+    room = c .before .before .before .if4 .left;
+  },
 )
 
 returns-5 : tie.Need-returns-5
@@ -38,7 +44,12 @@ returns-5 c = c .before .before .before .before .search-items .ensures
 note-items-requires : tie.Need-note-items-requires
 note-items-requires c κs = (
   c .before .before .before .before .before .before .before .before .before .before .before .pre,
-  record { client = c .before .before .before .before .before .before .if1 .left; whole = c .before .before .before .before .before .if2 .left; most = c .before .before .before .before .if3 .left; room = c .before .before .before .if4 .left },
+  record {
+    client = c .before .before .before .before .before .before .if1 .left;
+    whole = c .before .before .before .before .before .if2 .left;
+    most = c .before .before .before .before .if3 .left;
+    room = c .before .before .before .if4 .left;
+  },
 )
 
 returns-6 : tie.Need-returns-6

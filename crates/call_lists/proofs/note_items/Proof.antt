@@ -36,25 +36,35 @@ noted-row-requires c κs = let l = c .before .before .before .before .before .lo
 
 item-step-requires : tie.Need-item-step-requires Inv-loop μ-loop
 item-step-requires c κs =
-    let start = c .before .before .before .before .before .before .before .before .before .before .before .before .before .before .before .before .before .before in
-    let l = c .before .before .before .before .before .before .before .loop in
+    let round = c .before .before .before .before .before .before .before in
+    let start = round .before .before .before .before .before .before .before .before .before .before .before in
+    let l = round .loop in
     (l .inv .0 .table, start .pre .1 .client, c .before .noted-row .ensures)
 
 cast-buffer : tie.Need-cast-buffer Inv-loop μ-loop
 cast-buffer c = let b = c .before .before .item-step .ensures .byte in search needs
 
 slice-write-buffer : tie.Need-slice-write-buffer Inv-loop μ-loop
-slice-write-buffer c = let z = c .before .before .before .before .before .before .before .before .before .before .loop .inv .0 .listed .size in let r = c .before .before .before .before .before .before .before .before .before .before .before .before .before .before .before .before .before .before .before .before .before .pre .1 .room in omega arith
+slice-write-buffer c =
+    let round = c .before .before .before .before .before .before .before .before .before .before in
+    let z = round .loop .inv .0 .listed .size in
+    let r = round .before .before .before .before .before .before .before .before .before .before .before .pre .1 .room in
+    omega arith
 
 add-k : tie.Need-add-k Inv-loop μ-loop
-add-k c = let t = c .before .before .before .before .before .before .before .before .before .before .before .before .loop-test in let m = c .before .before .before .before .before .before .before .before .before .before .before .before .before .before .before .before .before .before .before .before .before .before .before .before .pre .1 .most in omega arith
+add-k c =
+    let round = c .before .before .before .before .before .before .before .before .before .before .before .before in
+    let t = round .loop-test in
+    let m = round .before .before .before .before .before .before .before .before .before .before .before .before .pre .1 .most in
+    omega arith
 
 loop-again : tie.Need-loop-again Inv-loop μ-loop
 loop-again c =
-    let start = c .before .before .before .before .before .before .before .before .before .before .before .before .before .before .before .before .before .before .before .before .before .before .before .before in
+    let round = c .before .before .before .before .before .before .before .before .before .before .before .before in
+    let start = round .before .before .before .before .before .before .before .before .before .before .before .before in
     let a = start .args in
-    let l = c .before .before .before .before .before .before .before .before .before .before .before .before .before .loop in
-    let more : l .k < itemCount (a .items .now) = omega arith in
+    let l = round .before .loop in
+    let more : l .k < itemCount (a .items .now) = omega (arith, round .loop-test) in
     let u = c .before .before .before .before .before in
     let done = item-read (a .items .now) (l .k) (u .before .before .before .before .before .before .read-item .ensures) (u .item-step .ensures) in (
       going-next (wayOf (a .back)) (a .client) (a .items .now) (a .buffer .now) (memory (a .words .now) (a .store .now)) (l .k) (l .buffer) (l .inv .0) done more (start .pre .1 .room),

@@ -10,7 +10,8 @@ use Rattle.call_lists.proofs.read_item.Tie as tie
 returns : tie.Need-returns
 returns c =
     let a = c .before .before .before .before .before .args in
-    part-item (a .items .now) (24 * a .k) (24 * a .k + 24 - 24 * a .k) (a .k) refl (omega arith) (omega arith) (c .before .before .read-guid .ensures) (c .before .read-u32 .ensures) (c .read-u322 .ensures)
+    part-item (a .items .now) (24 * a .k) (24 * a .k + 24 - 24 * a .k) (a .k) refl (omega arith) (omega arith)
+    (c .before .before .read-guid .ensures) (c .before .read-u32 .ensures) (c .read-u322 .ensures)
 
 pub read-item-spec : {M : Type 1} → statement M
 read-item-spec =

@@ -36,13 +36,18 @@ cast-buffer : tie.Need-cast-buffer Inv-loop μ-loop
 cast-buffer c = let b = c .before .before .item-step .ensures .byte in search needs
 
 slice-write-buffer : tie.Need-slice-write-buffer Inv-loop μ-loop
-slice-write-buffer c = let z = c .before .before .before .before .before .before .before .before .loop .inv .listed .size in let r = c .before .before .before .before .before .before .before .before .before .before .before .before .before .pre .1 .room in omega arith
+slice-write-buffer c =
+    let round = c .before .before .before .before .before .before .before .before in
+    let z = round .loop .inv .listed .size in
+    let r = round .before .before .before .before .before .pre .1 .room in
+    omega arith
 
 loop-again : tie.Need-loop-again Inv-loop μ-loop
 loop-again c =
-    let start = c .before .before .before .before .before .before .before .before .before .before .before .before .before in
+    let round = c .before .before .before .before .before .before .before .before in
+    let start = round .before .before .before .before .before in
     let a = start .args in
-    let l = c .before .before .before .before .before .before .before .before .loop in
+    let l = round .loop in
     let more : l .k < itemCount (a .items .now) = omega arith in
     let done = item-read (a .items .now) (l .k) (c .before .before .before .before .before .before .read-item .ensures) (c .before .before .item-step .ensures) in
     going-next (wayOf (a .back)) (a .client) (a .items .now) (a .buffer .now) (memory (a .words .now) (a .store .now)) (l .k) (l .buffer) (l .inv) done more (start .pre .1 .room)
