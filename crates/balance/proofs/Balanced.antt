@@ -18,16 +18,19 @@ use Rattle.lists.proofs.Elements.{in-every, every-in, in-some, keep-ext-in, som
 use Rattle.lists.proofs.Distinct.{eqb-decides, some-same-keep-map, entry-change}
 use Rattle.lists.proofs.Guids.{guid-decides}
 use Rattle.rules.specs.Entries.{Object, Interface, Entries, fresh, oids, publicOf, privateOf, atCount, interfaceRow}
-use Rattle.rules.specs.Calls.{Call, starting, looking, editing, Counting, adding, releasing, reset, enterExporter, removeExporter, enterObject, enterInterface, add, release, dropClient, countList, simplePing, complexPing, clock, resolve, resolveFiltered, census, members, nextStop, writeSnapshot, loadSnapshot}
+use Rattle.rules.specs.Calls.{Call, starting, looking, editing, Counting, adding, releasing, reset, enterExporter, removeExporter, enterObject, enterInterface, add}
+use Rattle.rules.specs.Calls.{release, dropClient, countList, simplePing, complexPing, clock, resolve, resolveFiltered, census, members, nextStop, writeSnapshot, loadSnapshot}
 use Rattle.rules.specs.Items.{Item, itemsOf, itemCall}
 use Rattle.rules.specs.Sound.{held, heardWithin, sound}
 use Rattle.rules.specs.OneByOne.{callsDone}
-use Rattle.rules.specs.Rules.{interfaceOf, isLiveInterface, noInterface, number, refusals, next, withoutObjects, atInterfaces, atInterface, dropEmpty, counted, itemDone, itemsDone, enteredCounts, increased, decreased, emptied, makeSet, anyIpid}
+use Rattle.rules.specs.Rules.{interfaceOf, isLiveInterface, noInterface, number, refusals, next, withoutObjects, atInterfaces, atInterface, dropEmpty}
+use Rattle.rules.specs.Rules.{counted, itemDone, itemsDone, enteredCounts, increased, decreased, emptied, makeSet, anyIpid}
 use Rattle.rules.proofs.Groups.{grouped, sound-grouped}
 use Rattle.rules.proofs.ByRow.{interfaceIn, interface-live, interface-row, interfaces-distinct, oids-distinct}
 use Rattle.rules.proofs.Keeps.{fresh-sound, counted-grouped, keeps}
 use Rattle.tally.specs.declared.Tally.{Tally}
-use Rattle.balance.specs.Balance.{total, countsHeld, heldIn, itsObject, heldOf, heldBy, noTally, takenBy, moved, itemTallied, itemsTallied, counting, tallied, after, tallyOver, Balanced, Nine, EachBalanced, RunBalanced}
+use Rattle.balance.specs.Balance.{total, countsHeld, heldIn, itsObject, heldOf, heldBy, noTally, takenBy, moved, itemTallied}
+use Rattle.balance.specs.Balance.{itemsTallied, counting, tallied, after, tallyOver, Balanced, Nine, EachBalanced, RunBalanced}
 use Rattle.balance.proofs.Sums.{total-set, held-append, held-split, held-set, held-kept}
 use Rattle.balance.proofs.Nine.{nineCounts, nine-test, test-nine, item-nine, after-nine}
 

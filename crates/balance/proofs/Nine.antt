@@ -14,7 +14,8 @@ use Rattle.lists.proofs.Tests.{and-intro}
 use Rattle.lists.proofs.Lists.{every-nil, every-kept, every-changed-at, every-snoc}
 use Rattle.lists.proofs.Elements.{in-every, every-in}
 use Rattle.rules.specs.Entries.{Interface, Entries, atCount, atCounts}
-use Rattle.rules.specs.Calls.{Call, starting, looking, editing, Counting, adding, releasing, reset, enterExporter, removeExporter, enterObject, enterInterface, add, release, dropClient, countList, simplePing, complexPing, clock, resolve, resolveFiltered, census, members, nextStop, writeSnapshot, loadSnapshot}
+use Rattle.rules.specs.Calls.{Call, starting, looking, editing, Counting, adding, releasing, reset, enterExporter, removeExporter, enterObject, enterInterface, add}
+use Rattle.rules.specs.Calls.{release, dropClient, countList, simplePing, complexPing, clock, resolve, resolveFiltered, census, members, nextStop, writeSnapshot, loadSnapshot}
 use Rattle.rules.specs.Items.{Item, itemsOf, itemCall}
 use Rattle.rules.specs.Sound.{held}
 use Rattle.rules.specs.Rules.{number, next, atInterfaces, dropEmpty, counted, itemDone, itemsDone, enteredCounts, increased, decreased, emptied, makeSet, anyIpid}

@@ -4,7 +4,8 @@ use mathlib.Core.Path.{_≡_}
 use mathlib.Core.Bool.{Bool, true, cond}
 use lib.Dec.{eqb}
 use Rattle.rules.specs.Entries.{Entries}
-use Rattle.rules.specs.Calls.{Call, starting, looking, editing, adding, releasing, reset, enterExporter, removeExporter, enterObject, enterInterface, add, release, dropClient, countList, simplePing, complexPing, clock, resolve, resolveFiltered, census, members, nextStop, writeSnapshot, loadSnapshot}
+use Rattle.rules.specs.Calls.{Call, starting, looking, editing, adding, releasing, reset, enterExporter, removeExporter, enterObject, enterInterface, add, release}
+use Rattle.rules.specs.Calls.{dropClient, countList, simplePing, complexPing, clock, resolve, resolveFiltered, census, members, nextStop, writeSnapshot, loadSnapshot}
 use Rattle.rules.specs.Sound.{sound}
 use Rattle.rules.specs.Rules.{number}
 use Rattle.tally.specs.declared.Tally.{Tally}
