@@ -11,8 +11,8 @@ use Rattle.replay_calls.proofs.plain.complex_ping.Tie as tie
 returns : tie.Need-returns
 unfolding results
 returns c =
-    let start = c .before .before .before .before .before .before .before .before .before .before .before .before .before .before .before in
     let done = c .before .before .before .before in
+    let start = done .before .before .before .before .before .before .before .before .before .before .before in
     let t = start .pre .0 in
     let words : length (done .complex-ping-bytes-step .last .0) ≡ 8192 = omega arith in
     let st = rw (done .before .before .before .read-u64 .ensures, done .before .before .read-u16 .ensures) at (done .complex-ping-bytes-step .ensures) in

@@ -11,13 +11,14 @@ use Rattle.replay_calls.proofs.plain.enter_object.Tie as tie
 returns : tie.Need-returns
 unfolding results
 returns c =
-    let start = c .before .before .before .before .before .before .before .before .before .before .before .before .before .before .before .before in
     let done = c .before .before .before in
+    let read = done .before .before .before .before .before .before .before in
+    let start = read .before .before .before .before .before .before in
     let t = start .pre .0 in
     let words : length (done .enter-object-step .last .0) ≡ 8192 = omega arith in
     let st =
     rw (
-      done .before .before .before .before .before .before .before .read-u64 .ensures,
+      read .read-u64 .ensures,
       done .before .before .before .before .before .before .read-u642 .ensures,
       done .before .before .before .before .before .read-guid .ensures,
       done .before .before .before .before .read-guid2 .ensures,

@@ -11,8 +11,8 @@ use Rattle.replay_calls.proofs.plain.load_snapshot.Tie as tie
 returns : tie.Need-returns
 unfolding results
 returns c =
-    let start = c .before .before .before .before .before .before .before .before .before .before .before .before .before in
     let done = c .before .before .before .before .before in
+    let start = done .before .before .before .before .before .before .before .before in
     let t = start .pre .0 in
     let words : length (done .load-snapshot .last .0) ≡ 8192 = omega arith in
     let store : length (done .load-snapshot .last .1 .0) ≡ 8192 = omega arith in
