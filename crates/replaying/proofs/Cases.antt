@@ -12,5 +12,6 @@ use Rattle.replaying.specs.Replay.{firstDiffering}
 use Rattle.replaying.specs.Cases.{shift, ShiftReplayed}
 
 pub shift-replayed : ShiftReplayed
-unfolding shift order bytesNumber encode field words throughZero firstBinding bindingsUpTo bindingsOf joined sameWords isPart twoParts listLength frontAnswer listAnswer keep some every firstOr distinct tabulate holding listsLength refusals number next results refusedReply acceptedReply reply total countsHeld heldBy counting tallyOver answerTo firstDiffering
+unfolding shift order bytesNumber encode field words throughZero firstBinding bindingsUpTo bindingsOf joined sameWords isPart twoParts listLength frontAnswer listAnswer
+    keep some every firstOr distinct tabulate holding listsLength refusals number next results refusedReply acceptedReply reply total countsHeld heldBy counting tallyOver answerTo firstDiffering
 shift-replayed = record { agrees = refl; differs = refl; tally = refl }
