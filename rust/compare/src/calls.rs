@@ -1,15 +1,16 @@
 //! Runs of calls on one table, compared with the model: every answer, and after every call the live entries.
 
+use crate::call::{buffer, Call, Reply, Step};
 use crate::decode;
 use crate::generate::Pools;
-use crate::op::{buffer, Op, Reply, Side};
+use crate::model_side::Side;
 use crate::orders::either;
 use crate::random::Random;
 use crate::shrink::shrink;
 use crate::subject::Subject;
 use crate::tally::Tally;
 use crate::Differs;
-use model::entries::{Entries, Interface, Way, EXPORTERS, OBJECTS, STORE};
+use model::entries::{Entries, Interface, EXPORTERS, OBJECTS, STORE};
 use model::snapshot;
 use model::Guid;
 use std::marker::PhantomData;
@@ -44,7 +45,7 @@ impl Memory {
     }
 
     /// A call that is lent a table's words and bytes.
-    fn perform<S: Subject>(&mut self, call: &Op) -> Reply {
+    fn perform<S: Subject>(&mut self, call: &Call) -> Reply {
         let (words, store) = self.lent();
         S::perform(words, store, call)
     }
@@ -73,7 +74,7 @@ impl<S: Subject> Pair<S> {
             tally: Tally::default(),
             subject: PhantomData,
         };
-        pair.step(&Op::Reset(1000))?;
+        pair.call(&Call::Reset { time: 1000 }, LENGTH, LENGTH)?;
         Ok(pair)
     }
 
@@ -86,23 +87,24 @@ impl<S: Subject> Pair<S> {
     }
 
     /// Performs a step on both sides; says how they differ.
-    fn step(&mut self, op: &Op) -> Result<(), String> {
-        let (words, store, call) = match op {
-            Op::PokeWord { at, value } => {
-                self.memory.words[*at] = *value;
-                self.side
-                    .decode(&self.memory.words[..LENGTH], &self.memory.store[..LENGTH]);
-                return Ok(());
-            }
-            Op::PokeByte { at, value } => {
-                self.memory.store[*at] = *value;
-                self.side
-                    .decode(&self.memory.words[..LENGTH], &self.memory.store[..LENGTH]);
-                return Ok(());
-            }
-            Op::Lent { words, store, call } => (*words, *store, call.as_ref()),
-            call => (LENGTH, LENGTH, call),
-        };
+    fn step(&mut self, step: &Step) -> Result<(), String> {
+        match *step {
+            Step::Call(ref call) => return self.call(call, LENGTH, LENGTH),
+            Step::Lent {
+                words,
+                store,
+                ref call,
+            } => return self.call(call, words, store),
+            Step::PokeWord { at, value } => self.memory.words[at] = value,
+            Step::PokeByte { at, value } => self.memory.store[at] = value,
+        }
+        let (words, store) = self.memory.lent();
+        self.side.decode(words, store);
+        Ok(())
+    }
+
+    /// A call that is lent so many words and bytes.
+    fn call(&mut self, call: &Call, words: usize, store: usize) -> Result<(), String> {
         self.before.words.copy_from_slice(&self.memory.words);
         self.before.store.copy_from_slice(&self.memory.store);
         let lent_words = &mut self.memory.words[..words];
@@ -111,10 +113,31 @@ impl<S: Subject> Pair<S> {
             S::perform(lent_words, lent_store, call)
         }));
         let answer = answered.map_err(|_| "it panicked".to_string())?;
+        let demanded = self.demanded(call, (words, store) == (LENGTH, LENGTH));
+        if answer != demanded {
+            return Err(format!("answered {answer:?}\n  demanded {demanded:?}"));
+        }
+        if answer.number == 0 {
+            return self.left(call, &answer);
+        }
+        match self.memory == self.before {
+            true => Ok(()),
+            false => Err(format!(
+                "refused by {} and changed the memory",
+                answer.number
+            )),
+        }
+    }
+
+    /// What the model demands of a call that is lent a whole table or not.
+    fn demanded(&mut self, call: &Call, whole: bool) -> Reply {
         let last = self.last_sequence(call);
         let objects = self.side.entries.objects.len();
         let loads = self.loads(call);
-        let demanded = self.side.perform(op);
+        let demanded = match whole {
+            true => self.side.perform(call),
+            false => call.refused(1),
+        };
         self.tally.count(demanded.number);
         if let Some(event) = self.event(call, &demanded, last, objects) {
             self.tally.event(event);
@@ -125,87 +148,56 @@ impl<S: Subject> Pair<S> {
                 _ => "snapshots refused",
             });
         }
-        if answer != demanded {
-            return Err(format!("answered {answer:?}\n  demanded {demanded:?}"));
+        demanded
+    }
+
+    /// What an accepted call has left is what the model has.
+    fn left(&mut self, call: &Call, answer: &Reply) -> Result<(), String> {
+        if self.cut_list(call, &answer.bytes)? {
+            self.tally.event("lists cut and done one by one");
         }
-        if answer.number != 0 && self.memory != self.before {
-            return Err(format!(
-                "refused by {} and changed the memory",
-                answer.number
-            ));
+        let left = decode::entries(self.words(), self.store());
+        if !decode::same(&left, &self.side.entries) {
+            return Err(format!("left {left:?}\n  demanded {:?}", self.side.entries));
         }
-        if let (Op::CountList { .. }, 0) = (call, answer.number) {
-            if self.cut_list(call, &answer.bytes)? {
-                self.tally.event("lists cut and done one by one");
-            }
+        match self.side.entries.sound() {
+            true => Ok(()),
+            false => Err("the model is not sound".to_string()),
         }
-        if answer.number == 0 {
-            let left = decode::entries(self.words(), self.store());
-            if !decode::same(&left, &self.side.entries) {
-                return Err(format!("left {left:?}\n  demanded {:?}", self.side.entries));
-            }
-            if !self.side.entries.sound() {
-                return Err("the model is not sound".to_string());
-            }
-        }
-        Ok(())
     }
 }
 
 impl<S: Subject> Pair<S> {
     /// The same accepted list from the memory before it, cut between items and done in turn, and item by item by the single
     /// calls: results and live entries are the same. Whether it was done: the longest lists, one item many times, are left out.
-    fn cut_list(&self, list: &Op, results: &[u8]) -> Result<bool, String> {
-        let Op::CountList {
-            way, client, items, ..
-        } = list
-        else {
+    fn cut_list(&self, list: &Call, results: &[u8]) -> Result<bool, String> {
+        let Some((way, client, items)) = list.listed().filter(|(.., i)| i.len() <= 2400) else {
             return Ok(false);
         };
-        let n = items.len() / 24;
-        if n > 100 {
-            return Ok(false);
-        }
-        let left = decode::entries(self.words(), self.store());
-        let part = |items: &[u8]| Op::CountList {
-            way: *way,
-            client: *client,
-            items: items.to_vec(),
-            room: items.len() / 24,
-        };
+        let part = |items: &[u8]| Call::count_list(way, client, items.len() / 24, items.to_vec());
         let single = |item: &[u8]| {
             let count = |at: usize| u32::from_le_bytes(item[at..at + 4].try_into().unwrap());
-            let (ipid, public, private) = (item[..16].try_into().unwrap(), count(16), count(20));
-            let client = *client;
-            match way {
-                Way::Add => Op::Add {
-                    client,
-                    ipid,
-                    public,
-                    private,
-                },
-                Way::Release => Op::Release {
-                    client,
-                    ipid,
-                    public,
-                    private,
-                },
-            }
+            let ipid = item[..16].try_into().unwrap();
+            Call::count(way, client, ipid, count(16), count(20))
         };
+        let (n, left) = (
+            items.len() / 24,
+            decode::entries(self.words(), self.store()),
+        );
         let cut = 24 * (items.iter().map(|b| *b as usize).sum::<usize>() % (n + 1));
         let parts = vec![part(&items[..cut]), part(&items[cut..])];
-        let singles: Vec<Op> = items.chunks(24).map(single).collect();
-        for (ops, what) in [(parts, "cut"), (singles, "one by one")] {
+        let singles: Vec<Call> = items.chunks(24).map(single).collect();
+        for (calls, what) in [(parts, "cut"), (singles, "one by one")] {
             let mut memory = self.before.clone();
             let mut joined = Vec::new();
-            for op in &ops {
-                let reply = memory.perform::<S>(op);
-                match op {
-                    Op::CountList { .. } => joined.extend(reply.bytes),
-                    _ => joined.push(reply.number as u8),
+            for call in &calls {
+                let reply = memory.perform::<S>(call);
+                match call.listed() {
+                    Some(_) => joined.extend(reply.bytes),
+                    None => joined.push(reply.number as u8),
                 }
             }
-            let (words, store) = (&memory.words[..LENGTH], &memory.store[..LENGTH]);
+            let (words, store) = memory.lent();
             if joined != results[..n] || !decode::same(&decode::entries(words, store), &left) {
                 return Err(format!(
                     "{what}: results {joined:?} for {:?}",
@@ -241,7 +233,7 @@ impl<S: Subject> Pair<S> {
     fn swap_box(&mut self, pools: &Pools, random: &mut Random) -> Result<(), String> {
         const ROOM: usize = 65_000;
         let snapshot_of = |memory: &mut Memory| {
-            let r = memory.perform::<S>(&Op::WriteSnapshot { room: ROOM });
+            let r = memory.perform::<S>(&Call::WriteSnapshot { room: ROOM });
             let length = r.values[0] as usize;
             let kept = r.number == 0 && r.bytes[length..] == buffer(ROOM)[length..];
             kept.then(|| r.bytes[..length].to_vec())
@@ -255,7 +247,10 @@ impl<S: Subject> Pair<S> {
             let bytes = pools.snapshot(random, &self.side.entries);
             let demanded = snapshot::read(&bytes).err().unwrap_or(0);
             let before = other.clone();
-            let number = other.perform::<S>(&Op::LoadSnapshot(bytes.clone())).number;
+            let load = Call::LoadSnapshot {
+                snapshot: bytes.clone(),
+            };
+            let number = other.perform::<S>(&load).number;
             let left = match number {
                 0 => snapshot_of(&mut other).as_ref() == Some(&bytes),
                 _ => other == before,
@@ -265,7 +260,7 @@ impl<S: Subject> Pair<S> {
             }
             self.tally.count(number);
         }
-        let load = other.perform::<S>(&Op::LoadSnapshot(written));
+        let load = other.perform::<S>(&Call::LoadSnapshot { snapshot: written });
         if load.number != 0 {
             return Err(format!("the load is refused by {}", load.number));
         }
@@ -278,7 +273,7 @@ impl<S: Subject> Pair<S> {
             if here != there {
                 return Err(format!("{call:?}: {here:?}, and in the other {there:?}"));
             }
-            self.step(&call)?;
+            self.call(&call, LENGTH, LENGTH)?;
         }
         if snapshot_of(&mut other) != snapshot_of(&mut self.memory) {
             return Err("the boxes have other snapshots".to_string());
@@ -289,13 +284,13 @@ impl<S: Subject> Pair<S> {
 
 impl<S> Pair<S> {
     /// What an accepted load of a snapshot reaches.
-    fn loads(&self, call: &Op) -> Option<&'static str> {
-        let Op::LoadSnapshot(bytes) = call else {
+    fn loads(&self, call: &Call) -> Option<&'static str> {
+        let Call::LoadSnapshot { snapshot } = call else {
             return None;
         };
         Some(if !self.side.sound {
             "snapshots loaded over an unsound table"
-        } else if *bytes != snapshot::write(&self.side.entries) {
+        } else if *snapshot != snapshot::write(&self.side.entries) {
             "snapshots loaded with something changed"
         } else {
             "snapshots loaded"
@@ -303,8 +298,8 @@ impl<S> Pair<S> {
     }
 
     /// The sequence number of the set that a complex ping names.
-    fn last_sequence(&self, call: &Op) -> Option<u16> {
-        let Op::ComplexPing { set, .. } = call else {
+    fn last_sequence(&self, call: &Call) -> Option<u16> {
+        let Call::ComplexPing { set, .. } = call else {
             return None;
         };
         let mut sets = self.side.entries.sets.iter();
@@ -321,41 +316,41 @@ impl<S> Pair<S> {
     /// What a call on so many objects reached besides its answer number.
     fn event(
         &self,
-        call: &Op,
+        call: &Call,
         reply: &Reply,
         last: Option<u16>,
         objects: usize,
     ) -> Option<&'static str> {
         let event = match (call, reply.number) {
-            (Op::EnterExporter { .. }, 9) if self.side.entries.exporters.len() == EXPORTERS => {
+            (Call::EnterExporter { .. }, 9) if self.side.entries.exporters.len() == EXPORTERS => {
                 "exporters full"
             }
-            (Op::EnterExporter { .. }, 9) => "store full",
-            (Op::EnterExporter { .. }, 0) if self.side.entries.list_bytes() == STORE => {
+            (Call::EnterExporter { .. }, 9) => "store full",
+            (Call::EnterExporter { .. }, 0) if self.side.entries.list_bytes() == STORE => {
                 "store filled to the last byte"
             }
-            (Op::EnterObject { .. }, 9) => "objects or interfaces full at an object",
-            (Op::EnterInterface { .. }, 9) => "interfaces full",
-            (Op::ComplexPing { .. }, 9) => "sets full",
-            (Op::Clock(_), 0) if reply.values[1] != 0 => "objects expired",
-            (Op::Clock(_), 0) if reply.values[3] != 0 => "sets expired",
-            (Op::Release { .. }, 0) if reply.values[3] != 0 => "objects released",
-            (Op::Release { client, ipid, .. }, 0) if self.kept_by_another(*client, *ipid) => {
+            (Call::EnterObject { .. }, 9) => "objects or interfaces full at an object",
+            (Call::EnterInterface { .. }, 9) => "interfaces full",
+            (Call::ComplexPing { .. }, 9) => "sets full",
+            (Call::Clock { .. }, 0) if reply.values[1] != 0 => "objects expired",
+            (Call::Clock { .. }, 0) if reply.values[3] != 0 => "sets expired",
+            (Call::Release { .. }, 0) if reply.values[3] != 0 => "objects released",
+            (Call::Release { client, ipid, .. }, 0) if self.kept_by_another(*client, *ipid) => {
                 "interfaces kept by another client"
             }
-            (Op::DropClient(_), 0) if self.side.entries.objects.len() < objects => {
+            (Call::DropClient { .. }, 0) if self.side.entries.objects.len() < objects => {
                 "objects dropped with a client"
             }
-            (Op::RemoveExporter(_), 0) => "exporters removed",
-            (Op::ComplexPing { sequence, .. }, 0) if last.is_some_and(|n| *sequence < n) => {
+            (Call::RemoveExporter { .. }, 0) => "exporters removed",
+            (Call::ComplexPing { sequence, .. }, 0) if last.is_some_and(|n| *sequence < n) => {
                 "sequence numbers wrapped"
             }
-            (Op::Members(_), 0) if self.side.entries.objects.len() == OBJECTS => {
+            (Call::Members { .. }, 0) if self.side.entries.objects.len() == OBJECTS => {
                 "members of a full table"
             }
-            (Op::NextStop(_), 0) if reply.values[0] != 0 => "next stops in the store",
-            (Op::NextStop(_), 0) => "next stops in the reference",
-            (Op::ResolveFiltered { oxid, .. }, 0) => {
+            (Call::NextStop { .. }, 0) if reply.values[0] != 0 => "next stops in the store",
+            (Call::NextStop { .. }, 0) => "next stops in the reference",
+            (Call::ResolveFiltered { oxid, .. }, 0) => {
                 let mut exporters = self.side.entries.exporters.iter();
                 let list = exporters.find(|x| x.oxid == *oxid).map(|x| x.list.len());
                 if list == Some(reply.values[0] as usize) {
@@ -364,7 +359,7 @@ impl<S> Pair<S> {
                     "bindings left out by protocols"
                 }
             }
-            (Op::Census, 1) if !self.side.sound => "tables unsound",
+            (Call::Census {}, 1) if !self.side.sound => "tables unsound",
             _ => return None,
         };
         Some(event)
@@ -372,19 +367,19 @@ impl<S> Pair<S> {
 }
 
 /// Performs the steps from a reset; how the sides differ, if they do.
-fn replay<S: Subject>(noise: u64, steps: &[Op]) -> Option<String> {
+fn replay<S: Subject>(noise: u64, steps: &[Step]) -> Option<String> {
     let mut pair = match Pair::<S>::new(noise) {
         Ok(pair) => pair,
         Err(difference) => return Some(difference),
     };
-    steps.iter().find_map(|op| pair.step(op).err())
+    steps.iter().find_map(|step| pair.step(step).err())
 }
 
 /// One random run of so many steps. A failure prints the shortest failing run that is found.
 fn run<S: Subject>(seed: u64, length: usize, pokes: bool) -> Result<Tally, Differs> {
     let mut random = Random::new(seed);
     let pools = Pools::new(&mut random, pokes);
-    let mut steps: Vec<Op> = Vec::new();
+    let mut steps: Vec<Step> = Vec::new();
     let mut saved = snapshot::write(&Entries::empty(1000));
     let mut pair = match Pair::<S>::new(seed) {
         Ok(pair) => pair,
@@ -393,14 +388,15 @@ fn run<S: Subject>(seed: u64, length: usize, pokes: bool) -> Result<Tally, Diffe
     while steps.len() < length {
         let mut next = pools.steps(&mut random, &pair.side.entries, pair.words(), pair.store());
         if !pair.side.sound && random.once_in(3) {
-            next = vec![Op::Reset(1000)];
+            next = vec![Step::Call(Call::Reset { time: 1000 })];
             if random.once_in(2) {
-                next = vec![Op::LoadSnapshot(saved.clone())];
+                let snapshot = saved.clone();
+                next = vec![Step::Call(Call::LoadSnapshot { snapshot })];
             }
         }
-        for op in next {
-            let done = pair.step(&op);
-            steps.push(op);
+        for step in next {
+            let done = pair.step(&step);
+            steps.push(step);
             if let Err(difference) = done {
                 return Err(report::<S>(seed, &steps, &difference));
             }
@@ -422,7 +418,7 @@ fn run<S: Subject>(seed: u64, length: usize, pokes: bool) -> Result<Tally, Diffe
     Ok(pair.tally)
 }
 
-fn report<S: Subject>(seed: u64, steps: &[Op], difference: &str) -> Differs {
+fn report<S: Subject>(seed: u64, steps: &[Step], difference: &str) -> Differs {
     println!(
         "FAILED: {} and the model differ in the run of seed {seed}, at step {}",
         S::NAME,
@@ -430,8 +426,8 @@ fn report<S: Subject>(seed: u64, steps: &[Op], difference: &str) -> Differs {
     );
     let fewest = shrink(steps, |fewer| replay::<S>(seed, fewer).is_some());
     println!("the shortest failing run that was found, after a reset at time 1000:");
-    for op in &fewest {
-        println!("  {op:?}");
+    for step in &fewest {
+        println!("  {step:?}");
     }
     println!(
         "{}",

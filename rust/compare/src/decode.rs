@@ -1,7 +1,7 @@
 //! Which word of the array and which byte of the store hold what (crates/table_view/specs/View.antt): the live entries are read from
 //! there, and put there. No other file here knows a word's number.
 
-use crate::op::halves;
+use crate::call::halves;
 use model::entries::{Entries, Exporter, Interface, Object, PingSet};
 use model::snapshot::sorted;
 use model::Guid;

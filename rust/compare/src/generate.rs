@@ -1,7 +1,7 @@
 //! Random lists, references and calls.
 
+use crate::call::{Call, Step};
 use crate::decode;
-use crate::op::Op;
 use crate::random::Random;
 use model::bytes::filtered_list;
 use model::contexts::MARSHALER;
@@ -243,6 +243,9 @@ fn alter(random: &mut Random, e: &mut Entries) {
     }
 }
 
+/// Counts of references.
+const COUNTS: [u32; 10] = [0, 1, 1, 2, 2, 3, 5, u32::MAX, u32::MAX - 1, 1 << 31];
+
 /// Which identifiers a run uses, and how often it makes which call.
 pub struct Pools {
     exporters: usize,
@@ -322,7 +325,7 @@ impl Pools {
     }
 
     /// A list of items; now and then its length or its results' are off, or it has as many items as a list may have, or more.
-    fn count_list(&self, random: &mut Random) -> Op {
+    fn count_list(&self, random: &mut Random) -> Call {
         let counts = [0, 1, 1, 2, 3, u32::MAX];
         let way = random.pick(&[Way::Add, Way::Add, Way::Release]);
         let mut items: Vec<u8> = Vec::new();
@@ -343,16 +346,11 @@ impl Pools {
         let n = items.len() / 24;
         let room = random.pick(&[n, n, n, n + 1, n + 7, n.saturating_sub(1)]);
         let client = self.client(random);
-        Op::CountList {
-            way,
-            client,
-            items,
-            room,
-        }
+        Call::count_list(way, client, room, items)
     }
 
     /// A resolve with requested protocols: some towers of the list and others, into a buffer near the length of what is written.
-    fn filtered_resolve(&self, random: &mut Random, e: &Entries) -> Op {
+    fn filtered_resolve(&self, random: &mut Random, e: &Entries) -> Call {
         let oxid = self.oxid(random);
         let mut protocols: Vec<u16> = Vec::new();
         for tower in [7, 8, 0x1F, 0xFFFF, 0, 9, 0x61] {
@@ -367,7 +365,7 @@ impl Pools {
         let listed = e.exporters.iter().find(|x| x.oxid == oxid);
         let length = listed.map_or(8, |x| filtered_list(&x.list, &protocols).len());
         let room = random.pick(&[0, length.saturating_sub(1), length, length + 1, 2100]);
-        Op::ResolveFiltered {
+        Call::ResolveFiltered {
             oxid,
             protocols,
             room,
@@ -388,7 +386,7 @@ impl Pools {
     }
 
     /// Two adds or releases on different IPIDs, mostly releases of all that two interfaces of one object have left.
-    pub fn pair(&self, random: &mut Random, e: &Entries) -> Option<(Op, Op)> {
+    pub fn pair(&self, random: &mut Random, e: &Entries) -> Option<(Call, Call)> {
         let other = |a: Guid, random: &mut Random| {
             let owner = e.interfaces.iter().find(|i| i.ipid == a)?.object;
             let of_it = e.interfaces.iter().filter(|i| i.object == owner);
@@ -404,21 +402,12 @@ impl Pools {
         let call = |ipid: Guid, random: &mut Random| {
             let client = self.client(random);
             let (public, private) = (count(random), count(random));
-            if random.once_in(4) {
-                Op::Add {
-                    client,
-                    ipid,
-                    public,
-                    private,
-                }
+            let way = if random.once_in(4) {
+                Way::Add
             } else {
-                Op::Release {
-                    client,
-                    ipid,
-                    public,
-                    private,
-                }
-            }
+                Way::Release
+            };
+            Call::count(way, client, ipid, public, private)
         };
         (a != b).then(|| (call(a, random), call(b, random)))
     }
@@ -456,9 +445,9 @@ impl Pools {
     }
 
     /// A call on a table with these entries.
-    pub fn call(&self, random: &mut Random, e: &Entries) -> Op {
+    fn call(&self, random: &mut Random, e: &Entries) -> Step {
         if random.once_in(80) {
-            let call = Box::new(self.plain_call(random, e));
+            let call = self.plain_call(random, e);
             let (words, store) = random.pick(&[
                 (0, 8192),
                 (1, 8192),
@@ -469,13 +458,13 @@ impl Pools {
                 (8192, 8193),
                 (0, 0),
             ]);
-            return Op::Lent { words, store, call };
+            return Step::Lent { words, store, call };
         }
-        self.plain_call(random, e)
+        Step::Call(self.plain_call(random, e))
     }
 
     /// In a run over many identifiers: what is not full yet is filled, a step at a time.
-    fn filling_call(&self, random: &mut Random, e: &Entries) -> Option<Op> {
+    fn filling_call(&self, random: &mut Random, e: &Entries) -> Option<Call> {
         if self.calm < 60 || random.once_in(3) {
             return None;
         }
@@ -489,14 +478,14 @@ impl Pools {
         let oxids: Vec<u64> = e.exporters.iter().map(|x| x.oxid).collect();
         let oids: Vec<u64> = e.objects.iter().map(|o| o.oid).collect();
         if oxids.len() < EXPORTERS {
-            return Some(Op::EnterExporter {
+            return Some(Call::EnterExporter {
                 oxid: free(random, &|r| self.oxid(r), &oxids)?,
                 unknown: free_ipid(random)?,
                 list: self.exporter_list(random, e),
             });
         }
         if oids.len() < OBJECTS {
-            return Some(Op::EnterObject {
+            return Some(Call::EnterObject {
                 oid: free(random, &|r| self.oid(r), &oids)?,
                 oxid: random.pick(&oxids),
                 ipid: free_ipid(random)?,
@@ -506,14 +495,14 @@ impl Pools {
             });
         }
         if e.interfaces.len() < INTERFACES {
-            return Some(Op::EnterInterface {
+            return Some(Call::EnterInterface {
                 oid: random.pick(&oids),
                 ipid: free_ipid(random)?,
                 iid: self.guid(random),
                 public: 1 + random.below(3) as u32,
             });
         }
-        (e.sets.len() < SETS).then(|| Op::ComplexPing {
+        (e.sets.len() < SETS).then(|| Call::ComplexPing {
             set: 0,
             sequence: random.word() as u16,
             adds: (0..20).map(|_| random.pick(&oids)).collect(),
@@ -521,93 +510,127 @@ impl Pools {
         })
     }
 
-    pub fn plain_call(&self, random: &mut Random, e: &Entries) -> Op {
-        if let Some(op) = self.filling_call(random, e) {
-            return op;
+    pub fn plain_call(&self, random: &mut Random, e: &Entries) -> Call {
+        if let Some(call) = self.filling_call(random, e) {
+            return call;
         }
-        let counts = [0, 1, 1, 2, 2, 3, 5, u32::MAX, u32::MAX - 1, 1 << 31];
         match random.below(100) {
-            0..=9 => Op::EnterExporter {
+            n @ 0..=39 => self.entering_call(random, e, n),
+            n @ 40..=60 => self.counting_call(random, e, n),
+            61..=77 => self.complex_ping(random, e),
+            78..=85 => Call::Clock {
+                time: self.time(random, e.clock),
+            },
+            n => self.looking_call(random, e, n),
+        }
+    }
+
+    /// What enters, and the removal of an exporter: of 40.
+    fn entering_call(&self, random: &mut Random, e: &Entries, n: usize) -> Call {
+        match n {
+            0..=9 => Call::EnterExporter {
                 oxid: self.oxid(random),
                 unknown: self.guid(random),
                 list: self.exporter_list(random, e),
             },
-            10 if random.once_in(self.calm) => Op::RemoveExporter(self.oxid(random)),
-            10..=27 => Op::EnterObject {
+            10 if random.once_in(self.calm) => Call::RemoveExporter {
+                oxid: self.oxid(random),
+            },
+            10..=27 => Call::EnterObject {
                 oid: self.oid(random),
                 oxid: self.oxid(random),
                 ipid: self.guid(random),
                 iid: self.guid(random),
-                public: random.pick(&counts),
+                public: random.pick(&COUNTS),
                 no_ping: random.once_in(3),
             },
-            28..=39 => Op::EnterInterface {
+            _ => Call::EnterInterface {
                 oid: self.oid(random),
                 ipid: self.guid(random),
                 iid: self.guid(random),
-                public: random.pick(&counts),
+                public: random.pick(&COUNTS),
             },
-            40..=45 => Op::Add {
-                client: self.client(random),
-                ipid: self.guid(random),
-                public: random.pick(&counts),
-                private: random.pick(&counts),
-            },
-            48..=57 if random.once_in(1 + self.calm / 4) => Op::Release {
-                client: self.client(random),
-                ipid: self.guid(random),
-                public: random.pick(&counts),
-                private: random.pick(&counts),
-            },
+        }
+    }
+
+    /// What counts references, and simple pings: from 40 to 60.
+    fn counting_call(&self, random: &mut Random, e: &Entries, n: usize) -> Call {
+        let one = |way: Way, random: &mut Random| {
+            let (client, ipid) = (self.client(random), self.guid(random));
+            Call::count(
+                way,
+                client,
+                ipid,
+                random.pick(&COUNTS),
+                random.pick(&COUNTS),
+            )
+        };
+        match n {
+            40..=45 => one(Way::Add, random),
             46 | 47 => self.count_list(random),
-            58 if random.once_in(self.calm) => Op::DropClient(self.client(random)),
-            48..=60 => Op::SimplePing(self.set(random, e)),
-            61..=77 => {
-                let set = if random.once_in(4) {
-                    0
-                } else {
-                    self.set(random, e)
-                };
-                let last = e.sets.iter().find(|s| s.number == set);
-                let last = last.map_or(0, |s| s.sequence);
-                let step = random.pick(&[1, 1, 1, 1, 2, 0, 32_767, 32_768, 65_535, 40_000]);
-                let live: Vec<u64> = e.objects.iter().map(|o| o.oid).collect();
-                Op::ComplexPing {
-                    set,
-                    sequence: last.wrapping_add(step),
-                    adds: self.oids(random, &live),
-                    deletes: self.oids(random, &live),
-                }
-            }
-            78..=85 => Op::Clock(self.time(random, e.clock)),
-            88 | 89 => self.filtered_resolve(random, e),
+            48..=57 if random.once_in(1 + self.calm / 4) => one(Way::Release, random),
+            58 if random.once_in(self.calm) => Call::DropClient {
+                client: self.client(random),
+            },
+            _ => Call::SimplePing {
+                set: self.set(random, e),
+            },
+        }
+    }
+
+    fn complex_ping(&self, random: &mut Random, e: &Entries) -> Call {
+        let set = if random.once_in(4) {
+            0
+        } else {
+            self.set(random, e)
+        };
+        let last = e.sets.iter().find(|s| s.number == set);
+        let last = last.map_or(0, |s| s.sequence);
+        let step = random.pick(&[1, 1, 1, 1, 2, 0, 32_767, 32_768, 65_535, 40_000]);
+        let live: Vec<u64> = e.objects.iter().map(|o| o.oid).collect();
+        Call::ComplexPing {
+            set,
+            sequence: last.wrapping_add(step),
+            adds: self.oids(random, &live),
+            deletes: self.oids(random, &live),
+        }
+    }
+
+    /// What looks, and now and then a reset or a load: from 86.
+    fn looking_call(&self, random: &mut Random, e: &Entries, n: usize) -> Call {
+        match n {
             86..=87 => {
                 let oxid = self.oxid(random);
                 let listed = e.exporters.iter().find(|x| x.oxid == oxid);
                 let length = listed.map_or(8, |x| x.list.len());
                 let room = random.pick(&[0, length - 1, length, length + 1, 2100]);
-                Op::Resolve { oxid, room }
+                Call::Resolve { oxid, room }
             }
+            88 | 89 => self.filtered_resolve(random, e),
             90 => {
                 let length = sections(e).len();
                 let room = random.pick(&[0, 26, length - 1, length, length + 1, 65_000]);
-                Op::WriteSnapshot { room }
+                Call::WriteSnapshot { room }
             }
-            91..=92 => Op::Census,
-            93..=94 => Op::Members(self.set(random, e)),
+            91..=92 => Call::Census {},
+            93..=94 => Call::Members {
+                set: self.set(random, e),
+            },
             95..=98 => {
                 let oxid = self.oxid(random);
-                let mut bytes = reference(random, oxid);
+                let mut reference = reference(random, oxid);
                 if random.once_in(5) {
-                    damage(random, &mut bytes);
+                    damage(random, &mut reference);
                 }
-                Op::NextStop(bytes)
+                Call::NextStop { reference }
             }
-            _ if random.once_in(10 * self.calm) => {
-                Op::Reset(random.pick(&[0, 1000, u64::MAX - 2000, e.clock / 2]))
-            }
-            _ if random.once_in(3) => Op::LoadSnapshot(self.snapshot(random, e)),
-            _ => Op::Census,
+            _ if random.once_in(10 * self.calm) => Call::Reset {
+                time: random.pick(&[0, 1000, u64::MAX - 2000, e.clock / 2]),
+            },
+            _ if random.once_in(3) => Call::LoadSnapshot {
+                snapshot: self.snapshot(random, e),
+            },
+            _ => Call::Census {},
         }
     }
 
@@ -625,24 +648,30 @@ impl Pools {
     }
 
     /// The next steps of a run: a call; or words and bytes changed behind it, some calls, and the changes undone.
-    pub fn steps(&self, random: &mut Random, e: &Entries, words: &[u64], store: &[u8]) -> Vec<Op> {
+    pub fn steps(
+        &self,
+        random: &mut Random,
+        e: &Entries,
+        words: &[u64],
+        store: &[u8],
+    ) -> Vec<Step> {
         if random.once_in(4000) && e.sets.iter().all(|s| s.number < u64::MAX - 3) {
             let value = u64::MAX - random.below(4) as u64;
-            return vec![Op::PokeWord { at: 1, value }];
+            return vec![Step::PokeWord { at: 1, value }];
         }
         if !self.pokes || !random.once_in(3) {
             return vec![self.call(random, e)];
         }
-        let mut steps: Vec<Op> = Vec::new();
-        let mut undo: Vec<Op> = Vec::new();
+        let mut steps: Vec<Step> = Vec::new();
+        let mut undo: Vec<Step> = Vec::new();
         for _ in 0..random.pick(&[1, 1, 1, 2, 3]) {
             let poke = self.poke(random, e, words, store);
             match poke {
-                Op::PokeWord { at, .. } => undo.push(Op::PokeWord {
+                Step::PokeWord { at, .. } => undo.push(Step::PokeWord {
                     at,
                     value: words[at],
                 }),
-                Op::PokeByte { at, .. } => undo.push(Op::PokeByte {
+                Step::PokeByte { at, .. } => undo.push(Step::PokeByte {
                     at,
                     value: store[at],
                 }),
@@ -652,20 +681,22 @@ impl Pools {
         }
         for _ in 0..random.pick(&[1, 1, 2]) {
             // of the calls, mostly those that look and change nothing, so that undoing gives the table before
-            let op = match random.below(4) {
+            let call = match random.below(4) {
                 0 => self.plain_call(random, e),
-                1 => Op::Clock(e.clock),
-                2 => Op::Members(self.set(random, e)),
-                _ => Op::Census,
+                1 => Call::Clock { time: e.clock },
+                2 => Call::Members {
+                    set: self.set(random, e),
+                },
+                _ => Call::Census {},
             };
-            steps.push(op);
+            steps.push(Step::Call(call));
         }
         undo.reverse();
         steps.extend(undo);
         steps
     }
 
-    fn poke(&self, random: &mut Random, e: &Entries, words: &[u64], store: &[u8]) -> Op {
+    fn poke(&self, random: &mut Random, e: &Entries, words: &[u64], store: &[u8]) -> Step {
         if random.once_in(8) {
             // of a list, or of the free bytes behind the last one
             let from = decode::list_start(store, random.below(e.exporters.len() + 1));
@@ -673,7 +704,7 @@ impl Pools {
             let at = from + random.pick(&[0, 1, 2, 3, within, within]);
             let at = at.min(store.len() - 1);
             let value = random.pick(&[0, 1, store[at] ^ 1, store[at].wrapping_add(1), 0xFF]);
-            return Op::PokeByte { at, value };
+            return Step::PokeByte { at, value };
         }
         let columns = decode::columns();
         let column = &columns[random.below(columns.len())];
@@ -697,6 +728,6 @@ impl Pools {
             small,
             u64::MAX,
         ]);
-        Op::PokeWord { at, value }
+        Step::PokeWord { at, value }
     }
 }

@@ -5,6 +5,7 @@
 //!     compare make        writes the outputs of the stored lines anew, from the model alone
 
 mod bytes;
+mod call;
 mod calls;
 mod decode;
 mod fragments;
@@ -12,7 +13,6 @@ mod generate;
 mod headers;
 mod lines;
 mod model_side;
-mod op;
 mod orders;
 mod random;
 mod recordings;

@@ -1,14 +1,14 @@
 //! Two adds or releases on different IPIDs from one table, in either order (request 13).
 
+use crate::call::{Call, Reply};
 use crate::decode;
-use crate::op::{Op, Reply};
 use crate::subject::Subject;
 
 /// The replies to the calls, one after the other, and the live entries that they leave.
 fn served<S: Subject>(
     words: &[u64],
     store: &[u8],
-    calls: [&Op; 2],
+    calls: [&Call; 2],
 ) -> ([Reply; 2], model::entries::Entries) {
     let (mut words, mut store) = (words.to_vec(), store.to_vec());
     let replies = calls.map(|call| S::perform(&mut words, &mut store, call));
@@ -21,7 +21,7 @@ fn value(reply: &Reply, k: usize) -> u64 {
 }
 
 /// Whether the note that an object went moved from one call to the other; or how the two orders differ.
-pub fn either<S: Subject>(words: &[u64], store: &[u8], a: &Op, b: &Op) -> Result<bool, String> {
+pub fn either<S: Subject>(words: &[u64], store: &[u8], a: &Call, b: &Call) -> Result<bool, String> {
     let ([a_first, b_second], left) = served::<S>(words, store, [a, b]);
     let ([b_first, a_second], right) = served::<S>(words, store, [b, a]);
     let said = |r: &Reply| (r.number, [0, 1, 2].map(|k| value(r, k)));

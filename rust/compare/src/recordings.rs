@@ -2,16 +2,16 @@
 //! by the library, by plain Rust and by the model's own reader, as they are and changed; and the recorder of the Rust crate writes the
 //! same bytes.
 
+use crate::call::{Call, Reply};
 use crate::calls::Memory;
 use crate::decode;
 use crate::generate::Pools;
-use crate::model_side::Model;
-use crate::op::{Op, Reply, Side};
+use crate::model_side::{Model, Side};
 use crate::random::Random;
 use crate::subject::{Library, Plain, Recorded, Subject};
 use crate::tally::Tally;
 use crate::Differs;
-use model::entries::{Entries, Way};
+use model::entries::Entries;
 use model::recording::{self, Outcome};
 use rimonakh::{Error, Table};
 
@@ -31,24 +31,25 @@ fn words(numbers: &[u64]) -> Vec<u8> {
 
 impl Record {
     /// The record of a call and what it answered.
-    pub fn of(op: &Op, reply: &Reply) -> Record {
-        let (call, first, second) = told(op);
+    pub fn of(call: &Call, reply: &Reply) -> Record {
         let mut answer = vec![u64::from(reply.number)];
-        if !matches!(op, Op::NextStop(_)) {
+        if !matches!(call, Call::NextStop { .. }) {
             answer.extend(&reply.values); // of a next stop they say which slice the part is of
         }
-        let shown = match op {
+        let shown = match call {
             _ if reply.number != 0 => 0,
-            Op::CountList { items, .. } => items.len() / 24,
-            Op::Resolve { .. } | Op::ResolveFiltered { .. } | Op::WriteSnapshot { .. } => {
+            Call::AddList { items, .. } | Call::ReleaseList { items, .. } => items.len() / 24,
+            Call::Resolve { .. } | Call::ResolveFiltered { .. } | Call::WriteSnapshot { .. } => {
                 reply.values[0] as usize
             }
             _ => reply.bytes.len(),
         };
+        let told = call.told();
+        let mut lists = told.lists.into_iter();
         Record {
-            call,
-            first,
-            second,
+            call: told.call,
+            first: lists.next().unwrap_or_default(),
+            second: lists.next().unwrap_or_default(),
             answer: words(&answer),
             shown: reply.bytes[..shown].to_vec(),
         }
@@ -62,90 +63,6 @@ impl Record {
             &mut self.answer,
             &mut self.shown,
         ]
-    }
-}
-
-/// A call's code and numbers, and its lists.
-fn told(op: &Op) -> (Vec<u8>, Vec<u8>, Vec<u8>) {
-    let call = |code: u8, numbers: &[&[u8]]| [&[code], &numbers.concat()[..]].concat();
-    let plain = |code: u8, numbers: &[&[u8]]| (call(code, numbers), vec![], vec![]);
-    let listed = |code: u8, numbers: &[&[u8]], list: Vec<u8>| (call(code, numbers), list, vec![]);
-    let wide = |n: u64| n.to_le_bytes();
-    let half = |n: u32| n.to_le_bytes();
-    let room = |n: usize| (n as u64).to_le_bytes();
-    match *op {
-        Op::Reset(time) => plain(0, &[&wide(time)]),
-        Op::EnterExporter {
-            oxid,
-            unknown,
-            ref list,
-        } => listed(1, &[&wide(oxid), &unknown], list.clone()),
-        Op::RemoveExporter(oxid) => plain(2, &[&wide(oxid)]),
-        Op::EnterObject {
-            oid,
-            oxid,
-            ipid,
-            iid,
-            public,
-            no_ping,
-        } => {
-            let (oid, oxid, mark) = (wide(oid), wide(oxid), [no_ping as u8]);
-            plain(3, &[&oid, &oxid, &ipid, &iid, &half(public), &mark])
-        }
-        Op::EnterInterface {
-            oid,
-            ipid,
-            iid,
-            public,
-        } => plain(4, &[&wide(oid), &ipid, &iid, &half(public)]),
-        Op::Add {
-            client,
-            ipid,
-            public,
-            private,
-        } => plain(5, &[&half(client), &ipid, &half(public), &half(private)]),
-        Op::Release {
-            client,
-            ipid,
-            public,
-            private,
-        } => plain(6, &[&half(client), &ipid, &half(public), &half(private)]),
-        Op::DropClient(client) => plain(7, &[&half(client)]),
-        Op::CountList {
-            way,
-            client,
-            ref items,
-            room: n,
-        } => {
-            let code = if way == Way::Add { 8 } else { 9 };
-            listed(code, &[&half(client), &room(n)], items.clone())
-        }
-        Op::SimplePing(set) => plain(10, &[&wide(set)]),
-        Op::ComplexPing {
-            set,
-            sequence,
-            ref adds,
-            ref deletes,
-        } => {
-            let numbers: [&[u8]; 2] = [&wide(set), &sequence.to_le_bytes()];
-            (call(11, &numbers), words(adds), words(deletes))
-        }
-        Op::Clock(time) => plain(12, &[&wide(time)]),
-        Op::Resolve { oxid, room: n } => plain(13, &[&wide(oxid), &room(n)]),
-        Op::ResolveFiltered {
-            oxid,
-            ref protocols,
-            room: n,
-        } => {
-            let list = protocols.iter().flat_map(|p| p.to_le_bytes()).collect();
-            listed(14, &[&wide(oxid), &room(n)], list)
-        }
-        Op::Census => plain(15, &[]),
-        Op::Members(set) => plain(16, &[&wide(set)]),
-        Op::NextStop(ref reference) => listed(17, &[], reference.clone()),
-        Op::WriteSnapshot { room: n } => plain(18, &[&room(n)]),
-        Op::LoadSnapshot(ref bytes) => listed(19, &[], bytes.clone()),
-        Op::Lent { .. } | Op::PokeWord { .. } | Op::PokeByte { .. } => unreachable!("not a call"),
     }
 }
 
@@ -253,13 +170,13 @@ fn recorded(random: &mut Random, length: usize) -> (Vec<Record>, Vec<u8>) {
     };
     let mut recorder = Recorded::new(1000);
     let mut records = Vec::new();
-    let mut op = Op::Reset(1000);
+    let mut call = Call::Reset { time: 1000 };
     while records.len() < length {
-        records.push(Record::of(&op, &side.perform(&op)));
+        records.push(Record::of(&call, &side.perform(&call)));
         if records.len() > 1 {
-            recorder.perform(&op);
+            call.by(&mut recorder);
         }
-        op = pools.plain_call(random, &side.entries);
+        call = pools.plain_call(random, &side.entries);
     }
     (records, recorder.recording())
 }

@@ -40,76 +40,87 @@ pub fn run<C: Codec>(input: &[u8]) -> String {
     let mut seen = Seen::new();
     let mut out = String::new();
     for line in input.split(|b| *b == b'\n').filter(|line| !line.is_empty()) {
-        let mut a = Arguments { rest: &line[1..] };
-        match line[0] {
-            b'O' => out += &reference::<C>(&a.bytes(), &mut seen),
-            b'E' => out += &parts::<C>(&a.bytes(), &mut seen),
-            b'N' => {
-                let levels = a.number();
-                out += &parts::<C>(&nest(levels, a.bytes()), &mut seen);
-            }
-            b'Z' => {
-                let s = a.bytes();
-                out += &answers::<C>((0..=s.len()).map(|n| s[..n].to_vec()));
-            }
-            b'F' => {
-                let (bit, s) = (a.number(), a.bytes());
-                let changed = |at: usize| {
-                    let mut changed = s.clone();
-                    changed[at] ^= 1 << bit;
-                    changed
-                };
-                out += &answers::<C>((0..s.len()).map(changed));
-            }
-            b'C' => out += &context::<C>(&a.bytes(), &mut seen),
-            b'X' => {
-                let (zeros, n) = (a.number() as u8, a.number() as usize);
-                let (room, s) = (a.number() as usize, a.bytes());
-                let (list, data) = s.split_at(n);
-                out += &written::<C>(zeros, list, data, room, &mut seen);
-            }
-            b'Y' => {
-                let data = nest(a.number(), a.bytes());
-                out += &written::<C>(0, &[0; 4], &data, 104 + data.len() + 7, &mut seen);
-            }
-            b'S' => {
-                let mut made = sample(0, 4);
-                made.clsid = MARSHALER;
-                let (room, s) = (a.number() as usize, a.bytes());
-                out += &into(room, b'S', &mut seen, |buffer| {
-                    C::write_reference(&made, &s, &[], buffer)
-                });
-            }
-            b'P' => {
-                let made = Property {
-                    clsid: guid(0x0C01, 0x0C02),
-                    policy: guid(0x0C03, 0x0C04),
-                    flags: a.narrow(),
-                };
-                let (room, s) = (a.number() as usize, a.bytes());
-                out += &into(room, b'P', &mut seen, |buffer| {
-                    C::write_property(&made, &s, buffer)
-                });
-            }
-            b'Q' => {
-                let made = Context {
-                    id: guid(0x0C05, 0x0C06),
-                    reserved: 7,
-                    marshal: 8,
-                    count: a.narrow(),
-                    frozen: 1,
-                };
-                let (room, s) = (a.number() as usize, a.bytes());
-                out += &into(room, b'Q', &mut seen, |buffer| {
-                    C::write_context(&made, &s, buffer)
-                });
-            }
-            _ => out += &String::from_utf8_lossy(line),
-        }
+        let a = Arguments { rest: &line[1..] };
+        out += &match line[0] {
+            b'#' => String::from_utf8_lossy(line).to_string(),
+            letter @ (b'X' | b'Y' | b'S' | b'P' | b'Q') => write::<C>(letter, a, &mut seen),
+            letter => read::<C>(letter, a, &mut seen),
+        };
         out.push('\n');
     }
     all_seen(ANSWERS, &seen);
     out
+}
+
+/// A line about bytes that are read.
+fn read<C: Codec>(letter: u8, mut a: Arguments, seen: &mut Seen) -> String {
+    match letter {
+        b'O' => reference::<C>(&a.bytes(), seen),
+        b'E' => parts::<C>(&a.bytes(), seen),
+        b'N' => {
+            let levels = a.number();
+            parts::<C>(&nest(levels, a.bytes()), seen)
+        }
+        b'Z' => {
+            let s = a.bytes();
+            answers::<C>((0..=s.len()).map(|n| s[..n].to_vec()))
+        }
+        b'F' => {
+            let (bit, s) = (a.number(), a.bytes());
+            answers::<C>((0..s.len()).map(|at| {
+                let mut changed = s.clone();
+                changed[at] ^= 1 << bit;
+                changed
+            }))
+        }
+        b'C' => context::<C>(&a.bytes(), seen),
+        _ => panic!("no such line: {}", letter as char),
+    }
+}
+
+/// A line about what is written.
+fn write<C: Codec>(letter: u8, mut a: Arguments, seen: &mut Seen) -> String {
+    match letter {
+        b'X' => {
+            let (zeros, n) = (a.number() as u8, a.number() as usize);
+            let (room, s) = (a.number() as usize, a.bytes());
+            let (list, data) = s.split_at(n);
+            written::<C>(zeros, list, data, room, seen)
+        }
+        b'Y' => {
+            let data = nest(a.number(), a.bytes());
+            written::<C>(0, &[0; 4], &data, 104 + data.len() + 7, seen)
+        }
+        b'S' => {
+            let mut made = sample(0, 4);
+            made.clsid = MARSHALER;
+            into(a, letter, seen, |s, buffer| {
+                C::write_reference(&made, s, &[], buffer)
+            })
+        }
+        b'P' => {
+            let made = Property {
+                clsid: guid(0x0C01, 0x0C02),
+                policy: guid(0x0C03, 0x0C04),
+                flags: a.narrow(),
+            };
+            into(a, letter, seen, |s, buffer| {
+                C::write_property(&made, s, buffer)
+            })
+        }
+        _ => {
+            let made = Context {
+                id: guid(0x0C05, 0x0C06),
+                reserved: 7,
+                marshal: 8,
+                count: a.narrow(),
+                frozen: 1,
+            };
+            into(a, letter, seen, |s, buffer| {
+                C::write_context(&made, s, buffer)
+            })
+        }
+    }
 }
 
 /// So many extended references around the bytes, each with the sample's fields and a list without words.
@@ -200,7 +211,18 @@ fn context<C: Codec>(s: &[u8], seen: &mut Seen) -> String {
     out
 }
 
+/// What is written of the bytes that are left into a buffer of the size before them.
 fn into(
+    mut a: Arguments,
+    letter: u8,
+    seen: &mut Seen,
+    write: impl Fn(&[u8], &mut [u8]) -> Result<usize, u32>,
+) -> String {
+    let (room, s) = (a.number() as usize, a.bytes());
+    buffered(room, letter, seen, |buffer| write(&s, buffer))
+}
+
+fn buffered(
     room: usize,
     letter: u8,
     seen: &mut Seen,
@@ -214,7 +236,7 @@ fn into(
 
 fn written<C: Codec>(zeros: u8, list: &[u8], data: &[u8], room: usize, seen: &mut Seen) -> String {
     let made = sample(zeros, 8);
-    into(room, b'X', seen, |buffer| {
+    buffered(room, b'X', seen, |buffer| {
         C::write_reference(&made, list, data, buffer)
     })
 }

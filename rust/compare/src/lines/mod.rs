@@ -19,13 +19,13 @@ use std::fs;
 use std::path::PathBuf;
 
 /// What the line after its letter holds.
-struct Arguments<'a> {
+pub struct Arguments<'a> {
     rest: &'a [u8],
 }
 
 impl<'a> Arguments<'a> {
     /// The next decimal number; 0 where there is none, the largest where it is larger.
-    fn number(&mut self) -> u64 {
+    pub fn number(&mut self) -> u64 {
         let spaces = self.rest.iter().take_while(|b| **b == b' ').count();
         let rest = &self.rest[spaces..];
         let digits = rest.iter().take_while(|b| b.is_ascii_digit()).count();
@@ -52,18 +52,18 @@ impl<'a> Arguments<'a> {
     }
 
     /// A GUID by its two halves.
-    fn guid(&mut self) -> model::Guid {
+    pub fn guid(&mut self) -> model::Guid {
         let (low, high) = (self.number(), self.number());
         guid(low, high)
     }
 
     /// So many numbers, of which the first number is how many.
-    fn numbers(&mut self) -> Vec<u64> {
+    pub fn numbers(&mut self) -> Vec<u64> {
         (0..self.number()).map(|_| self.number()).collect()
     }
 
     /// The hex digits that are left, as bytes; or `@n`, a list of n words with one binding, then changes.
-    fn bytes(&self) -> Vec<u8> {
+    pub fn bytes(&self) -> Vec<u8> {
         let spaces = self.rest.iter().take_while(|b| **b == b' ').count();
         match self.rest[spaces..] {
             [b'@', ref rest @ ..] => {
@@ -116,7 +116,7 @@ impl<'a> Arguments<'a> {
 type Seen = BTreeSet<(u8, u32)>;
 
 /// The answers that the documents list for each letter.
-type Answers = &'static [(u8, &'static [u32])];
+pub type Answers = &'static [(u8, &'static [u32])];
 
 /// Demands that every listed answer occurred.
 fn all_seen(answers: Answers, seen: &Seen) {

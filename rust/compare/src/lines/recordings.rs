@@ -20,9 +20,9 @@
 
 use super::table::{call, print_entries, Stops};
 use super::{all_seen, Answers, Arguments, Seen};
+use crate::call::Call;
 use crate::decode;
 use crate::model_side::Model;
-use crate::op::Op;
 use crate::recordings::{bytes, Record, Replays};
 use crate::subject::{Library, Plain};
 use model::recording::{held, Outcome};
@@ -50,7 +50,7 @@ struct Lines {
     recorded: Memory,
     lent: Memory,
     records: Vec<Record>,
-    last: Op,
+    last: Call,
     saved: Vec<u8>,
     seen: Seen,
 }
@@ -91,15 +91,15 @@ impl Lines {
     }
 
     /// Performs and records a call.
-    fn record<S: Side>(&mut self, op: Op) -> String {
-        let reply = S::perform(&mut self.recorded.0, &mut self.recorded.1, &op);
-        if let (Op::WriteSnapshot { .. }, 0) = (&op, reply.number) {
+    fn record<S: Side>(&mut self, call: Call) -> String {
+        let reply = S::perform(&mut self.recorded.0, &mut self.recorded.1, &call);
+        if let (Call::WriteSnapshot { .. }, 0) = (&call, reply.number) {
             self.saved = reply.bytes[..reply.values[0] as usize].to_vec();
         }
-        let record = Record::of(&op, &reply);
+        let record = Record::of(&call, &reply);
         let shown = record.shown.len();
         self.records.push(record);
-        self.last = op;
+        self.last = call;
         let results: String = reply.values.iter().map(|v| format!(" {v}")).collect();
         let n = self.records.len();
         format!("{n}: {}{results}, {shown} shown\n", reply.number)
@@ -158,12 +158,16 @@ impl Lines {
         match letter {
             b'*' => {
                 self.records.clear();
-                S::perform(&mut self.recorded.0, &mut self.recorded.1, &Op::Reset(0));
+                S::perform(
+                    &mut self.recorded.0,
+                    &mut self.recorded.1,
+                    &Call::Reset { time: 0 },
+                );
                 String::new()
             }
             b'n' => {
-                let op = self.last.clone();
-                (0..a.number()).for_each(|_| drop(self.record::<S>(op.clone())));
+                let call = self.last.clone();
+                (0..a.number()).for_each(|_| drop(self.record::<S>(call.clone())));
                 format!("{} records\n", self.records.len())
             }
             b'F' => {
@@ -195,13 +199,11 @@ impl Lines {
             }
             b'f' => self.lengths::<S>(),
             b'g' => self.other_answers::<S>(),
-            b'P' => {
-                let mut out = String::new();
-                print_entries(&self.lent.0[..8192], &self.lent.1[..8192], &mut out);
-                out
-            }
+            b'P' => print_entries(&self.lent.0[..8192], &self.lent.1[..8192]),
             b'i' => {
-                let load = Op::LoadSnapshot(a.changed(self.saved.clone()));
+                let load = Call::LoadSnapshot {
+                    snapshot: a.changed(self.saved.clone()),
+                };
                 self.record::<S>(load)
             }
             letter => self.record::<S>(call(letter, a)),
@@ -215,7 +217,7 @@ pub fn run<S: Side>(input: &[u8]) -> String {
         recorded: memory(8192),
         lent: memory(8193), // one place more than a table has
         records: Vec::new(),
-        last: Op::Census,
+        last: Call::Census {},
         saved: Vec::new(),
         seen: Seen::new(),
     };

@@ -11,41 +11,39 @@
 //!     G                       the lowest, then the highest bit of each word of a column, and of each byte of the lists, changed: how many
 //!                             leave the table sound
 //!     N words bytes CALL      a call that is lent the first so many words and bytes
-//!     J  R time  C  M set  X oxid unknown list  D oxid  O oid oxid ipid iid public no-ping  I oid ipid iid public
-//!     A client ipid public private  L client ipid public private  Y client (its drop)  S set  Q set sequence n adds.. m deletes..  K time  V oxid room  T reference
-//!     a client room items  l client room items  whole lists of adds and of releases, the items in hex
-//!     v oxid room n protocols..  a resolve by protocols
-//!     w oxid room n protocol     the same with n times the protocol
+//!     J                       whether the table is sound
+//!     CALL                    a call by its letter, then its arguments, as the table in `call.rs` has them
+//!     w oxid room n protocol  a resolve by protocols, n times this one
 //!     H room                  writes the snapshot, which `i` and `y` then load
-//!     h hex                   loads a snapshot
 //!     i changes..             loads the last one that was written, with changes: `cut k`, `put k hex`, `insert k hex`
 //!     y                       loads every shorter front of it: how many are refused by 23, and whether the table is kept
-//!     z way client room n bytes item  such a list (0 adds, 1 releases) of n times the item and so many bytes more
+//!     z way client room n bytes item  a list of adds (way 0) or releases (1) of n times the item and so many bytes more
 //!     Z set sequence oid n m  a complex ping with n times the oid on its list of adds and m times on that of deletes
 //!
-//! J is whether the table is sound. A GUID is its two halves; lists and references are in hex, `@n` is a list of n words with one
-//! binding. One of over 300 words is printed so, too. After an answer stands " kept"
-//! where the call left every word and byte as it was lent.
+//! A GUID is its two halves; a list of numbers begins with how many there are; bytes are in hex, `@n` is a list of n words with one
+//! binding. One of over 300 words is printed so, too. After an answer stands " kept" where the call left every word and byte as it was
+//! lent.
 
-use super::{all_seen, hex, text, Answers, Arguments, Seen};
+use super::{all_seen, hex, text, Arguments, Seen};
+use crate::call::{buffer, Call, Reply, ANSWERS};
 use crate::decode::{self, encode, guid, EXPORTERS, INTERFACES, OBJECTS, SETS};
 use crate::generate::long_list;
 use crate::model_side::Model;
-use crate::op::{buffer, Op};
 use crate::subject::{Library, Subject};
 use model::bytes::read_reference;
 use model::entries::{Entries, Exporter, Interface, Object, PingSet, Way};
 use std::fmt::Write;
+use std::marker::PhantomData;
 
 /// Where a next stop stands: whether in the store, from, to.
 type Place = (bool, usize, usize);
 
 pub trait Stops: Subject {
-    fn stop(words: &[u64], store: &[u8], reference: &[u8], reply: &crate::op::Reply) -> Place;
+    fn stop(words: &[u64], store: &[u8], reference: &[u8], reply: &Reply) -> Place;
 }
 
 impl Stops for Library {
-    fn stop(words: &[u64], store: &[u8], reference: &[u8], _: &crate::op::Reply) -> Place {
+    fn stop(words: &[u64], store: &[u8], reference: &[u8], _: &Reply) -> Place {
         let (w, n, s, m) = (words.as_ptr(), words.len(), store.as_ptr(), store.len());
         // SAFETY: each pointer and length are of one slice.
         let r = unsafe {
@@ -56,7 +54,7 @@ impl Stops for Library {
 }
 
 impl Stops for Model {
-    fn stop(words: &[u64], store: &[u8], reference: &[u8], reply: &crate::op::Reply) -> Place {
+    fn stop(words: &[u64], store: &[u8], reference: &[u8], reply: &Reply) -> Place {
         if reply.number != 0 {
             return (false, 0, 0);
         }
@@ -71,111 +69,126 @@ impl Stops for Model {
     }
 }
 
-/// The answers of each call, as documents 01 and 02 list them: each occurs in the lines.
-const ANSWERS: Answers = &[
-    (b'R', &[0, 1]),
-    (b'X', &[0, 1, 3, 13, 14, 19, 9]),
-    (b'D', &[0, 1, 4]),
-    (b'O', &[0, 1, 3, 4, 7, 9]),
-    (b'I', &[0, 1, 3, 5, 7, 9]),
-    (b'A', &[0, 1, 20, 6, 8]),
-    (b'L', &[0, 1, 20, 6]),
-    (b'Y', &[0, 1, 20]),
-    (b'a', &[0, 1, 20, 13, 10, 15]),
-    (b'l', &[0, 1, 20, 13, 10, 15]),
-    (b'S', &[0, 1, 11]),
-    (b'Q', &[0, 1, 10, 11, 12, 5, 9, 18]),
-    (b'K', &[0, 1, 2]),
-    (b'V', &[0, 1, 4, 15]),
-    (b'v', &[0, 1, 10, 4, 15]),
-    (b'C', &[0, 1]),
-    (b'M', &[0, 1, 11]),
-    (b'T', &[0, 1, 13, 14, 21, 22]),
-    (b'H', &[0, 1, 15]),
-    (b'h', &[0, 1, 23]),
-];
+/// A table, the snapshot that was written last, and the answers that occurred.
+struct Lines<S> {
+    words: Vec<u64>,
+    store: Vec<u8>,
+    saved: Vec<u8>,
+    seen: Seen,
+    side: PhantomData<S>,
+}
 
 pub fn run<S: Stops>(input: &[u8]) -> String {
-    let mut seen = Seen::new();
-    let (mut words, mut store) = (vec![0u64; 8192], vec![0u8; 8192]);
+    let mut lines = Lines::<S> {
+        words: vec![0; 8192],
+        store: vec![0; 8192],
+        saved: Vec::new(),
+        seen: Seen::new(),
+        side: PhantomData,
+    };
     let mut out = String::new();
-    let mut saved: Vec<u8> = Vec::new();
     for line in input.split(|b| *b == b'\n').filter(|line| !line.is_empty()) {
-        let mut a = Arguments { rest: &line[1..] };
+        let a = Arguments { rest: &line[1..] };
         match line[0] {
             b'#' => writeln!(out, "{}", String::from_utf8_lossy(line)).unwrap(),
-            b'F' => {
-                let value = a.number();
-                words.fill(value);
-                store.fill(value as u8);
+            letter => out += &lines.line(letter, a),
+        }
+    }
+    all_seen(ANSWERS, &lines.seen);
+    out
+}
+
+impl<S: Stops> Lines<S> {
+    /// What a line prints.
+    fn line(&mut self, letter: u8, mut a: Arguments) -> String {
+        let (words, store) = (&mut self.words, &mut self.store);
+        match letter {
+            b'F' | b'E' | b'W' | b'B' | b'b' => self.put(letter, a),
+            b'U' => return full::<S>(a.name(), words, store, &mut self.seen),
+            b'G' => return flip_bits::<S>(words, store),
+            b'P' => return print_entries(words, store),
+            b'H' => return self.save(a.number() as usize),
+            b'i' => {
+                let snapshot = a.changed(self.saved.clone());
+                let load = Call::LoadSnapshot { snapshot };
+                return performed::<S>(&load, words, store, &mut self.seen);
             }
-            b'E' => {
-                let value = a.number();
-                words.fill(value);
-                store.fill(value as u8);
-                encode(&small(), &mut words, &mut store);
+            b'y' => return self.load_fronts(),
+            b'N' => {
+                let (n, m) = (a.number() as usize, a.number() as usize);
+                let letter = a.rest[1];
+                a.rest = &a.rest[2..];
+                return called::<S>(letter, a, &mut words[..n], &mut store[..m], &mut self.seen);
             }
-            b'U' => out += &full::<S>(a.name(), &mut words, &mut store, &mut seen),
-            b'G' => flip_bits::<S>(&mut words, &mut store, &mut out),
+            _ => return called::<S>(letter, a, words, store, &mut self.seen),
+        }
+        String::new()
+    }
+
+    /// Words and bytes put into the table.
+    fn put(&mut self, letter: u8, mut a: Arguments) {
+        let Lines { words, store, .. } = self;
+        let at = match letter {
             b'W' => {
                 let name = a.name();
                 let found = decode::columns();
                 let column = found.iter().find(|c| c.name.as_bytes() == name);
                 let row = a.number() as usize;
                 words[column.expect("a column's name").first + row] = a.number();
+                return;
             }
-            b'B' => {
-                let at = decode::list_start(&store, a.number() as usize) + a.number() as usize;
-                let bytes = a.bytes();
-                store[at..at + bytes.len()].copy_from_slice(&bytes);
-            }
-            b'b' => {
-                let at = a.number() as usize;
-                let bytes = a.bytes();
-                store[at..at + bytes.len()].copy_from_slice(&bytes);
-            }
-            b'P' => print_entries(&words, &store, &mut out),
-            b'H' => {
-                let room = a.number() as usize;
-                let r = S::perform(&mut words, &mut store, &Op::WriteSnapshot { room });
-                seen.insert((b'H', r.number));
-                let length = r.values[0] as usize;
-                assert_eq!(
-                    r.bytes[length..],
-                    buffer(room)[length..],
-                    "the rest is kept"
-                );
-                if r.number == 0 {
-                    saved = r.bytes[..length].to_vec();
+            b'B' => decode::list_start(store, a.number() as usize) + a.number() as usize,
+            b'b' => a.number() as usize,
+            _ => {
+                let value = a.number();
+                words.fill(value);
+                store.fill(value as u8);
+                if letter == b'E' {
+                    encode(&small(), words, store);
                 }
-                let bytes = snapshot_hex(&r.bytes[..length]);
-                writeln!(out, "{} length {length} {bytes}", r.number).unwrap();
+                return;
             }
-            b'i' => {
-                let load = Op::LoadSnapshot(a.changed(saved.clone()));
-                out += &performed::<S>(b'h', &load, &mut words, &mut store, &mut seen);
-            }
-            b'y' => {
-                let before = (words.clone(), store.clone());
-                let loads = (0..saved.len()).map(|n| {
-                    let load = Op::LoadSnapshot(saved[..n].to_vec());
-                    S::perform(&mut words, &mut store, &load).number
-                });
-                let refused = loads.filter(|number| *number == 23).count();
-                let kept = before == (words.clone(), store.clone());
-                writeln!(out, "{refused} of {} kept {kept}", saved.len()).unwrap();
-            }
-            b'N' => {
-                let (n, m) = (a.number() as usize, a.number() as usize);
-                let letter = a.rest[1];
-                a.rest = &a.rest[2..];
-                out += &called::<S>(letter, a, &mut words[..n], &mut store[..m], &mut seen);
-            }
-            letter => out += &called::<S>(letter, a, &mut words, &mut store, &mut seen),
-        }
+        };
+        let bytes = a.bytes();
+        store[at..at + bytes.len()].copy_from_slice(&bytes);
     }
-    all_seen(ANSWERS, &seen);
-    out
+
+    /// Writes the snapshot.
+    fn save(&mut self, room: usize) -> String {
+        let call = Call::WriteSnapshot { room };
+        let r = S::perform(&mut self.words, &mut self.store, &call);
+        self.seen.insert((call.letter(), r.number));
+        let written = front(&r, r.values[0] as usize);
+        if r.number == 0 {
+            self.saved = written.to_vec();
+        }
+        let (length, bytes) = (written.len(), snapshot_hex(written));
+        format!("{} length {length} {bytes}\n", r.number)
+    }
+
+    /// Loads every shorter front of the snapshot.
+    fn load_fronts(&mut self) -> String {
+        let before = (self.words.clone(), self.store.clone());
+        let loads = (0..self.saved.len()).map(|n| {
+            let snapshot = self.saved[..n].to_vec();
+            let load = Call::LoadSnapshot { snapshot };
+            S::perform(&mut self.words, &mut self.store, &load).number
+        });
+        let refused = loads.filter(|number| *number == 23).count();
+        let kept = before == (self.words.clone(), self.store.clone());
+        format!("{refused} of {} kept {kept}\n", self.saved.len())
+    }
+}
+
+/// The front of a reply's buffer, behind which it is kept.
+fn front(r: &Reply, length: usize) -> &[u8] {
+    let (front, rest) = r.bytes.split_at(length);
+    assert_eq!(
+        rest,
+        &buffer(r.bytes.len())[length..],
+        "the rest of the buffer is kept"
+    );
+    front
 }
 
 /// A small sound table, with a no-ping object that was heard long ago, counts at both ends, and a set just in time.
@@ -253,7 +266,8 @@ fn full<S: Stops>(list: &[u8], words: &mut [u64], store: &mut [u8], seen: &mut S
 
 /// Of each column, and of the lists, how many words and bytes leave the table sound when their lowest, and when their highest bit
 /// is changed.
-fn flip_bits<S: Stops>(words: &mut [u64], store: &mut [u8], out: &mut String) {
+fn flip_bits<S: Stops>(words: &mut [u64], store: &mut [u8]) -> String {
+    let mut out = String::new();
     for column in decode::columns() {
         let (name, first, places) = (column.name, column.first, column.places);
         write!(out, "{name}").unwrap();
@@ -261,7 +275,7 @@ fn flip_bits<S: Stops>(words: &mut [u64], store: &mut [u8], out: &mut String) {
             let mut sound = 0;
             for at in first..first + places {
                 words[at] ^= bit;
-                sound += (S::perform(words, store, &Op::Census).number == 0) as usize;
+                sound += (S::perform(words, store, &Call::Census {}).number == 0) as usize;
                 words[at] ^= bit;
             }
             write!(out, " {sound} of {places}").unwrap();
@@ -276,7 +290,7 @@ fn flip_bits<S: Stops>(words: &mut [u64], store: &mut [u8], out: &mut String) {
             let from = decode::list_start(store, row);
             for at in from..from + length {
                 store[at] ^= bit;
-                sound += (S::perform(words, store, &Op::Census).number == 0) as usize;
+                sound += (S::perform(words, store, &Call::Census {}).number == 0) as usize;
                 store[at] ^= bit;
             }
             all += length;
@@ -284,6 +298,7 @@ fn flip_bits<S: Stops>(words: &mut [u64], store: &mut [u8], out: &mut String) {
         write!(out, " {sound} of {all}").unwrap();
     }
     out.push('\n');
+    out
 }
 
 /// The call of a line, performed.
@@ -294,186 +309,104 @@ fn called<S: Stops>(
     store: &mut [u8],
     seen: &mut Seen,
 ) -> String {
-    performed::<S>(letter, &call(letter, a), words, store, seen)
+    if letter != b'J' {
+        return performed::<S>(&call(letter, a), words, store, seen);
+    }
+    let answer = performed::<S>(&Call::Census {}, words, store, &mut Seen::new());
+    let sound = if answer.starts_with("1 ") {
+        "unsound"
+    } else {
+        "sound"
+    };
+    let kept = if answer.ends_with(" kept\n") {
+        " kept"
+    } else {
+        ""
+    };
+    format!("{sound}{kept}\n")
 }
 
-/// The call of a line.
-pub fn call(letter: u8, mut a: Arguments) -> Op {
+/// The call of a line. Three letters have lists that are said shorter.
+pub fn call(letter: u8, mut a: Arguments) -> Call {
     match letter {
-        b'J' | b'C' => Op::Census,
-        b'R' => Op::Reset(a.number()),
-        b'M' => Op::Members(a.number()),
-        b'X' => Op::EnterExporter {
-            oxid: a.number(),
-            unknown: a.guid(),
-            list: a.bytes(),
-        },
-        b'D' => Op::RemoveExporter(a.number()),
-        b'O' => Op::EnterObject {
-            oid: a.number(),
-            oxid: a.number(),
-            ipid: a.guid(),
-            iid: a.guid(),
-            public: a.narrow(),
-            no_ping: a.number() != 0,
-        },
-        b'I' => Op::EnterInterface {
-            oid: a.number(),
-            ipid: a.guid(),
-            iid: a.guid(),
-            public: a.narrow(),
-        },
-        b'A' => Op::Add {
-            client: a.narrow(),
-            ipid: a.guid(),
-            public: a.narrow(),
-            private: a.narrow(),
-        },
-        b'Y' => Op::DropClient(a.narrow()),
-        b'a' | b'l' => Op::CountList {
-            way: if letter == b'a' {
-                Way::Add
-            } else {
-                Way::Release
-            },
-            client: a.narrow(),
-            room: a.number() as usize,
-            items: a.bytes(),
-        },
         b'z' => {
             let way = [Way::Add, Way::Release][a.number() as usize];
-            let (client, room) = (a.narrow(), a.number() as usize);
+            let (client, room) = (a.number() as u32, a.number() as usize);
             let (n, more) = (a.number() as usize, a.number() as usize);
             let mut items = a.bytes().repeat(n);
             items.resize(items.len() + more, 0);
-            Op::CountList {
-                way,
-                client,
-                room,
-                items,
-            }
+            Call::count_list(way, client, room, items)
         }
-        b'L' => Op::Release {
-            client: a.narrow(),
-            ipid: a.guid(),
-            public: a.narrow(),
-            private: a.narrow(),
-        },
-        b'S' => Op::SimplePing(a.number()),
-        b'Q' => Op::ComplexPing {
-            set: a.number(),
-            sequence: a.number() as u16,
-            adds: a.numbers(),
-            deletes: a.numbers(),
-        },
         b'Z' => {
             let (set, sequence, oid) = (a.number(), a.number() as u16, a.number());
-            Op::ComplexPing {
+            Call::ComplexPing {
                 set,
                 sequence,
                 adds: vec![oid; a.number() as usize],
                 deletes: vec![oid; a.number() as usize],
             }
         }
-        b'K' => Op::Clock(a.number()),
-        b'V' => Op::Resolve {
-            oxid: a.number(),
-            room: a.number() as usize,
-        },
-        b'v' => Op::ResolveFiltered {
-            oxid: a.number(),
-            room: a.number() as usize,
-            protocols: a.numbers().iter().map(|n| *n as u16).collect(),
-        },
         b'w' => {
             let (oxid, room, n) = (a.number(), a.number() as usize, a.number() as usize);
-            Op::ResolveFiltered {
+            Call::ResolveFiltered {
                 oxid,
                 room,
                 protocols: vec![a.number() as u16; n],
             }
         }
-        b'T' => Op::NextStop(a.bytes()),
-        b'H' => Op::WriteSnapshot {
-            room: a.number() as usize,
-        },
-        b'h' => Op::LoadSnapshot(a.bytes()),
-        other => panic!("no such line: {}", other as char),
+        _ => {
+            Call::read(letter, &mut a).unwrap_or_else(|| panic!("no such line: {}", letter as char))
+        }
     }
 }
 
 /// A call, what it answers, and whether it left what it was lent.
 fn performed<S: Stops>(
-    letter: u8,
-    op: &Op,
+    call: &Call,
     words: &mut [u64],
     store: &mut [u8],
     seen: &mut Seen,
 ) -> String {
     let before = (words.to_vec(), store.to_vec());
-    let r = S::perform(words, store, op);
-    let asked = match (letter, op) {
-        (b'Z', _) => b'Q',
-        (b'w', _) => b'v',
-        (_, Op::CountList { way: Way::Add, .. }) => b'a',
-        (_, Op::CountList { .. }) => b'l',
-        _ => letter,
-    };
-    seen.insert((asked, r.number));
-    let v = &r.values;
-    let mut out = match (letter, op) {
-        (b'J', _) => if r.number == 1 { "unsound" } else { "sound" }.to_string(),
-        (b'L', _) => format!(
-            "{} public {} private {} interfaces {} objects {}",
-            r.number, v[0], v[1], v[2], v[3]
-        ),
-        (b'K' | b'C', _) => format!(
-            "{} exporters {} objects {} interfaces {} sets {}",
-            r.number, v[0], v[1], v[2], v[3]
-        ),
-        (b'Q' | b'Z', _) => format!("{} set {} backoff {}", r.number, v[0], v[1]),
-        (b'M', _) => format!("{} members {}", r.number, v[0]),
-        (_, Op::Resolve { room, .. } | Op::ResolveFiltered { room, .. }) => {
-            let length = v[0] as usize;
-            assert_eq!(
-                r.bytes[length..],
-                buffer(*room)[length..],
-                "the rest of the buffer is kept"
-            );
-            let rest = "ee".repeat(room - length);
-            format!(
-                "{} length {length} unknown {} buffer {}{rest}",
-                r.number,
-                text(&guid(v[1], v[2])),
-                list_hex(&r.bytes[..length])
-            )
-        }
-        (_, Op::CountList { items, room, .. }) => {
-            let n = if r.number == 0 { items.len() / 24 } else { 0 };
-            assert_eq!(
-                r.bytes[n..],
-                buffer(*room)[n..],
-                "the rest of the results is kept"
-            );
-            format!("{} results {}", r.number, runs_of(&r.bytes[..n]))
-        }
-        (_, Op::NextStop(reference)) => {
-            let (in_store, from, to) = S::stop(words, store, reference, &r);
-            let from_which = if in_store { "store" } else { "reference" };
-            format!(
-                "{} {from_which} {from} to {to} {}",
-                r.number,
-                list_hex(&r.bytes)
-            )
-        }
-        _ => r.number.to_string(),
-    };
+    let r = S::perform(words, store, call);
+    seen.insert((call.letter(), r.number));
+    let mut out = r.number.to_string() + &said::<S>(call, &r, words, store);
     // an accepted load may write free places anew
-    let loaded = matches!(op, Op::LoadSnapshot(_)) && r.number == 0;
+    let loaded = matches!(call, Call::LoadSnapshot { .. }) && r.number == 0;
     if before.0 == words && before.1 == store && !loaded {
         out += " kept";
     }
     out + "\n"
+}
+
+/// What is printed of a reply behind its number.
+fn said<S: Stops>(call: &Call, r: &Reply, words: &[u64], store: &[u8]) -> String {
+    let values = &r.values;
+    match call {
+        Call::Resolve { room, .. } | Call::ResolveFiltered { room, .. } => {
+            let list = front(r, values[0] as usize);
+            let rest = "ee".repeat(room - list.len());
+            let unknown = text(&guid(values[1], values[2]));
+            let (length, list) = (list.len(), list_hex(list));
+            format!(" length {length} unknown {unknown} buffer {list}{rest}")
+        }
+        Call::AddList { items, .. } | Call::ReleaseList { items, .. } => {
+            let n = if r.number == 0 { items.len() / 24 } else { 0 };
+            format!(" results {}", runs_of(front(r, n)))
+        }
+        Call::NextStop { reference } => {
+            let (in_store, from, to) = S::stop(words, store, reference, r);
+            let which = if in_store { "store" } else { "reference" };
+            format!(" {which} {from} to {to} {}", list_hex(&r.bytes))
+        }
+        Call::WriteSnapshot { .. } => String::new(),
+        _ => {
+            let named = call.results().iter().zip(values);
+            named
+                .map(|(name, value)| format!(" {name} {value}"))
+                .collect()
+        }
+    }
 }
 
 /// The numbers of items, each run of the same ones as one: `3x0 6` for 0, 0, 0, 6.
@@ -504,7 +437,8 @@ fn list_hex(list: &[u8]) -> String {
 }
 
 /// The live entries, one to a line: the words of each row in hex.
-pub fn print_entries(words: &[u64], store: &[u8], out: &mut String) {
+pub fn print_entries(words: &[u64], store: &[u8]) -> String {
+    let mut out = String::new();
     writeln!(out, "clock {} next {}", words[0], words[1]).unwrap();
     for kind in [EXPORTERS, OBJECTS, INTERFACES, SETS] {
         for (i, row) in kind.rows(words).iter().enumerate() {
@@ -518,4 +452,5 @@ pub fn print_entries(words: &[u64], store: &[u8], out: &mut String) {
             out.push('\n');
         }
     }
+    out
 }
