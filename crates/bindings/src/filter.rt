@@ -80,7 +80,7 @@ pub fn mark_all_bytes(marks: &mut [u64; MARKS], protocols: &[u8])
 }
 
 // Puts a tower at n where it is wanted, and gives the place after it.
-fn put_tower(towers: &mut [u16], n: usize, tower: u16, wanted: bool) -> usize
+fn note_tower(towers: &mut [u16], n: usize, tower: u16, wanted: bool) -> usize
     requires { ⌜ n < length (now towers) ⌝ }
     ensures { λ r. ⌜
         (r ≤ n + 1) × (take r (now (towers .exit)) ≡ take n (now (towers .entry)) ++ chosen wanted (tower ∷ [])) ⌝ }
@@ -109,7 +109,7 @@ pub fn requested_towers(s: &[u8], marks: &[u64; MARKS], towers: &mut [u16]) -> u
         if tower == 0 {
             return n;
         }
-        n = put_tower(towers, n, tower, is_marked(marks, tower));
+        n = note_tower(towers, n, tower, is_marked(marks, tower));
         let m = binding_words(s, i, left, Part::Strings);
         i += 2 * m;
         left -= m;

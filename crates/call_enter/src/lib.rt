@@ -34,7 +34,7 @@ pub fn reset<'a>(words: &'a mut [u64], store: &'a [u8], time: u64) -> u32
 }
 
 // The number of a new exporter's list: 13; 14; 19; 9.
-pub fn list_number<'a>(words: &'a [u64], store: &'a [u8], list: &'a [u8]) -> u32
+pub fn list_answer<'a>(words: &'a [u64], store: &'a [u8], list: &'a [u8]) -> u32
     requires { ⌜ Whole (now words) × Whole (now store) × (listsKept (view (memory (now words) (now store))) ≡ true) ⌝ }
     ensures { λ r. ⌜ r ≡ order (listRefusals (now (list .entry)) (view (memory (now (words .entry)) (now (store .entry))))) ⌝ }
 {
@@ -56,7 +56,7 @@ pub fn list_number<'a>(words: &'a [u64], store: &'a [u8], list: &'a [u8]) -> u32
 }
 
 // The number of an entry: 3; 13; 14; 19; 9.
-fn exporter_number<'a>(
+fn exporter_answer<'a>(
     words: &'a [u64],
     store: &'a [u8],
     oxid: Oxid,
@@ -75,7 +75,7 @@ fn exporter_number<'a>(
     if find::ipid_taken(words, unknown) {
         return answer::BAD_IDENTIFIER;
     }
-    list_number(words, store, list)
+    list_answer(words, store, list)
 }
 
 // The call on a sound table.
@@ -91,16 +91,16 @@ pub fn enter_exporter_step<'a>(
         Stepped (Call.editing (Edit.enterExporter (oxid .0) unknown (now (list .entry)))) (memory (now (words .entry)) (now (store .entry)))
         (numbered r) (memory (now (words .exit)) (now (store .exit))) ⌝ }
 {
-    let number = exporter_number(words, store, oxid, unknown, list);
+    let number = exporter_answer(words, store, oxid, unknown, list);
     if number != answer::DONE {
         return number;
     }
-    table_edit::put_exporter(words, store, oxid, unknown, list);
+    table_edit::append_exporter(words, store, oxid, unknown, list);
     answer::DONE
 }
 
 // The number of an entry: 3; 4; 7; 9.
-fn object_number(words: &[u64], oid: Oid, oxid: Oxid, ipid: Guid, public: u32) -> u32
+fn object_answer(words: &[u64], oid: Oid, oxid: Oxid, ipid: Guid, public: u32) -> u32
     requires { ⌜ Whole (now words) ⌝ }
     ensures { λ r. ⌜ ((s : List ℕ) (iid : Guid) (np : Bool) → r ≡ number (Call.editing (Edit.enterObject (oid .0) (oxid .0) ipid iid public np)) (view (memory (now (words .entry)) s))) ⌝ }
 {
@@ -144,17 +144,17 @@ pub fn enter_object_step<'a>(
         Stepped (Call.editing (Edit.enterObject (oid .0) (oxid .0) ipid iid public «no_ping»)) (memory (now (words .entry)) (now (store .entry)))
         (numbered r) (memory (now (words .exit)) (now (store .entry))) ⌝ }
 {
-    let number = object_number(words, oid, oxid, ipid, public);
+    let number = object_answer(words, oid, oxid, ipid, public);
     if number != answer::DONE {
         return number;
     }
-    table_edit::put_object(words, oid, oxid, no_ping);
-    table_edit::put_interface(words, ipid, iid, oid, public);
+    table_edit::append_object(words, oid, oxid, no_ping);
+    table_edit::append_interface(words, ipid, iid, oid, public);
     answer::DONE
 }
 
 // The number of an entry: 3; 5; 7; 9.
-fn interface_number(words: &[u64], oid: Oid, ipid: Guid, public: u32) -> u32
+fn interface_answer(words: &[u64], oid: Oid, ipid: Guid, public: u32) -> u32
     requires { ⌜ Whole (now words) ⌝ }
     ensures { λ r. ⌜ ((s : List ℕ) (iid : Guid) → r ≡ number (Call.editing (Edit.enterInterface (oid .0) ipid iid public)) (view (memory (now (words .entry)) s))) ⌝ }
 {
@@ -187,10 +187,10 @@ pub fn enter_interface_step<'a>(
         Stepped (Call.editing (Edit.enterInterface (oid .0) ipid iid public)) (memory (now (words .entry)) (now (store .entry)))
         (numbered r) (memory (now (words .exit)) (now (store .entry))) ⌝ }
 {
-    let number = interface_number(words, oid, ipid, public);
+    let number = interface_answer(words, oid, ipid, public);
     if number != answer::DONE {
         return number;
     }
-    table_edit::put_interface(words, ipid, iid, oid, public);
+    table_edit::append_interface(words, ipid, iid, oid, public);
     answer::DONE
 }

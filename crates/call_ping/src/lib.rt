@@ -90,7 +90,7 @@ fn is_stale(last: u16, new: u16) -> bool
 }
 
 // The number of a complex ping before an id is looked at, by the lengths of its lists: 10; of a set other than 0: 11; 12.
-fn early_number(words: &[u64], set: SetId, sequence: u16, adds: usize, deletes: usize) -> u32
+fn early_answer(words: &[u64], set: SetId, sequence: u16, adds: usize, deletes: usize) -> u32
     requires { ⌜ Whole (now words) ⌝ }
     ensures { λ r. ⌜ Holds (λ e. r ≡ order (earlyRows (set .0) sequence adds deletes e)) (now (words .entry)) ⌝ }
 {
@@ -114,7 +114,7 @@ fn early_number(words: &[u64], set: SetId, sequence: u16, adds: usize, deletes: 
 }
 
 // The rest of it, once every id to be added is live: of set 0: 9; 18.
-fn late_number(words: &[u64], set: SetId) -> u32
+fn late_answer(words: &[u64], set: SetId) -> u32
     requires { ⌜ Whole (now words) ⌝ }
     ensures { λ r. ⌜ Holds (λ e. r ≡ order (lateRows (set .0) e)) (now (words .entry)) ⌝ }
 {
@@ -301,7 +301,7 @@ fn ping_set_row(words: &mut [u64], set: SetId) -> usize
 {
     if set.0 == 0 {
         let n = find::set_count(words);
-        table_edit::put_set(words);
+        table_edit::append_set(words);
         return n;
     }
     find::set_row(words, set)
@@ -341,7 +341,7 @@ pub fn complex_ping_step<'a>(
         Stepped (Call.editing (Edit.complexPing (set .0) sequence (now (adds .entry)) (now (deletes .entry))))
         (memory (now (words .entry)) (now (store .entry))) (pingReply r) (memory (now (words .exit)) (now (store .entry))) ⌝ }
 {
-    let number = early_number(words, set, sequence, adds.len(), deletes.len());
+    let number = early_answer(words, set, sequence, adds.len(), deletes.len());
     if number != answer::DONE {
         return Pinged::refused(number);
     }
@@ -372,7 +372,7 @@ pub fn complex_ping_bytes_step<'a>(
         Stepped (Call.editing (Edit.complexPing (set .0) sequence (oidsIn (now (adds .entry))) (oidsIn (now (deletes .entry)))))
         (memory (now (words .entry)) (now (store .entry))) (pingReply r) (memory (now (words .exit)) (now (store .entry))) ⌝ }
 {
-    let number = early_number(words, set, sequence, adds.len() / 8, deletes.len() / 8);
+    let number = early_answer(words, set, sequence, adds.len() / 8, deletes.len() / 8);
     if number != answer::DONE {
         return Pinged::refused(number);
     }
@@ -406,7 +406,7 @@ fn ping_listed<'a>(
         → Stepped (Call.editing (Edit.complexPing (set .0) sequence adds dels)) (memory (now (words .entry)) (now (store .entry)))
         (pingReply r) (memory (now (words .exit)) (now (store .entry)))) ⌝ }
 {
-    let number = late_number(words, set);
+    let number = late_answer(words, set);
     if number != answer::DONE {
         return Pinged::refused(number);
     }

@@ -124,8 +124,8 @@ fn set_counts(words: &mut [u64], i: usize, client: u32, public: u32, private: u3
         Became (changeInterface i (atCounts client (λ (n : ℕ). public) (λ (n : ℕ). private)))
         (now (words .entry)) (now (words .exit)) ⌝ }
 {
-    table_edit::put_count(words, i, 0, public);
-    table_edit::put_count(words, i, client as usize + 1, private);
+    table_edit::store_count(words, i, 0, public);
+    table_edit::store_count(words, i, client as usize + 1, private);
 }
 
 fn smaller(a: u32, b: u32) -> u32

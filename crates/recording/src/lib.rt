@@ -163,7 +163,7 @@ fn walk(s: &[u8], n: u64) -> Passed
 }
 
 // Whether bytes are a recording that can be replayed: 0, or 13; 14; 10.
-pub fn recording_number(s: &[u8]) -> u32
+pub fn recording_answer(s: &[u8]) -> u32
     ensures { λ r. ⌜ r ≡ recordingAnswer (now (s .entry)) ⌝ }
 {
     if s.len() < 8 {

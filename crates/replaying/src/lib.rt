@@ -44,7 +44,7 @@ pub fn replay<'a>(words: &'a mut [u64], store: &'a mut [u8], s: &'a [u8]) -> Out
     if store.len() != limits::BYTES {
         return refused(answer::UNSOUND);
     }
-    let number = recording::recording_number(s);
+    let number = recording::recording_answer(s);
     if number != 0 {
         return refused(number);
     }

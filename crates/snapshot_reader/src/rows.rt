@@ -53,7 +53,7 @@ fn has_room<'a>(words: &'a [u64], store: &'a [u8], list: &'a [u8]) -> bool
         ((x : ℕ) (u : Guid) →
         r ≡ fits Exporters (addExporter (record { oxid = x; unknown = u; bindings = now (list .entry) }) (view (memory (now (words .entry)) (now (store .entry)))))) ⌝ }
 {
-    call_enter::list_number(words, store, list) == answer::DONE
+    call_enter::list_answer(words, store, list) == answer::DONE
 }
 
 // OXID, remote-unknown IPID, list length, list.
@@ -72,7 +72,7 @@ fn read_exporter<'a>(words: &'a mut [u64], store: &'a mut [u8], s: &'a [u8]) -> 
     }
     let oxid = Oxid(fields::read_u64(s, 0));
     let unknown = fields::read_guid(s, 8);
-    table_edit::put_exporter(words, store, oxid, unknown, list);
+    table_edit::append_exporter(words, store, oxid, unknown, list);
     Row {
         read: true,
         length: to,

@@ -14,7 +14,7 @@ pub struct Members {
 }
 
 // The word with bit k set to b.
-fn put_bit(w: u64, k: usize, b: u64) -> u64
+fn with_bit(w: u64, k: usize, b: u64) -> u64
     requires { ⌜ (k < 64) × (b < 2) ⌝ }
     ensures { λ r. ⌜ r ≡ putBit w k b ⌝ }
 {
@@ -66,14 +66,14 @@ impl Members {
         let b = bit(member);
         if j < 64 {
             return Members {
-                low: put_bit(self.low, j, b),
+                low: with_bit(self.low, j, b),
                 high: self.high,
             };
         }
         if j < 128 {
             return Members {
                 low: self.low,
-                high: put_bit(self.high, j - 64, b),
+                high: with_bit(self.high, j - 64, b),
             };
         }
         self

@@ -13,7 +13,7 @@ pub struct Kind {
 }
 
 // Writes row i.
-pub fn put_row(ws: &mut [u64], k: Kind, i: usize, row: &[u64])
+pub fn store_row(ws: &mut [u64], k: Kind, i: usize, row: &[u64])
     requires { ⌜ (i < k .places) × (length (now row) ≡ k .width) × (after k ≤ length (now ws)) ⌝ }
     ensures { λ r. ⌜ RowPut k i (now (row .entry)) (now (ws .entry)) (now (ws .exit)) ⌝ }
 {

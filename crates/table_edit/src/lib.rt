@@ -30,7 +30,7 @@ fn push_row(words: &mut [u64], k: Kind, at: usize, n: usize, row: &[u64])
     requires { ⌜ (at < k .base) × (n < k .places) × (k .places ≤ 256) × (length (now row) ≡ k .width) × (after k ≤ length (now words)) ⌝ }
     ensures { λ _. ⌜ Pushed k at n (now (row .entry)) (now (words .entry)) (now (words .exit)) ⌝ }
 {
-    rows::put_row(words, k, n, row);
+    rows::store_row(words, k, n, row);
     words[at] = (n + 1) as u64;
 }
 
@@ -70,7 +70,7 @@ pub fn add_object(words: &mut [u64], oid: Oid, oxid: Oxid, no_ping: bool, heard:
 }
 
 // An object, heard now.
-pub fn put_object(words: &mut [u64], oid: Oid, oxid: Oxid, no_ping: bool)
+pub fn append_object(words: &mut [u64], oid: Oid, oxid: Oxid, no_ping: bool)
     requires { ⌜ Whole (now words) × (objectCount (now words) < objectPlaces) × (membersBelow (now words) ≡ true) ⌝ }
     ensures { λ _. ⌜
         Became
@@ -116,7 +116,7 @@ pub fn add_interface(words: &mut [u64], ipid: Guid, iid: Guid, oid: Oid, counts:
 }
 
 // An interface with a public count, and no private references.
-pub fn put_interface(words: &mut [u64], ipid: Guid, iid: Guid, oid: Oid, public: u32)
+pub fn append_interface(words: &mut [u64], ipid: Guid, iid: Guid, oid: Oid, public: u32)
     requires { ⌜ Whole (now words) × (interfaceCount (now words) < interfacePlaces) ⌝ }
     ensures { λ _. ⌜
         Became
@@ -148,7 +148,7 @@ pub fn set_next(words: &mut [u64], number: SetId)
 }
 
 // A set with the next number, which grows by one: pinged now, with sequence number 0 and no member.
-pub fn put_set(words: &mut [u64])
+pub fn append_set(words: &mut [u64])
     requires { ⌜ Whole (now words) × (setCount (now words) < setPlaces) × (nextOf (now words) < 2 ^ 64 - 1) ⌝ }
     ensures { λ _. ⌜ Became makeSet (now (words .entry)) (now (words .exit)) ⌝ }
 {
@@ -159,7 +159,7 @@ pub fn put_set(words: &mut [u64])
 }
 
 // An exporter, with its list behind the live ones.
-pub fn put_exporter<'a>(
+pub fn append_exporter<'a>(
     words: &'a mut [u64],
     store: &'a mut [u8],
     oxid: Oxid,
@@ -266,7 +266,7 @@ pub fn remove_object(words: &mut [u64], i: usize)
 }
 
 // Count k of interface i.
-pub fn put_count(words: &mut [u64], i: usize, k: usize, n: u32)
+pub fn store_count(words: &mut [u64], i: usize, k: usize, n: u32)
     requires { ⌜ Whole (now words) × (i < interfaceCount (now words)) × (k < 9) ⌝ }
     ensures { λ _. ⌜ Became (changeInterface i (withCount k n)) (now (words .entry)) (now (words .exit)) ⌝ }
 {

@@ -215,7 +215,7 @@ pub fn clear_counts(words: &mut [u64], client: usize)
     let mut i = find::interface_count(words);
     while 0 < i {
         i -= 1;
-        table_edit::put_count(words, i, client + 1, 0);
+        table_edit::store_count(words, i, client + 1, 0);
     }
 }
 

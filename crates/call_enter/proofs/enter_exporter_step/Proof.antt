@@ -13,13 +13,13 @@ use Rattle.call_enter.proofs.enter_exporter_step.Tie as tie
 
 returns : tie.Need-returns
 unfolding refusedReply results
-returns c = refused-step _ (c .before .exporter-number .ensures) (c .if1 .taken)
+returns c = refused-step _ (c .before .exporter-answer .ensures) (c .if1 .taken)
 
-put-exporter-requires : tie.Need-put-exporter-requires
-put-exporter-requires c κs =
+append-exporter-requires : tie.Need-append-exporter-requires
+append-exporter-requires c κs =
     let a = c .before .before .before .before .before .before .before .before .before .args in
     let t = c .before .before .before .before .before .before .before .before .before .pre in
-    let fits = exporter-fits _ (a .list .now) (a .oxid .0) (a .unknown) (sym (c .before .before .before .exporter-number .ensures) ∙ c .before .before .if1 .left) in
+    let fits = exporter-fits _ (a .list .now) (a .oxid .0) (a .unknown) (sym (c .before .before .before .exporter-answer .ensures) ∙ c .before .before .if1 .left) in
     let l = exporters-length (a .words .now) (a .store .now) in
     let p = fits .2 in
     let b = bytes-live (a .words .now) (a .store .now) (sound-fields _ (t .entries) .listsKept) in
@@ -30,7 +30,7 @@ unfolding acceptedReply results next
 returns-2 c =
     let test = c .before .before .before .before .before .before .before in
     let t = test .before .before .before .before .before .before .before .pre in
-    accepted-step _ (test .before .exporter-number .ensures) (test .if1 .left) _ (c .before .before .before .before .put-exporter .ensures)
+    accepted-step _ (test .before .exporter-answer .ensures) (test .if1 .left) _ (c .before .before .before .before .append-exporter .ensures)
 
 pub enter-exporter-step-spec : {M : Type 1} → statement M
 enter-exporter-step-spec =
@@ -40,7 +40,7 @@ enter-exporter-step-spec =
     (λ c. search needs)
     (λ c. search needs)
     returns
-    put-exporter-requires
+    append-exporter-requires
     (λ c. search needs)
     (λ c. search needs)
     returns-2)

@@ -14,12 +14,12 @@ returns : tie.Need-returns
 unfolding refusedReply results
 returns c =
     let a = c .before .before .before .before .before .args in
-    refused-step _ (c .before .interface-number .ensures (a .store .now) (a .iid)) (c .if1 .taken)
+    refused-step _ (c .before .interface-answer .ensures (a .store .now) (a .iid)) (c .if1 .taken)
 
-put-interface-requires : tie.Need-put-interface-requires
-put-interface-requires c κs =
+append-interface-requires : tie.Need-append-interface-requires
+append-interface-requires c κs =
     let a = c .before .before .before .before .before .before .args in
-    let room = interface-fits (view (memory (a .words .now) (a .store .now))) _ _ (a .iid) _ (sym (c .before .before .interface-number .ensures (a .store .now) (a .iid)) ∙ c .before .if1 .left) in
+    let room = interface-fits (view (memory (a .words .now) (a .store .now))) _ _ (a .iid) _ (sym (c .before .before .interface-answer .ensures (a .store .now) (a .iid)) ∙ c .before .if1 .left) in
     let l = interfaces-length (a .words .now) in
     (c .before .before .before .before .before .before .pre .words, omega arith)
 
@@ -28,8 +28,8 @@ unfolding acceptedReply results next
 returns-2 c =
     let a = c .before .before .before .before .before .before .before .before .before .args in
     let t = c .before .before .before .before .before .before .before .before .before .pre in
-    accepted-step _ (c .before .before .before .before .before .interface-number .ensures (a .store .now) (a .iid)) (c .before .before .before .before .if1 .left) _
-    (c .before .before .put-interface .ensures (a .store .now))
+    accepted-step _ (c .before .before .before .before .before .interface-answer .ensures (a .store .now) (a .iid)) (c .before .before .before .before .if1 .left) _
+    (c .before .before .append-interface .ensures (a .store .now))
 
 pub enter-interface-step-spec : {M : Type 1} → statement M
 enter-interface-step-spec =
@@ -38,6 +38,6 @@ enter-interface-step-spec =
     (λ c κs. c .before .before .before .pre .words)
     (λ c. search needs)
     returns
-    put-interface-requires
+    append-interface-requires
     (λ c. search needs)
     returns-2)

@@ -24,12 +24,12 @@ abbrev At : tie.Start → List ℕ → Entries
 At st s = view (memory (st .args .words .now) s)
 
 -- the number before an id is looked at
-early : (c : tie.After-early-number) (s : List ℕ) → let st = c .before .before .before .before .before .before in
-    c .early-number .result ≡ order (earlyRows (st .args .set .0) (st .args .sequence) (length (oidsIn (st .args .adds .now))) (length (oidsIn (st .args .deletes .now))) (At st s))
+early : (c : tie.After-early-answer) (s : List ℕ) → let st = c .before .before .before .before .before .before in
+    c .early-answer .result ≡ order (earlyRows (st .args .set .0) (st .args .sequence) (length (oidsIn (st .args .adds .now))) (length (oidsIn (st .args .deletes .now))) (At st s))
 early c s =
     let st = c .before .before .before .before .before .before in
     let a = st .args in
-    c .early-number .ensures s ∙ early-bytes (a .set .0) (a .sequence) (a .adds .now) (a .deletes .now) (At st s)
+    c .early-answer .ensures s ∙ early-bytes (a .set .0) (a .sequence) (a .adds .now) (a .deletes .now) (At st s)
 
 -- where the call began, and the test of that number
 abbrev start : tie.Else1 → tie.Start
@@ -48,8 +48,8 @@ named c s =
     let a = start c .args in
     early-named (a .set .0) (a .sequence) (length (oidsIn (a .adds .now))) (length (oidsIn (a .deletes .now))) (At (start c) s) (passed c s)
 
-early-number-requires : tie.Need-early-number-requires
-early-number-requires c κs = c .before .before .before .before .before .pre .words
+early-answer-requires : tie.Need-early-answer-requires
+early-answer-requires c κs = c .before .before .before .before .before .pre .words
 
 returns : tie.Need-returns
 unfolding refusedReply results
@@ -107,7 +107,7 @@ pub complex-ping-bytes-step-spec : {M : Type 1} → statement M
 complex-ping-bytes-step-spec =
     tie.close
     (tie.spec
-    early-number-requires
+    early-answer-requires
     (λ c κs. search needs)
     (λ c. search needs)
     returns

@@ -24,9 +24,9 @@ abbrev At : tie.Start → List ℕ → Entries
 At st s = view (memory (st .args .words .now) s)
 
 -- the number before an id is looked at
-early : (c : tie.After-early-number) (s : List ℕ) → let st = c .before .before .before .before .before .before in
-    c .early-number .result ≡ order (earlyRows (st .args .set .0) (st .args .sequence) (length (st .args .adds .now)) (length (st .args .deletes .now)) (At st s))
-early c s = c .early-number .ensures s
+early : (c : tie.After-early-answer) (s : List ℕ) → let st = c .before .before .before .before .before .before in
+    c .early-answer .result ≡ order (earlyRows (st .args .set .0) (st .args .sequence) (length (st .args .adds .now)) (length (st .args .deletes .now)) (At st s))
+early c s = c .early-answer .ensures s
 
 -- where the call began, and the test of that number
 abbrev start : tie.Else1 → tie.Start
@@ -45,8 +45,8 @@ named c s =
     let a = start c .args in
     early-named (a .set .0) (a .sequence) (length (a .adds .now)) (length (a .deletes .now)) (At (start c) s) (passed c s)
 
-early-number-requires : tie.Need-early-number-requires
-early-number-requires c κs = c .before .before .before .before .before .pre .words
+early-answer-requires : tie.Need-early-answer-requires
+early-answer-requires c κs = c .before .before .before .before .before .pre .words
 
 returns : tie.Need-returns
 unfolding refusedReply results
@@ -104,7 +104,7 @@ pub complex-ping-step-spec : {M : Type 1} → statement M
 complex-ping-step-spec =
     tie.close
     (tie.spec
-    early-number-requires
+    early-answer-requires
     (λ c κs. search needs)
     (λ c. search needs)
     returns

@@ -19,20 +19,20 @@ abbrev At : tie.Start → Entries
 At st = view (memory (st .args .words .now) (st .args .store .now))
 
 -- where the call began
-abbrev start : tie.After-late-number → tie.Start
+abbrev start : tie.After-late-answer → tie.Start
 start c = c .before .before .before .before
 
 -- the number that the rules give
-numbered : (c : tie.After-late-number) (adds dels : List ℕ) → let a = start c .args in
+numbered : (c : tie.After-late-answer) (adds dels : List ℕ) → let a = start c .args in
     Reduced (a .set .0) (a .sequence) adds dels (At (start c)) (a .members)
-    → c .late-number .result ≡ number (Call.editing (Edit.complexPing (a .set .0) (a .sequence) adds dels)) (At (start c))
+    → c .late-answer .result ≡ number (Call.editing (Edit.complexPing (a .set .0) (a .sequence) adds dels)) (At (start c))
 numbered c adds dels r =
     let st = start c in
     let a = st .args in
-    c .late-number .ensures (a .store .now) ∙ sym (late-left (a .set .0) (a .sequence) adds dels (At st) (r .early) (r .alive))
+    c .late-answer .ensures (a .store .now) ∙ sym (late-left (a .set .0) (a .sequence) adds dels (At st) (r .early) (r .alive))
 
-late-number-requires : tie.Need-late-number-requires
-late-number-requires c κs = c .before .before .before .pre .0 .words
+late-answer-requires : tie.Need-late-answer-requires
+late-answer-requires c κs = c .before .before .before .pre .0 .words
 
 returns : tie.Need-returns
 unfolding refusedReply results
@@ -49,7 +49,7 @@ ping-set-row-requires c κs =
     let l = sets-length (a .words .now) in (
       st .pre .0 .words,
       λ z.
-          let f = late-fits (a .set .0) (At st) (sym (c .before .before .before .before .late-number .ensures (a .store .now)) ∙ c .before .before .before .if1 .left) z in
+          let f = late-fits (a .set .0) (At st) (sym (c .before .before .before .before .late-answer .ensures (a .store .now)) ∙ c .before .before .before .if1 .left) z in
           (omega arith, omega arith),
     )
 
@@ -94,7 +94,7 @@ pub ping-listed-spec : {M : Type 1} → statement M
 ping-listed-spec =
     tie.close
     (tie.spec
-    late-number-requires
+    late-answer-requires
     (λ c κs. search needs)
     (λ c. search needs)
     returns

@@ -6,8 +6,8 @@ use Rattle.table_view.proofs.LiveRows.{sets-length}
 use Rattle.call_ping.proofs.ping_set_row.Statement.{statement}
 use Rattle.call_ping.proofs.ping_set_row.Tie as tie
 
-put-set-requires : tie.Need-put-set-requires
-put-set-requires c κs =
+append-set-requires : tie.Need-append-set-requires
+append-set-requires c κs =
     let start = c .before .before .before .before .before .before in
     let room = start .pre .1 (c .before .before .before .if1 .taken) in
     (start .pre .0, room .0, room .1)
@@ -16,7 +16,7 @@ returns : tie.Need-returns
 returns c =
     let start = c .before .before .before .before .before .before .before .before .before in
     let z = eq-eqb (start .args .set .0) 0 (c .before .before .before .before .before .before .if1 .taken) in
-    (λ s. rw z (c .before .before .before .before .set-count .ensures .0 ∙ sym (sets-length (start .args .words .now))), λ s. rw z (c .before .before .put-set .ensures s))
+    (λ s. rw z (c .before .before .before .before .set-count .ensures .0 ∙ sym (sets-length (start .args .words .now))), λ s. rw z (c .before .before .append-set .ensures s))
 
 returns-2 : tie.Need-returns-2
 returns-2 c =
@@ -29,7 +29,7 @@ ping-set-row-spec =
     tie.close
     (tie.spec
     (λ c κs. search needs)
-    put-set-requires
+    append-set-requires
     (λ c. search needs)
     returns
     (λ c κs. search needs)

@@ -36,12 +36,12 @@ returns-3 c =
     let m = memory (a .words .now) (a .store .now) in
     let t = whole-lengths m (c .before .before .before .before .if1 .left) (c .before .before .before .if2 .left) in
     subst (λ (o : Outcome). Replayed m (a .s .now) o m) (sym (c .refused3 .ensures))
-    (replayed-refused m (a .s .now) _ (c .before .before .recording-number .ensures ∙ right-lengths m (a .s .now) t) (c .before .if3 .taken))
+    (replayed-refused m (a .s .now) _ (c .before .before .recording-answer .ensures ∙ right-lengths m (a .s .now) t) (c .before .if3 .taken))
 
 replay-records-requires : tie.Need-replay-records-requires
 replay-records-requires c κs =
     let n = c .before .before .before in
-    (n .before .before .if1 .left, n .before .if2 .left, sym (n .recording-number .ensures) ∙ c .before .before .if3 .left)
+    (n .before .before .if1 .left, n .before .if2 .left, sym (n .recording-answer .ensures) ∙ c .before .before .if3 .left)
 
 returns-4 : tie.Need-returns-4
 returns-4 c = c .before .before .before .before .replay-records .ensures

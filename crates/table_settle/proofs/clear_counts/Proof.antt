@@ -26,8 +26,8 @@ loop-holds c =
     let n = c .interface-count .ensures .0 ∙ sym (interfaces-length (a .words .now)) in
     (search needs, λ s. going-none (λ e. e .interfaces) (λ e. noneOf (a .client)) (cleared (a .client)) noInterface (view (memory (a .words .now) s)) _ n)
 
-put-count-requires : tie.Need-put-count-requires Inv-loop μ-loop
-put-count-requires c κs =
+store-count-requires : tie.Need-store-count-requires Inv-loop μ-loop
+store-count-requires c κs =
     let l = c .before .before .loop in
     let n = interfaces-length (l .words) in
     let g = l .inv .1 (l .words) .within in
@@ -40,7 +40,7 @@ loop-again c =
       search needs,
       λ s.
           let e = view (memory (a .words .now) s) in
-          rw (c .before .before .put-count .ensures s, add-one (a .client)) (clearing-row (a .client) e (view (memory (l .words) s)) (l .i) (l .inv .1 s) _ (omega arith)),
+          rw (c .before .before .store-count .ensures s, add-one (a .client)) (clearing-row (a .client) e (view (memory (l .words) s)) (l .i) (l .inv .1 s) _ (omega arith)),
     )
 
 returns : tie.Need-returns Inv-loop μ-loop
@@ -59,7 +59,7 @@ clear-counts-spec =
     loop-holds
     (λ c. omega arith)
     (λ c. search needs)
-    put-count-requires
+    store-count-requires
     (λ c. omega arith)
     loop-again
     (λ c. search needs)

@@ -23,8 +23,8 @@ returns c =
     row-refused Exporters s (view (memory (a .words .now) (a .store .now))) (c .no-row .result) (c .no-row .ensures)
     (rw l at (sym (test .before .has-room .ensures (field s 0 8) (guidAt s 8)) ∙ not-true _ (test .if1 .taken)))
 
-put-exporter-requires : tie.Need-put-exporter-requires
-put-exporter-requires c κs =
+append-exporter-requires : tie.Need-append-exporter-requires
+append-exporter-requires c κs =
     let test = c .before .before .before .before in
     let st = test .before .before .before .before .before .before .before .before .before .before .before in
     let room = sym (test .before .has-room .ensures 0 (record { low = 0; high = 0 })) ∙ not-false _ (test .if1 .left) in
@@ -44,7 +44,7 @@ returns-2 c =
     row-read Exporters s (view (memory (a .words .now) (a .store .now))) _ _
     (rw l at (sym (test .before .has-room .ensures (field s 0 8) (guidAt s 8)) ∙ not-false _ (test .if1 .left)))
     (rw (l, c .before .before .before .before .before .before .before .before .read-u64 .ensures, c .before .before .before .before .before .before .before .read-guid .ensures)
-    at (c .before .before .before .before .put-exporter .ensures))
+    at (c .before .before .before .before .append-exporter .ensures))
     (exporter-after s _ _ _ size from to)
     (omega arith)
 
@@ -67,7 +67,7 @@ read-exporter-spec =
     returns
     (λ c κs. search needs)
     (λ c κs. search needs)
-    put-exporter-requires
+    append-exporter-requires
     (λ c. search needs)
     (λ c. search needs)
     returns-2)

@@ -10,13 +10,13 @@ returns : tie.Need-returns
 returns c =
     let b = c .before .before in
     let g = b .before .good in
-    put-low _ _ _ (b .bit .ensures) _ _ (omega arith, omega arith) (c .before .if1 .taken) (c .put-bit .ensures) refl
+    put-low _ _ _ (b .bit .ensures) _ _ (omega arith, omega arith) (c .before .if1 .taken) (c .with-bit .ensures) refl
 
 returns-2 : tie.Need-returns-2
 returns-2 c =
     let b = c .before .before .before in
     let g = b .before .good in
-    put-high _ _ _ (b .bit .ensures) _ _ (omega arith, omega arith) (c .before .before .if1 .left) (c .before .if2 .taken) refl (c .put-bit2 .ensures)
+    put-high _ _ _ (b .bit .ensures) _ _ (omega arith, omega arith) (c .before .before .if1 .left) (c .before .if2 .taken) refl (c .with-bit2 .ensures)
 
 returns-3 : tie.Need-returns-3
 returns-3 c =

@@ -1,4 +1,4 @@
--- `call_enter::object_number`: the rows of the refusals in turn, the first as its three tests and the last as its two.
+-- `call_enter::object_answer`: the rows of the refusals in turn, the first as its three tests and the last as its two.
 use Prim.Native.Nat.{ℕ, _<_, _≤_}
 use mathlib.Core.Path.{_≡_, sym, _∙_}
 use mathlib.Core.Bool.{Bool, true, false, not, _||_}
@@ -17,8 +17,8 @@ use Rattle.table_view.specs.View.{exporterCount, objectCount, interfaceCount, o
 use Rattle.table_view.proofs.LiveRows.{objects-length, interfaces-length}
 use Rattle.table_view.proofs.Steps.{row-gives, row-passes, gone-gives, live-passes, rows-end, two-rows, identifier-rows, exporter-tested, object-tested, full-tested}
 use borrow.Author.Needs.{needs}
-use Rattle.call_enter.proofs.object_number.Statement.{statement}
-use Rattle.call_enter.proofs.object_number.Tie as tie
+use Rattle.call_enter.proofs.object_answer.Statement.{statement}
+use Rattle.call_enter.proofs.object_answer.Tie as tie
 
 module _ (ws s : List ℕ) (o x : ℕ) (i iid : Guid) (p : ℕ) (np : Bool) where
   abbrev call : Call
@@ -92,8 +92,8 @@ module _ (ws s : List ℕ) (o x : ℕ) (i iid : Guid) (p : ℕ) (np : Bool) wher
               done : q < interfacePlaces → 0 ≡ number call (view (memory ws s))
               done h = rows-end (row-passes _ _ _ left-6 (full-tested (interfacesOf ws) interfacePlaces (interfaces-length ws) there ∙ lt-leb _ _ h))
 
-pub object-number-spec : {M : Type 1} → statement M
-object-number-spec =
+pub object-answer-spec : {M : Type 1} → statement M
+object-answer-spec =
     tie.close
     (tie.spec
     (λ c s iid np. search zero)

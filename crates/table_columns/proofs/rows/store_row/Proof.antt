@@ -1,12 +1,12 @@
--- `table_columns::rows::put_row`: the words of row i below column j are written, and the others are as they were.
+-- `table_columns::rows::store_row`: the words of row i below column j are written, and the others are as they were.
 use Prim.Native.Nat.{_≤_, _-_, _+_, _*_}
 use mathlib.Core.Path.{_≡_}
 use native.Mathlib.Omega.{arith}
 use borrow.Author.Needs.{needs}
 use lib.ListN.{length}
 use Rattle.table_columns.proofs.rows.MovedRows.{PutTo, put-none, put-one, put-all, next-column, column-in}
-use Rattle.table_columns.proofs.rows.put_row.Statement.{statement}
-use Rattle.table_columns.proofs.rows.put_row.Tie as tie
+use Rattle.table_columns.proofs.rows.store_row.Statement.{statement}
+use Rattle.table_columns.proofs.rows.store_row.Tie as tie
 
 abbrev Inv-loop : tie.InvT-loop
 Inv-loop ws₀ k i row at₀ j₀ ws at j = (j ≤ length row) × (at ≡ k .base + j * k .places) × PutTo k i row ws₀ ws j
@@ -36,8 +36,8 @@ returns c =
     let e : l .j ≡ s .args .k .width = omega arith in
     put-all _ _ _ _ (s .pre .0) (l .ws) (s .pre .1) (rw e at (l .inv .2))
 
-pub put-row-spec : {M : Type 1} → statement M
-put-row-spec =
+pub store-row-spec : {M : Type 1} → statement M
+store-row-spec =
     tie.close
     (tie.spec
     Inv-loop

@@ -1,4 +1,4 @@
--- `call_ping::late_number`: the rows of a set that is made.
+-- `call_ping::late_answer`: the rows of a set that is made.
 use mathlib.Core.Path.{_≡_, ap, _∙_}
 use mathlib.Core.Bool.{Bool, cond}
 use mathlib.Core.List.{List, [], _∷_}
@@ -13,8 +13,8 @@ use Rattle.table_view.proofs.LiveRows.{sets-length}
 use Rattle.table_view.proofs.Steps.{row-gives, row-passes, rows-end, full-tested}
 use Rattle.call_ping.specs.Pinging.{lateRows}
 use borrow.Author.Needs.{needs}
-use Rattle.call_ping.proofs.late_number.Statement.{statement}
-use Rattle.call_ping.proofs.late_number.Tie as tie
+use Rattle.call_ping.proofs.late_answer.Statement.{statement}
+use Rattle.call_ping.proofs.late_answer.Tie as tie
 
 -- the live entries, with any store
 abbrev At : tie.Start → List ℕ → Entries
@@ -47,6 +47,6 @@ returns-3 c s =
 returns-4 : tie.Need-returns-4
 returns-4 c s = let st = c .before .before .before in rows-end (ap (λ (t : Bool). order (cond t (newRows (At st s)) [])) (ne-eqb (st .args .set .0) 0 (c .if1 .left)))
 
-pub late-number-spec : {M : Type 1} → statement M
-late-number-spec =
+pub late-answer-spec : {M : Type 1} → statement M
+late-answer-spec =
     tie.close (tie.spec (λ c κs. search needs) returns (λ c κs. search needs) returns-2 returns-3 returns-4)

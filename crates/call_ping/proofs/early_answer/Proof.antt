@@ -1,4 +1,4 @@
--- `call_ping::early_number`: the rows in turn, for set 0 and for another set.
+-- `call_ping::early_answer`: the rows in turn, for set 0 and for another set.
 use mathlib.Core.Path.{_≡_, refl, ap, _∙_}
 use mathlib.Core.Bool.{Bool, cond}
 use mathlib.Core.List.{List, []}
@@ -14,8 +14,8 @@ use Rattle.table_view.proofs.Steps.{row-gives, row-passes, gone-gives, live-pas
 use Rattle.call_ping.specs.Pinging.{earlyRows}
 use Rattle.call_ping.proofs.Pings.{liveRows, short-rows, stale-tested}
 use borrow.Author.Needs.{needs}
-use Rattle.call_ping.proofs.early_number.Statement.{statement}
-use Rattle.call_ping.proofs.early_number.Tie as tie
+use Rattle.call_ping.proofs.early_answer.Statement.{statement}
+use Rattle.call_ping.proofs.early_answer.Tie as tie
 
 -- the live entries, with any store
 abbrev At : tie.Start → List ℕ → Entries
@@ -75,8 +75,8 @@ returns-5 c s = row-gives _ _ _ (live-passed (c .before .before .before) s) (sta
 returns-6 : tie.Need-returns-6
 returns-6 c s = rows-end (row-passes _ _ _ (live-passed (c .before .before .before) s) (stale-judged (c .before) s ∙ c .if5 .left))
 
-pub early-number-spec : {M : Type 1} → statement M
-early-number-spec =
+pub early-answer-spec : {M : Type 1} → statement M
+early-answer-spec =
     tie.close
     (tie.spec
     returns

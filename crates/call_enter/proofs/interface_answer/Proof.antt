@@ -1,4 +1,4 @@
--- `call_enter::interface_number`: the rows of the refusals in turn.
+-- `call_enter::interface_answer`: the rows of the refusals in turn.
 use Prim.Native.Nat.{ℕ, _<_, _≤_}
 use mathlib.Core.Path.{_≡_, refl, sym, _∙_}
 use mathlib.Core.Bool.{Bool, true, false, _||_}
@@ -16,8 +16,8 @@ use Rattle.table_view.specs.View.{objectCount, interfaceCount, interfacesOf, me
 use Rattle.table_view.proofs.LiveRows.{interfaces-length}
 use Rattle.table_view.proofs.Steps.{row-gives, row-passes, gone-gives, live-passes, rows-end, object-tested, full-tested}
 use borrow.Author.Needs.{needs}
-use Rattle.call_enter.proofs.interface_number.Statement.{statement}
-use Rattle.call_enter.proofs.interface_number.Tie as tie
+use Rattle.call_enter.proofs.interface_answer.Statement.{statement}
+use Rattle.call_enter.proofs.interface_answer.Tie as tie
 
 module _ (ws s : List ℕ) (o : ℕ) (i iid : Guid) (p : ℕ) where
   abbrev call : Call
@@ -63,8 +63,8 @@ module _ (ws s : List ℕ) (o : ℕ) (i iid : Guid) (p : ℕ) where
           unfolding refusals
           done h = rows-end (row-passes _ _ _ left-3 (full-tested (interfacesOf ws) interfacePlaces (interfaces-length ws) there ∙ lt-leb _ _ h))
 
-pub interface-number-spec : {M : Type 1} → statement M
-interface-number-spec =
+pub interface-answer-spec : {M : Type 1} → statement M
+interface-answer-spec =
     tie.close
     (tie.spec
     (λ c κs. search needs)

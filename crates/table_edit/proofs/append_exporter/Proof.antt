@@ -1,4 +1,4 @@
--- `table_edit::put_exporter`: the list goes behind the live ones, and a row of the exporters is entered.
+-- `table_edit::append_exporter`: the list goes behind the live ones, and a row of the exporters is entered.
 use native.Mathlib.Omega.{arith}
 use Prim.Native.Nat.{_+_, _≤_}
 use lib.ListN.{length}
@@ -6,8 +6,8 @@ use Rattle.table_view.specs.View.{listStart}
 use Rattle.table_view.proofs.StoredLists.{placed, placed-list, placed-others}
 use Rattle.table_edit.proofs.ExporterLists.{exporter-pushed}
 use borrow.Author.Needs.{needs}
-use Rattle.table_edit.proofs.put_exporter.Statement.{statement}
-use Rattle.table_edit.proofs.put_exporter.Tie as tie
+use Rattle.table_edit.proofs.append_exporter.Statement.{statement}
+use Rattle.table_edit.proofs.append_exporter.Tie as tie
 
 -- the list begins, and ends, within the store
 fits : (c : tie.After-exporter-count) → let a = c .before .before .before .before .before .args in
@@ -30,8 +30,8 @@ returns c =
     (exporter-pushed _ _ n (k .exporter-count .ensures .0) s (placed s l n) _ l (omega arith) (rw (p .before .before .exporter-kind .ensures) at (p .push-row .ensures))
     (placed-others s l n done (fits k)) (placed-list s l n done (fits k)))
 
-pub put-exporter-spec : {M : Type 1} → statement M
-put-exporter-spec =
+pub append-exporter-spec : {M : Type 1} → statement M
+append-exporter-spec =
     tie.close
     (tie.spec
     (λ c κs. search needs)

@@ -1,4 +1,4 @@
--- `call_enter::list_number`: the rows of the refusals of a list in turn, the last as its two tests.
+-- `call_enter::list_answer`: the rows of the refusals of a list in turn, the last as its two tests.
 use Prim.Native.Nat.{ℕ, _+_, _<_, _≤_}
 use mathlib.Core.Path.{_≡_, refl, sym, _∙_}
 use mathlib.Core.Bool.{true}
@@ -18,8 +18,8 @@ use Rattle.table_view.proofs.LiveRows.{exporters-length}
 use Rattle.table_view.proofs.KeptLists.{list-starts, bytes-live}
 use Rattle.table_view.proofs.Steps.{row-gives, row-passes, rows-end, two-rows, full-tested}
 use borrow.Author.Needs.{needs}
-use Rattle.call_enter.proofs.list_number.Statement.{statement}
-use Rattle.call_enter.proofs.list_number.Tie as tie
+use Rattle.call_enter.proofs.list_answer.Statement.{statement}
+use Rattle.call_enter.proofs.list_answer.Tie as tie
 
 module _ (ws s list : List ℕ) (n : ℕ) (judged : n ≡ listAnswer list) where
   bad-list : (n ≡ 0 → ⊥) → n ≡ order (listRefusals list (view (memory ws s)))
@@ -66,8 +66,8 @@ add-if4 c =
     let w = st .pre .1 in
     omega arith
 
-pub list-number-spec : {M : Type 1} → statement M
-list-number-spec =
+pub list-answer-spec : {M : Type 1} → statement M
+list-answer-spec =
     tie.close
     (tie.spec
     (λ c κs. search needs)

@@ -1,4 +1,4 @@
--- `call_enter::exporter_number`: the tests of the identifiers in turn, then the refusals of the list.
+-- `call_enter::exporter_answer`: the tests of the identifiers in turn, then the refusals of the list.
 use Prim.Native.Nat.{ℕ, _<_, _≤_}
 use mathlib.Core.Path.{_≡_, sym, _∙_}
 use mathlib.Core.Bool.{Bool, true, false, _||_}
@@ -18,8 +18,8 @@ use Rattle.rules.proofs.SoundLaws.{sound-fields}
 use Rattle.table_view.specs.View.{exporterCount, memory, view, SoundTable, Holds}
 use Rattle.table_view.proofs.Steps.{row-gives, row-passes, identifier-rows, exporter-tested}
 use borrow.Author.Needs.{needs}
-use Rattle.call_enter.proofs.exporter_number.Statement.{statement}
-use Rattle.call_enter.proofs.exporter_number.Tie as tie
+use Rattle.call_enter.proofs.exporter_answer.Statement.{statement}
+use Rattle.call_enter.proofs.exporter_answer.Tie as tie
 
 kept : (ws s : List ℕ) → SoundTable (memory ws s) → Whole ws × Whole s × (listsKept (view (memory ws s)) ≡ true)
 kept ws s t = (t .words, t .store, sound-fields _ (t .entries) .listsKept)
@@ -57,8 +57,8 @@ module _ (ws s list : List ℕ) (x : ℕ) (u : Guid) where
           → k ≡ number call (view (memory ws s))
       rest h judged k e = e ∙ sym (row-passes _ _ _ left-2 (sym (judged s) ∙ h))
 
-pub exporter-number-spec : {M : Type 1} → statement M
-exporter-number-spec =
+pub exporter-answer-spec : {M : Type 1} → statement M
+exporter-answer-spec =
     tie.close
     (tie.spec
     (λ c. search zero)

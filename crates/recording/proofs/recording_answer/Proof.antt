@@ -1,11 +1,11 @@
--- `recording::recording_number`: the rows of `recordingRefusals`.
+-- `recording::recording_answer`: the rows of `recordingRefusals`.
 use borrow.Author.Needs.{needs}
 use Rattle.recording.proofs.Walking.{no-count, short-walk, unfit-walk, left-walk, many-walk, done-walk}
-use Rattle.recording.proofs.recording_number.Statement.{statement}
-use Rattle.recording.proofs.recording_number.Tie as tie
+use Rattle.recording.proofs.recording_answer.Statement.{statement}
+use Rattle.recording.proofs.recording_answer.Tie as tie
 
-pub recording-number-spec : {M : Type 1} → statement M
-recording-number-spec =
+pub recording-answer-spec : {M : Type 1} → statement M
+recording-answer-spec =
     tie.close
     (tie.spec
     (λ c. search no-count)

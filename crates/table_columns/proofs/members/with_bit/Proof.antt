@@ -1,12 +1,12 @@
--- `table_columns::members::put_bit`: the unit is 2 ^ k, and the sum is below 2 ^ 64.
+-- `table_columns::members::with_bit`: the unit is 2 ^ k, and the sum is below 2 ^ 64.
 use Prim.Native.Nat.{_^_, _<_}
 use native.Mathlib.Omega.{arith}
 use lib.Pow.{pow-pos, shr-le}
 use Rattle.table_columns.specs.Members.{putBit}
 use Rattle.table_columns.proofs.members.WordBits.{unit, put-lt}
 use borrow.Author.Needs.{needs}
-use Rattle.table_columns.proofs.members.put_bit.Statement.{statement}
-use Rattle.table_columns.proofs.members.put_bit.Tie as tie
+use Rattle.table_columns.proofs.members.with_bit.Statement.{statement}
+use Rattle.table_columns.proofs.members.with_bit.Tie as tie
 
 -- the sum is below 2 ^ 64
 small : (c : tie.Start) → putBit (c .args .w) (c .args .k) (c .args .b) < 2 ^ 64
@@ -24,8 +24,8 @@ returns : tie.Need-returns
 unfolding putBit
 returns c = rw (unit (c .args .k) (c .pre .0))
 
-pub put-bit-spec : {M : Type 1} → statement M
-put-bit-spec =
+pub with-bit-spec : {M : Type 1} → statement M
+with-bit-spec =
     tie.close
     (tie.spec
     (λ c. search needs)
