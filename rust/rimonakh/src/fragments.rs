@@ -2,6 +2,8 @@
 
 use crate::error::answered;
 use crate::{ffi, Reference, Result};
+use alloc::vec;
+use alloc::vec::Vec;
 
 /// Reads a standard, handler or custom reference fragment by fragment. It owns the state and the waiting buffer.
 ///

@@ -19,7 +19,8 @@
 
 use crate::error::answered;
 use crate::{ffi, Guid, Result};
-use std::iter::from_fn;
+use alloc::vec::Vec;
+use core::iter::from_fn;
 
 /// What a header says of its extensions: its pointer to their array, the array's pointer, and how many there are.
 #[repr(C)]

@@ -1,28 +1,73 @@
 //! Identifiers: different kinds, which can't be handed in for one another.
 
-use std::fmt;
+use core::fmt;
+use core::str::FromStr;
 
-/// An exporter's number.
-#[repr(transparent)]
-#[derive(Clone, Copy, Debug, Default, PartialEq, Eq, PartialOrd, Ord, Hash)]
-pub struct Oxid(pub u64);
+/// Identifiers that are numbers, each its own type. They are shown in hex, as traces have them.
+macro_rules! numbers {
+    ($($(#[$doc:meta])+ $name:ident)+) => {$(
+        $(#[$doc])+
+        #[repr(transparent)]
+        #[derive(Clone, Copy, Default, PartialEq, Eq, PartialOrd, Ord, Hash)]
+        pub struct $name(
+            /// The number.
+            pub u64,
+        );
 
-/// An object's number.
-#[repr(transparent)]
-#[derive(Clone, Copy, Debug, Default, PartialEq, Eq, PartialOrd, Ord, Hash)]
-pub struct Oid(pub u64);
+        impl fmt::LowerHex for $name {
+            fn fmt(&self, f: &mut fmt::Formatter<'_>) -> fmt::Result {
+                fmt::LowerHex::fmt(&self.0, f)
+            }
+        }
 
-/// A ping set's number.
-#[repr(transparent)]
-#[derive(Clone, Copy, Debug, Default, PartialEq, Eq, PartialOrd, Ord, Hash)]
-pub struct SetId(pub u64);
+        impl fmt::UpperHex for $name {
+            fn fmt(&self, f: &mut fmt::Formatter<'_>) -> fmt::Result {
+                fmt::UpperHex::fmt(&self.0, f)
+            }
+        }
+
+        impl fmt::Display for $name {
+            fn fmt(&self, f: &mut fmt::Formatter<'_>) -> fmt::Result {
+                write!(f, "{self:#x}")
+            }
+        }
+
+        impl fmt::Debug for $name {
+            fn fmt(&self, f: &mut fmt::Formatter<'_>) -> fmt::Result {
+                write!(f, "{}({self:#x})", stringify!($name))
+            }
+        }
+    )+};
+}
+
+numbers! {
+    /// An exporter's number. It is shown in hex: `0x1101`, and in [`Debug`](fmt::Debug) `Oxid(0x1101)`.
+    Oxid
+    /// An object's number, shown in hex.
+    Oid
+    /// A ping set's number, shown in hex.
+    SetId
+}
 
 /// A GUID (IID, CLSID, IPID, causality id), as its bytes on the wire.
+///
+/// ```
+/// use rimonakh::Guid;
+///
+/// let iid: Guid = "{39C13A54-011E-11D0-9675-0020AFD8ADB3}".parse()?; // with braces or without, in capitals or not
+/// assert_eq!(iid.0[..4], [0x54, 0x3a, 0xc1, 0x39]);
+/// assert_eq!(iid.to_string(), "{39c13a54-011e-11d0-9675-0020afd8adb3}");
+/// # Ok::<(), rimonakh::NoGuid>(())
+/// ```
 #[repr(C, align(8))]
 #[derive(Clone, Copy, Default, PartialEq, Eq, PartialOrd, Ord, Hash)]
-pub struct Guid(pub [u8; 16]);
+pub struct Guid(
+    /// Its bytes on the wire: the first three fields have their lowest byte first.
+    pub [u8; 16],
+);
 
 impl Guid {
+    /// The GUID of zeros.
     pub const NIL: Guid = Guid([0; 16]);
 
     /// From its usual fields, as in {d1-d2-d3-d4[0..2]-d4[2..8]}.
@@ -59,14 +104,49 @@ impl fmt::Debug for Guid {
     }
 }
 
+/// A text that is no GUID's.
+#[derive(Clone, Copy, Debug, PartialEq, Eq)]
+pub struct NoGuid;
+
+impl fmt::Display for NoGuid {
+    fn fmt(&self, f: &mut fmt::Formatter<'_>) -> fmt::Result {
+        f.write_str("a GUID is 8-4-4-4-12 hex digits, with or without braces")
+    }
+}
+
+impl core::error::Error for NoGuid {}
+
+impl FromStr for Guid {
+    type Err = NoGuid;
+
+    /// Reads the usual text: 8-4-4-4-12 hex digits, with both braces or none.
+    fn from_str(text: &str) -> Result<Guid, NoGuid> {
+        let inner = text.strip_prefix('{').map(|t| t.strip_suffix('}'));
+        let inner = inner.unwrap_or(Some(text)).ok_or(NoGuid)?;
+        let mut fields = inner.split('-');
+        let mut field = |digits: usize| -> Result<u64, NoGuid> {
+            let hex = fields.next().filter(|t| t.len() == digits).ok_or(NoGuid)?;
+            match hex.bytes().all(|b| b.is_ascii_hexdigit()) {
+                true => u64::from_str_radix(hex, 16).map_err(|_| NoGuid),
+                false => Err(NoGuid), // a sign
+            }
+        };
+        let (d1, d2, d3) = (field(8)?, field(4)?, field(4)?);
+        let d4 = field(4)? << 48 | field(12)?;
+        match fields.next() {
+            None => Ok(Guid::new(d1 as u32, d2 as u16, d3 as u16, d4.to_be_bytes())),
+            Some(_) => Err(NoGuid),
+        }
+    }
+}
+
 #[cfg(test)]
 mod tests {
     use super::Guid;
 
     #[test]
-    fn guid_fields_bytes_and_halves() {
+    fn halves() {
         let g = Guid::new(0x0000_0131, 0x0203, 0x0405, [0xC0, 0, 0, 0, 0, 0, 0, 0x46]);
-        assert_eq!(g.to_string(), "{00000131-0203-0405-c000-000000000046}");
         assert_eq!(g.halves(), (0x0405_0203_0000_0131, 0x4600_0000_0000_00C0));
     }
 }

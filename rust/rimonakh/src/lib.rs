@@ -38,23 +38,29 @@
 //! # Ok::<(), Error>(())
 //! ```
 
-mod bytes;
+#![no_std]
+
+extern crate alloc;
+
 mod error;
 pub mod ffi;
 mod fragments;
 mod headers;
 mod ids;
 pub mod limits;
+pub mod list;
 mod recording;
+mod references;
 mod table;
 
-pub use bytes::{list, Block, Context, Part, Property, Reference};
-pub use error::{wire_code, Error};
+pub use error::{wire_code, Error, NoRefusal};
 pub use fragments::FragmentReader;
 pub use headers::{Extension, Extensions, OrpcThat, OrpcThis, Read};
-pub use ids::{Guid, Oid, Oxid, SetId};
+pub use ids::{Guid, NoGuid, Oid, Oxid, SetId};
 pub use limits::{BYTES, LONGEST_SNAPSHOT, WORDS};
+pub use list::{Part, SecurityBinding, StringBinding, Text};
 pub use recording::{Outcome, Recorder, Tally};
+pub use references::{Block, Context, Property, Reference};
 pub use table::{snapshot_clock, Counts, Item, Pinged, Released, Resolved, Stop, Table};
 
 /// The version of the archive: major, minor and patch.
@@ -65,4 +71,4 @@ pub fn version() -> (u32, u32, u32) {
 }
 
 /// `Ok` is answer 0.
-pub type Result<T> = std::result::Result<T, Error>;
+pub type Result<T> = core::result::Result<T, Error>;

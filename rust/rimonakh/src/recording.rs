@@ -2,6 +2,9 @@
 
 use crate::{Counts, Guid, Oid, Oxid, Pinged, Released, Resolved, Result, SetId, Stop};
 use crate::{Table, BYTES, WORDS};
+use alloc::boxed::Box;
+use alloc::vec;
+use alloc::vec::Vec;
 
 /// What was granted, what releases took, and what the removal of an exporter, a clock or the drop of a client took.
 #[repr(C)]

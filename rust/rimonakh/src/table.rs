@@ -3,6 +3,9 @@
 use crate::error::answered;
 use crate::limits::{BYTES, LONGEST_SNAPSHOT, WORDS};
 use crate::{ffi, Guid, Oid, Outcome, Oxid, Result, SetId};
+use alloc::boxed::Box;
+use alloc::vec;
+use alloc::vec::Vec;
 
 /// Numbers of each kind: of live entries, or of those that went.
 #[repr(C)]

@@ -3,7 +3,7 @@
 mod repository;
 
 use repository::file;
-use rimonakh::Error;
+use rimonakh::{Error, NoRefusal};
 
 /// The number of an answer by its name in the header.
 fn number(header: &str, name: &str) -> u32 {
@@ -38,10 +38,23 @@ fn the_same_words() {
     });
     let mut said = 0;
     for (name, text) in cases.skip(1) {
-        let error = Error::from_number(number(&header, name)).expect(name);
+        let error = Error::try_from(number(&header, name)).expect(name);
         assert_eq!(in_capitals(&format!("{error:?}")), name);
+        assert_eq!(error.words(), text);
         assert_eq!(error.to_string(), format!("{text} ({})", error.number()));
         said += 1;
     }
-    assert_eq!(said, (1..100).filter_map(Error::from_number).count());
+    assert_eq!(said, Error::ALL.len());
+}
+
+#[test]
+fn numbers_and_back() {
+    for number in 0..100 {
+        match Error::try_from(number) {
+            Ok(error) => assert_eq!(u32::from(error), number),
+            Err(none) => assert_eq!(none, NoRefusal(number)),
+        }
+    }
+    assert!([0, 17, 25].map(Error::try_from).iter().all(Result::is_err));
+    assert_eq!(NoRefusal(17).to_string(), "17 is the number of no refusal");
 }

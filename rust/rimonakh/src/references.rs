@@ -1,145 +1,13 @@
-//! Binding lists, object references and contexts.
+//! Object references and contexts.
 
 use crate::error::answered;
-use crate::{ffi, Guid, Oid, Oxid, Result};
-use std::iter::from_fn;
-use std::ops::Range;
+use crate::{ffi, list, Guid, Oid, Oxid, Part, Result, SecurityBinding, StringBinding};
+use core::iter::from_fn;
+use core::ops::Range;
 
 impl ffi::Place {
-    fn range(self) -> Result<Range<usize>> {
+    pub(crate) fn range(self) -> Result<Range<usize>> {
         answered(self.answer, self.from..self.to)
-    }
-}
-
-/// The two parts of a binding list.
-#[derive(Clone, Copy, Debug, PartialEq, Eq)]
-pub enum Part {
-    Strings,
-    Security,
-}
-
-/// Binding lists (DUALSTRINGARRAY).
-///
-/// ```
-/// use rimonakh::{list, Error, Part};
-///
-/// let bytes = list::of(&[(7, "10.1.4.20[49500]")], &[(10, 0xFFFF, "RPCSS/plant-gw01")])?;
-/// assert_eq!(list::binding(&bytes, Part::Strings, 0)?[..4], [7, 0, b'1', 0]);
-/// assert_eq!(list::of(&[(0, "a tower of 0 begins no binding")], &[]), Err(Error::Layout));
-/// # Ok::<(), Error>(())
-/// ```
-pub mod list {
-    use super::{ffi, from_fn, Part, Range};
-    use crate::error::answered;
-    use crate::Result;
-
-    /// Whether the bytes are one whole list.
-    pub fn judge(bytes: &[u8]) -> Result<()> {
-        // SAFETY: pointer and length are of one slice.
-        let number = unsafe { ffi::rimonakh_list_answer(bytes.as_ptr(), bytes.len()) };
-        answered(number, ())
-    }
-
-    /// The list at the front of the bytes; those after it are not judged.
-    pub fn front(bytes: &[u8]) -> Result<&[u8]> {
-        let (at, len) = (bytes.as_ptr(), bytes.len());
-        // SAFETY: pointer and length are of one slice.
-        let (number, length) = unsafe {
-            (
-                ffi::rimonakh_list_front_answer(at, len),
-                ffi::rimonakh_list_front_length(at, len),
-            )
-        };
-        answered(number, &bytes[..length])
-    }
-
-    /// Where binding `k` of a part of a whole list stands, from its first word through its zero word.
-    pub fn locate(bytes: &[u8], part: Part, k: usize) -> Result<Range<usize>> {
-        let (at, len) = (bytes.as_ptr(), bytes.len());
-        // SAFETY: pointer and length are of one slice.
-        let place = unsafe {
-            match part {
-                Part::Strings => ffi::rimonakh_list_string_binding(at, len, k),
-                Part::Security => ffi::rimonakh_list_security_binding(at, len, k),
-            }
-        };
-        place.range()
-    }
-
-    /// Writes the list of string and security bindings at the front of `buffer` and keeps the rest. Answers the length. Each binding is
-    /// its words with its zero word; the words that end the parts are not given.
-    pub fn write(strings: &[u16], security: &[u16], buffer: &mut [u8]) -> Result<usize> {
-        // SAFETY: each pointer and length are of one slice, and the slices do not overlap.
-        let r = unsafe {
-            ffi::rimonakh_list_write(
-                strings.as_ptr(),
-                strings.len(),
-                security.as_ptr(),
-                security.len(),
-                buffer.as_mut_ptr(),
-                buffer.len(),
-            )
-        };
-        answered(r.answer, r.length)
-    }
-
-    /// The list of string bindings (tower, address) and security bindings (service, the word after it, name).
-    pub fn of(strings: &[(u16, &str)], security: &[(u16, u16, &str)]) -> Result<Vec<u8>> {
-        let text = |head: &[u16], text: &str| -> Vec<u16> {
-            let units = text.encode_utf16();
-            head.iter().copied().chain(units).chain([0]).collect()
-        };
-        let strings = strings.iter().flat_map(|(tower, a)| text(&[*tower], a));
-        let security = security.iter().flat_map(|(s, w, n)| text(&[*s, *w], n));
-        let (strings, security): (Vec<u16>, Vec<u16>) = (strings.collect(), security.collect());
-        let mut bytes = vec![0; 8 + 2 * (strings.len() + security.len())];
-        write(&strings, &security, &mut bytes)?;
-        Ok(bytes)
-    }
-
-    /// Binding `k` of a part of a whole list.
-    pub fn binding(bytes: &[u8], part: Part, k: usize) -> Result<&[u8]> {
-        Ok(&bytes[locate(bytes, part, k)?])
-    }
-
-    /// Where the bindings of a part of a whole list stand, in one pass.
-    pub fn places(bytes: &[u8], part: Part) -> Result<impl Iterator<Item = Range<usize>> + '_> {
-        let (s, len) = (bytes.as_ptr(), bytes.len());
-        // SAFETY: pointer and length are of one slice.
-        let start = unsafe {
-            match part {
-                Part::Strings => ffi::rimonakh_list_strings(s, len),
-                Part::Security => ffi::rimonakh_list_securities(s, len),
-            }
-        };
-        let (mut at, mut left) = answered(start.answer, (start.at, start.left))?;
-        Ok(from_fn(move || {
-            let (s, len) = (bytes.as_ptr(), bytes.len());
-            // SAFETY: pointer and length are of one slice.
-            let step = unsafe {
-                match part {
-                    Part::Strings => ffi::rimonakh_list_next_string(s, len, at, left),
-                    Part::Security => ffi::rimonakh_list_next_security(s, len, at, left),
-                }
-            };
-            answered(step.answer, ()).ok()?;
-            (at, left) = (step.to, step.left);
-            Some(step.from..step.to)
-        }))
-    }
-
-    /// The bindings of a part of a whole list, in one pass.
-    ///
-    /// ```
-    /// use rimonakh::{list, Part};
-    ///
-    /// let bytes = [8, 0, 7, 0, 7, 0, 97, 0, 0, 0, 8, 0, 98, 0, 0, 0, 0, 0, 0, 0];
-    /// let found: Vec<&[u8]> = list::bindings(&bytes, Part::Strings)?.collect();
-    /// assert_eq!(found, [[7, 0, 97, 0, 0, 0], [8, 0, 98, 0, 0, 0]]);
-    /// # Ok::<(), rimonakh::Error>(())
-    /// ```
-    pub fn bindings(bytes: &[u8], part: Part) -> Result<impl Iterator<Item = &[u8]>> {
-        Ok(places(bytes, part)?.map(|place| &bytes[place]))
     }
 }
 
@@ -261,15 +129,29 @@ impl Reference {
         Ok(&bytes[Reference::locate(bytes, part, k)?])
     }
 
-    /// The bindings of a part of a reference's list, in one pass. A custom reference has none.
-    pub fn bindings(bytes: &[u8], part: Part) -> Result<impl Iterator<Item = &[u8]>> {
+    /// The binding list of a reference; a custom one has none.
+    fn list(bytes: &[u8]) -> Result<Option<&[u8]>> {
         let tail = Reference::tail(bytes)?;
         let custom = bytes[4..8] == Reference::CUSTOM.to_le_bytes();
-        let list = match custom {
-            true => None,
-            false => Some(list::bindings(tail, part)?),
-        };
-        Ok(list.into_iter().flatten())
+        Ok((!custom).then_some(tail))
+    }
+
+    /// The bindings of a part of a reference's list, in one pass. A custom reference has none.
+    pub fn bindings(bytes: &[u8], part: Part) -> Result<impl Iterator<Item = &[u8]>> {
+        let of = Reference::list(bytes)?.map(|list| list::bindings(list, part));
+        Ok(of.transpose()?.into_iter().flatten())
+    }
+
+    /// The string bindings of a reference, decoded, in one pass. A custom reference has none.
+    pub fn strings(bytes: &[u8]) -> Result<impl Iterator<Item = StringBinding<'_>>> {
+        let of = Reference::list(bytes)?.map(list::strings);
+        Ok(of.transpose()?.into_iter().flatten())
+    }
+
+    /// The security bindings of a reference, decoded, in one pass. A custom reference has none.
+    pub fn securities(bytes: &[u8]) -> Result<impl Iterator<Item = SecurityBinding<'_>>> {
+        let of = Reference::list(bytes)?.map(list::securities);
+        Ok(of.transpose()?.into_iter().flatten())
     }
 
     /// Where the data of element `k` of an extended reference stands, without its padding.
