@@ -1,6 +1,5 @@
 //! Refusals.
 
-use crate::ffi;
 use core::fmt;
 
 /// The refusals, each with its number and its words.
@@ -121,6 +120,5 @@ pub(crate) fn answered<T>(number: u32, value: T) -> Result<T, Error> {
 /// The code that goes out on the wire for an answer: an HRESULT or an error code.
 pub fn wire_code<T>(answer: &Result<T, Error>) -> u32 {
     let number = answer.as_ref().err().map_or(0, |e| e.number());
-    // SAFETY: numbers only.
-    unsafe { ffi::rimonakh_wire_code(number) }
+    archive!(rimonakh_wire_code(number))
 }

@@ -33,33 +33,29 @@ impl FragmentReader {
     /// A reader before its first fragment, with room for a list or object data of so many bytes.
     pub fn new(room: usize) -> FragmentReader {
         FragmentReader {
-            // SAFETY: it has no arguments.
-            state: unsafe { ffi::rimonakh_fragments_none() },
+            state: archive!(rimonakh_fragments_none()),
             waiting: vec![0; room],
         }
     }
 
     /// Takes a fragment, which may be of one byte or none. Nothing is refused before the end.
     pub fn push(&mut self, fragment: &[u8]) {
-        let (waiting, len) = (self.waiting.as_mut_ptr(), self.waiting.len());
-        let (at, size) = (fragment.as_ptr(), fragment.len());
-        // SAFETY: each pointer and length are of one slice, and the slices do not overlap.
-        self.state = unsafe { ffi::rimonakh_fragments_push(self.state, waiting, len, at, size) };
+        self.state = archive!(rimonakh_fragments_push(
+            self.state, [mut &mut self.waiting], [fragment]
+        ));
     }
 
     /// Declares the end: the fields, and the length of the list or object data, which is then at the front of `last`; the rest of
     /// `last` is kept.
     pub fn finish(&self, last: &mut [u8]) -> Result<(Reference, usize)> {
-        let (waiting, len) = (self.waiting.as_ptr(), self.waiting.len());
-        let (at, room) = (last.as_mut_ptr(), last.len());
-        // SAFETY: each pointer and length are of one slice, and the slices do not overlap.
-        let r = unsafe { ffi::rimonakh_fragments_finish(self.state, waiting, len, at, room) };
+        let r = archive!(rimonakh_fragments_finish(
+            self.state, [&self.waiting], [mut last]
+        ));
         answered(r.answer, (r.reference, r.length))
     }
 
     /// Stands before the first fragment of the next reference.
     pub fn restart(&mut self) {
-        // SAFETY: it has no arguments.
-        self.state = unsafe { ffi::rimonakh_fragments_none() };
+        self.state = archive!(rimonakh_fragments_none());
     }
 }

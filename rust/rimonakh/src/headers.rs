@@ -64,9 +64,7 @@ impl ffi::ExtensionCursor {
         let start = (self.pointer, self.at, self.left);
         let (mut pointer, mut at, mut left) = answered(self.answer, start)?;
         Ok(from_fn(move || {
-            let (s, len) = (bytes.as_ptr(), bytes.len());
-            // SAFETY: pointer and length are of one slice.
-            let step = unsafe { ffi::rimonakh_next_extension(s, len, pointer, at, left) };
+            let step = archive!(rimonakh_next_extension([bytes], pointer, at, left));
             let found = step.extension.shown(bytes).ok()?;
             (pointer, at, left) = (step.pointer, step.at, step.left);
             Some(found)
@@ -102,8 +100,7 @@ impl OrpcThis {
 
     /// Reads the header at the front of `bytes`.
     pub fn read(bytes: &[u8]) -> Result<Read<OrpcThis>> {
-        // SAFETY: pointer and length are of one slice.
-        let r = unsafe { ffi::rimonakh_this_read(bytes.as_ptr(), bytes.len()) };
+        let r = archive!(rimonakh_this_read([bytes]));
         let read = Read {
             header: r.header,
             extensions: r.extensions,
@@ -114,25 +111,21 @@ impl OrpcThis {
 
     /// Extension `k` of the header at the front of `bytes`.
     pub fn extension(bytes: &[u8], k: usize) -> Result<Extension<'_>> {
-        // SAFETY: pointer and length are of one slice.
-        let r = unsafe { ffi::rimonakh_this_extension(bytes.as_ptr(), bytes.len(), k) };
+        let r = archive!(rimonakh_this_extension([bytes], k));
         r.shown(bytes)
     }
 
     /// The extensions of the header at the front of `bytes`, in one pass.
     pub fn extensions(bytes: &[u8]) -> Result<impl Iterator<Item = Extension<'_>>> {
-        // SAFETY: pointer and length are of one slice.
-        let start = unsafe { ffi::rimonakh_this_extensions(bytes.as_ptr(), bytes.len()) };
+        let start = archive!(rimonakh_this_extensions([bytes]));
         start.walk(bytes)
     }
 
     /// Writes the header without extensions at the front of `buffer` and keeps the rest.
     pub fn write(&self, buffer: &mut [u8]) -> Result<()> {
-        let (low, high) = self.causality.halves();
-        let (at, len) = (buffer.as_mut_ptr(), buffer.len());
-        // SAFETY: pointer and length are of one slice.
-        let number =
-            unsafe { ffi::rimonakh_this_write(self.minor, self.flags, low, high, at, len) };
+        let number = archive!(rimonakh_this_write(
+            self.minor, self.flags, {self.causality}, [mut buffer]
+        ));
         answered(number, ())
     }
 
@@ -145,25 +138,10 @@ impl OrpcThis {
         extensions: &[Extension],
         buffer: &mut [u8],
     ) -> Result<usize> {
-        let (low, high) = self.causality.halves();
         let (entries, contents) = lent(extensions);
-        // SAFETY: each pointer and length are of one slice, and the slices do not overlap.
-        let r = unsafe {
-            ffi::rimonakh_this_write_extensions(
-                self.minor,
-                self.flags,
-                low,
-                high,
-                pointer,
-                array,
-                entries.as_ptr(),
-                entries.len(),
-                contents.as_ptr(),
-                contents.len(),
-                buffer.as_mut_ptr(),
-                buffer.len(),
-            )
-        };
+        let r = archive!(rimonakh_this_write_extensions(
+            self.minor, self.flags, {self.causality}, pointer, array, [&entries], [&contents], [mut buffer]
+        ));
         answered(r.answer, r.length)
     }
 }
@@ -181,8 +159,7 @@ impl OrpcThat {
 
     /// Reads the header at the front of `bytes`.
     pub fn read(bytes: &[u8]) -> Result<Read<OrpcThat>> {
-        // SAFETY: pointer and length are of one slice.
-        let r = unsafe { ffi::rimonakh_that_read(bytes.as_ptr(), bytes.len()) };
+        let r = archive!(rimonakh_that_read([bytes]));
         let read = Read {
             header: r.header,
             extensions: r.extensions,
@@ -193,23 +170,19 @@ impl OrpcThat {
 
     /// Extension `k` of the header at the front of `bytes`.
     pub fn extension(bytes: &[u8], k: usize) -> Result<Extension<'_>> {
-        // SAFETY: pointer and length are of one slice.
-        let r = unsafe { ffi::rimonakh_that_extension(bytes.as_ptr(), bytes.len(), k) };
+        let r = archive!(rimonakh_that_extension([bytes], k));
         r.shown(bytes)
     }
 
     /// The extensions of the header at the front of `bytes`, in one pass.
     pub fn extensions(bytes: &[u8]) -> Result<impl Iterator<Item = Extension<'_>>> {
-        // SAFETY: pointer and length are of one slice.
-        let start = unsafe { ffi::rimonakh_that_extensions(bytes.as_ptr(), bytes.len()) };
+        let start = archive!(rimonakh_that_extensions([bytes]));
         start.walk(bytes)
     }
 
     /// Writes the header without extensions at the front of `buffer` and keeps the rest.
     pub fn write(&self, buffer: &mut [u8]) -> Result<()> {
-        // SAFETY: pointer and length are of one slice.
-        let number =
-            unsafe { ffi::rimonakh_that_write(self.flags, buffer.as_mut_ptr(), buffer.len()) };
+        let number = archive!(rimonakh_that_write(self.flags, [mut buffer]));
         answered(number, ())
     }
 
@@ -223,20 +196,9 @@ impl OrpcThat {
         buffer: &mut [u8],
     ) -> Result<usize> {
         let (entries, contents) = lent(extensions);
-        // SAFETY: each pointer and length are of one slice, and the slices do not overlap.
-        let r = unsafe {
-            ffi::rimonakh_that_write_extensions(
-                self.flags,
-                pointer,
-                array,
-                entries.as_ptr(),
-                entries.len(),
-                contents.as_ptr(),
-                contents.len(),
-                buffer.as_mut_ptr(),
-                buffer.len(),
-            )
-        };
+        let r = archive!(rimonakh_that_write_extensions(
+            self.flags, pointer, array, [&entries], [&contents], [mut buffer]
+        ));
         answered(r.answer, r.length)
     }
 }

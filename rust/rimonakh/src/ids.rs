@@ -1,6 +1,7 @@
 //! Identifiers: different kinds, which can't be handed in for one another.
 
 use core::fmt;
+use core::slice;
 use core::str::FromStr;
 
 /// Identifiers that are numbers, each its own type. They are shown in hex, as traces have them.
@@ -47,6 +48,14 @@ numbers! {
     Oid
     /// A ping set's number, shown in hex.
     SetId
+}
+
+impl Oid {
+    /// The numbers of objects.
+    pub(crate) fn numbers(ids: &[Oid]) -> &[u64] {
+        // SAFETY: an Oid is its number, by `repr(transparent)`.
+        unsafe { slice::from_raw_parts(ids.as_ptr().cast(), ids.len()) }
+    }
 }
 
 /// A GUID (IID, CLSID, IPID, causality id), as its bytes on the wire.

@@ -42,6 +42,8 @@
 
 extern crate alloc;
 
+#[macro_use]
+mod archive;
 mod error;
 pub mod ffi;
 mod fragments;
@@ -65,8 +67,7 @@ pub use table::{snapshot_clock, Counts, Item, Pinged, Released, Resolved, Stop, 
 
 /// The version of the archive: major, minor and patch.
 pub fn version() -> (u32, u32, u32) {
-    // SAFETY: it has no arguments.
-    let number = unsafe { ffi::rimonakh_version() };
+    let number = archive!(rimonakh_version());
     (number >> 16, number >> 8 & 0xFF, number & 0xFF)
 }
 

@@ -14,7 +14,7 @@
 //! ```
 
 use crate::error::answered;
-use crate::{ffi, Error, Result};
+use crate::{Error, Result};
 use alloc::vec;
 use alloc::vec::Vec;
 use core::fmt;
@@ -107,33 +107,22 @@ fn text(binding: &[u8], behind: usize) -> Text<'_> {
 
 /// Whether the bytes are one whole list.
 pub fn judge(bytes: &[u8]) -> Result<()> {
-    // SAFETY: pointer and length are of one slice.
-    let number = unsafe { ffi::rimonakh_list_answer(bytes.as_ptr(), bytes.len()) };
+    let number = archive!(rimonakh_list_answer([bytes]));
     answered(number, ())
 }
 
 /// The list at the front of the bytes; those after it are not judged.
 pub fn front(bytes: &[u8]) -> Result<&[u8]> {
-    let (at, len) = (bytes.as_ptr(), bytes.len());
-    // SAFETY: pointer and length are of one slice.
-    let (number, length) = unsafe {
-        (
-            ffi::rimonakh_list_front_answer(at, len),
-            ffi::rimonakh_list_front_length(at, len),
-        )
-    };
+    let number = archive!(rimonakh_list_front_answer([bytes]));
+    let length = archive!(rimonakh_list_front_length([bytes]));
     answered(number, &bytes[..length])
 }
 
 /// Where binding `k` of a part of a whole list stands, from its first word through its zero word.
 pub fn locate(bytes: &[u8], part: Part, k: usize) -> Result<Range<usize>> {
-    let (at, len) = (bytes.as_ptr(), bytes.len());
-    // SAFETY: pointer and length are of one slice.
-    let place = unsafe {
-        match part {
-            Part::Strings => ffi::rimonakh_list_string_binding(at, len, k),
-            Part::Security => ffi::rimonakh_list_security_binding(at, len, k),
-        }
+    let place = match part {
+        Part::Strings => archive!(rimonakh_list_string_binding([bytes], k)),
+        Part::Security => archive!(rimonakh_list_security_binding([bytes], k)),
     };
     place.range()
 }
@@ -145,23 +134,15 @@ pub fn binding(bytes: &[u8], part: Part, k: usize) -> Result<&[u8]> {
 
 /// Where the bindings of a part of a whole list stand, in one pass.
 pub fn places(bytes: &[u8], part: Part) -> Result<impl Iterator<Item = Range<usize>> + '_> {
-    let (s, len) = (bytes.as_ptr(), bytes.len());
-    // SAFETY: pointer and length are of one slice.
-    let start = unsafe {
-        match part {
-            Part::Strings => ffi::rimonakh_list_strings(s, len),
-            Part::Security => ffi::rimonakh_list_securities(s, len),
-        }
+    let start = match part {
+        Part::Strings => archive!(rimonakh_list_strings([bytes])),
+        Part::Security => archive!(rimonakh_list_securities([bytes])),
     };
     let (mut at, mut left) = answered(start.answer, (start.at, start.left))?;
     Ok(from_fn(move || {
-        let (s, len) = (bytes.as_ptr(), bytes.len());
-        // SAFETY: pointer and length are of one slice.
-        let step = unsafe {
-            match part {
-                Part::Strings => ffi::rimonakh_list_next_string(s, len, at, left),
-                Part::Security => ffi::rimonakh_list_next_security(s, len, at, left),
-            }
+        let step = match part {
+            Part::Strings => archive!(rimonakh_list_next_string([bytes], at, left)),
+            Part::Security => archive!(rimonakh_list_next_security([bytes], at, left)),
         };
         answered(step.answer, ()).ok()?;
         (at, left) = (step.to, step.left);
@@ -203,17 +184,7 @@ pub fn securities(bytes: &[u8]) -> Result<impl Iterator<Item = SecurityBinding<'
 /// Writes the list of string and security bindings at the front of `buffer` and keeps the rest. Answers the length. Each binding is
 /// its words with its zero word; the words that end the parts are not given.
 pub fn write(strings: &[u16], security: &[u16], buffer: &mut [u8]) -> Result<usize> {
-    // SAFETY: each pointer and length are of one slice, and the slices do not overlap.
-    let r = unsafe {
-        ffi::rimonakh_list_write(
-            strings.as_ptr(),
-            strings.len(),
-            security.as_ptr(),
-            security.len(),
-            buffer.as_mut_ptr(),
-            buffer.len(),
-        )
-    };
+    let r = archive!(rimonakh_list_write([strings], [security], [mut buffer]));
     answered(r.answer, r.length)
 }
 

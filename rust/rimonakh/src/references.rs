@@ -92,34 +92,27 @@ impl Reference {
 
     /// Whether the bytes are a reference.
     pub fn judge(bytes: &[u8]) -> Result<()> {
-        // SAFETY: pointer and length are of one slice.
-        let number = unsafe { ffi::rimonakh_reference_answer(bytes.as_ptr(), bytes.len()) };
+        let number = archive!(rimonakh_reference_answer([bytes]));
         answered(number, ())
     }
 
     /// Reads the fixed fields of a reference.
     pub fn read(bytes: &[u8]) -> Result<Reference> {
-        // SAFETY: pointer and length are of one slice.
-        let r = unsafe { ffi::rimonakh_reference_read(bytes.as_ptr(), bytes.len()) };
+        let r = archive!(rimonakh_reference_read([bytes]));
         answered(r.answer, r.reference)
     }
 
     /// The binding list (of a custom reference the object data) of a reference.
     pub fn tail(bytes: &[u8]) -> Result<&[u8]> {
-        // SAFETY: pointer and length are of one slice.
-        let place = unsafe { ffi::rimonakh_reference_tail(bytes.as_ptr(), bytes.len()) };
+        let place = archive!(rimonakh_reference_tail([bytes]));
         Ok(&bytes[place.range()?])
     }
 
     /// Where binding `k` of a part of a reference's list stands, from its first word through its zero word.
     pub fn locate(bytes: &[u8], part: Part, k: usize) -> Result<Range<usize>> {
-        let (at, len) = (bytes.as_ptr(), bytes.len());
-        // SAFETY: pointer and length are of one slice.
-        let place = unsafe {
-            match part {
-                Part::Strings => ffi::rimonakh_reference_string_binding(at, len, k),
-                Part::Security => ffi::rimonakh_reference_security_binding(at, len, k),
-            }
+        let place = match part {
+            Part::Strings => archive!(rimonakh_reference_string_binding([bytes], k)),
+            Part::Security => archive!(rimonakh_reference_security_binding([bytes], k)),
         };
         place.range()
     }
@@ -156,8 +149,7 @@ impl Reference {
 
     /// Where the data of element `k` of an extended reference stands, without its padding.
     pub fn locate_element(bytes: &[u8], k: usize) -> Result<Range<usize>> {
-        // SAFETY: pointer and length are of one slice.
-        let place = unsafe { ffi::rimonakh_reference_element(bytes.as_ptr(), bytes.len(), k) };
+        let place = archive!(rimonakh_reference_element([bytes], k));
         place.range()
     }
 
@@ -168,8 +160,7 @@ impl Reference {
 
     /// Where the data of property `k` of the context in a custom reference stands.
     pub fn locate_property(bytes: &[u8], k: usize) -> Result<Range<usize>> {
-        // SAFETY: pointer and length are of one slice.
-        let place = unsafe { ffi::rimonakh_reference_property(bytes.as_ptr(), bytes.len(), k) };
+        let place = archive!(rimonakh_reference_property([bytes], k));
         place.range()
     }
 
@@ -181,36 +172,17 @@ impl Reference {
     /// Writes the reference with its list or object data, and the data of its element, at the front of `buffer` and keeps the
     /// rest. Answers the length.
     pub fn write(&self, tail: &[u8], content: &[u8], buffer: &mut [u8]) -> Result<usize> {
-        let (iid_low, iid_high) = self.iid.halves();
-        let (ipid_low, ipid_high) = self.block.ipid.halves();
-        let (clsid_low, clsid_high) = self.clsid.halves();
-        let (element_low, element_high) = self.element.halves();
-        // SAFETY: each pointer and length are of one slice, and the slices do not overlap.
-        let r = unsafe {
-            ffi::rimonakh_reference_write(
-                self.flags,
-                iid_low,
-                iid_high,
-                self.block.flags,
-                self.block.public,
-                self.block.oxid.0,
-                self.block.oid.0,
-                ipid_low,
-                ipid_high,
-                clsid_low,
-                clsid_high,
-                self.extension,
-                self.size,
-                element_low,
-                element_high,
-                tail.as_ptr(),
-                tail.len(),
-                content.as_ptr(),
-                content.len(),
-                buffer.as_mut_ptr(),
-                buffer.len(),
-            )
-        };
+        let Block {
+            flags,
+            public,
+            oxid,
+            oid,
+            ipid,
+        } = self.block;
+        let r = archive!(rimonakh_reference_write(
+            self.flags, {self.iid}, flags, public, oxid.0, oid.0, {ipid}, {self.clsid},
+            self.extension, self.size, {self.element}, [tail], [content], [mut buffer]
+        ));
         answered(r.answer, r.length)
     }
 }
@@ -234,30 +206,16 @@ impl Context {
 
     /// Reads the fields of a context.
     pub fn read(bytes: &[u8]) -> Result<Context> {
-        // SAFETY: pointer and length are of one slice.
-        let r = unsafe { ffi::rimonakh_context_read(bytes.as_ptr(), bytes.len()) };
+        let r = archive!(rimonakh_context_read([bytes]));
         answered(r.answer, r.context)
     }
 
     /// Writes the context with the bytes of its properties, one after the other, at the front of `buffer` and keeps the rest.
     /// Answers the length.
     pub fn write(&self, properties: &[u8], buffer: &mut [u8]) -> Result<usize> {
-        let (id_low, id_high) = self.id.halves();
-        // SAFETY: each pointer and length are of one slice, and the slices do not overlap.
-        let r = unsafe {
-            ffi::rimonakh_context_write(
-                id_low,
-                id_high,
-                self.reserved,
-                self.marshal,
-                self.count,
-                self.frozen,
-                properties.as_ptr(),
-                properties.len(),
-                buffer.as_mut_ptr(),
-                buffer.len(),
-            )
-        };
+        let r = archive!(rimonakh_context_write(
+            {self.id}, self.reserved, self.marshal, self.count, self.frozen, [properties], [mut buffer]
+        ));
         answered(r.answer, r.length)
     }
 }
@@ -278,20 +236,16 @@ impl Property {
 
     /// Reads the fields of property `k` of a context.
     pub fn read(bytes: &[u8], k: usize) -> Result<Property> {
-        // SAFETY: pointer and length are of one slice.
-        let r = unsafe { ffi::rimonakh_context_property(bytes.as_ptr(), bytes.len(), k) };
+        let r = archive!(rimonakh_context_property([bytes], k));
         answered(r.answer, r.property)
     }
 
     /// The properties of a context in one pass: the fields of each, and where its data stands.
     pub fn all(bytes: &[u8]) -> Result<impl Iterator<Item = (Property, Range<usize>)> + '_> {
-        // SAFETY: pointer and length are of one slice.
-        let start = unsafe { ffi::rimonakh_context_properties(bytes.as_ptr(), bytes.len()) };
+        let start = archive!(rimonakh_context_properties([bytes]));
         let (mut at, mut left) = answered(start.answer, (start.at, start.left))?;
         Ok(from_fn(move || {
-            let (s, len) = (bytes.as_ptr(), bytes.len());
-            // SAFETY: pointer and length are of one slice.
-            let step = unsafe { ffi::rimonakh_context_next_property(s, len, at, left) };
+            let step = archive!(rimonakh_context_next_property([bytes], at, left));
             answered(step.answer, ()).ok()?;
             (at, left) = (step.to, step.left);
             Some((step.property, step.from..step.to))
@@ -300,22 +254,9 @@ impl Property {
 
     /// Writes the property with its data at the front of `buffer` and keeps the rest. Answers the length.
     pub fn write(&self, content: &[u8], buffer: &mut [u8]) -> Result<usize> {
-        let (clsid_low, clsid_high) = self.clsid.halves();
-        let (policy_low, policy_high) = self.policy.halves();
-        // SAFETY: each pointer and length are of one slice, and the slices do not overlap.
-        let r = unsafe {
-            ffi::rimonakh_property_write(
-                clsid_low,
-                clsid_high,
-                policy_low,
-                policy_high,
-                self.flags,
-                content.as_ptr(),
-                content.len(),
-                buffer.as_mut_ptr(),
-                buffer.len(),
-            )
-        };
+        let r = archive!(rimonakh_property_write(
+            {self.clsid}, {self.policy}, self.flags, [content], [mut buffer]
+        ));
         answered(r.answer, r.length)
     }
 }
