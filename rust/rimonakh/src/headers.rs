@@ -26,24 +26,33 @@ use core::iter::from_fn;
 #[repr(C)]
 #[derive(Clone, Copy, Debug, Default, PartialEq, Eq)]
 pub struct Extensions {
+    /// The header's pointer to the array, 0 where there are no extensions.
     pub pointer: u32,
+    /// The array's pointer to the extensions.
     pub array: u32,
+    /// How many there are.
     pub count: u32,
 }
 
 /// One extension: its id, its pointer number, which is not 0, and its data without padding.
 #[derive(Clone, Copy, Debug, PartialEq, Eq)]
 pub struct Extension<'a> {
+    /// What it is.
     pub id: Guid,
+    /// Its pointer number, which is not 0.
     pub pointer: u32,
+    /// Its data, without padding.
     pub data: &'a [u8],
 }
 
 /// A header that was read, what it says of its extensions, and its length: the call's own bytes follow.
 #[derive(Clone, Copy, Debug, PartialEq, Eq)]
 pub struct Read<H> {
+    /// The header.
     pub header: H,
+    /// What it says of its extensions.
     pub extensions: Extensions,
+    /// Its length with extensions, in bytes.
     pub length: usize,
 }
 
@@ -89,8 +98,11 @@ fn lent(extensions: &[Extension]) -> (Vec<u64>, Vec<u8>) {
 #[repr(C)]
 #[derive(Clone, Copy, Debug, PartialEq, Eq)]
 pub struct OrpcThis {
+    /// The minor version, at most 7.
     pub minor: u16,
+    /// The flags.
     pub flags: u32,
+    /// The causality id.
     pub causality: Guid,
 }
 
@@ -150,6 +162,7 @@ impl OrpcThis {
 #[repr(C)]
 #[derive(Clone, Copy, Debug, PartialEq, Eq)]
 pub struct OrpcThat {
+    /// The flags.
     pub flags: u32,
 }
 

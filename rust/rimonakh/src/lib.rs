@@ -39,6 +39,8 @@
 //! ```
 
 #![no_std]
+#![deny(missing_docs)]
+#![warn(clippy::too_many_lines)]
 
 extern crate alloc;
 

@@ -6,10 +6,13 @@ pub const WORDS: usize = 8192;
 /// The length of a table's store, in bytes: all binding lists together.
 pub const BYTES: usize = 8192;
 
-/// How much a table holds of each kind.
+/// Exporters of a table.
 pub const EXPORTERS: usize = 16;
+/// Objects of a table.
 pub const OBJECTS: usize = 128;
+/// Interfaces of a table.
 pub const INTERFACES: usize = 256;
+/// Ping sets of a table.
 pub const SETS: usize = 32;
 
 /// Clients with private references: 0 to 7.

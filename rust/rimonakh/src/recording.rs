@@ -10,8 +10,11 @@ use alloc::vec::Vec;
 #[repr(C)]
 #[derive(Clone, Copy, Debug, Default, PartialEq, Eq)]
 pub struct Tally {
+    /// References that were granted.
     pub granted: u64,
+    /// Those that releases took.
     pub taken: u64,
+    /// Those that went with an exporter, by the clock or with a client.
     pub rundown: u64,
 }
 
@@ -27,6 +30,7 @@ impl Tally {
 pub struct Outcome {
     /// The number of the first record whose answer is not the table's, from 1; none where every answer agrees.
     pub differs: Option<u32>,
+    /// The sums up to there.
     pub tally: Tally,
 }
 
@@ -171,6 +175,7 @@ where
         Ok(Recorder { table, recording })
     }
 
+    /// The table as it is.
     pub fn table(&self) -> &Table<W, S> {
         &self.table
     }
@@ -191,13 +196,14 @@ where
         (self.table, self.recording.0)
     }
 
-    /// See [`Table::reset`]; so the calls below.
+    /// [`Table::reset`], recorded.
     pub fn reset(&mut self, time: u64) -> Result<()> {
         let done = self.table.reset(time);
         self.recording.plain(Call::of(0).u64(time), &number(&done));
         done
     }
 
+    /// [`Table::enter_exporter`], recorded.
     pub fn enter_exporter(&mut self, oxid: Oxid, unknown: Guid, list: &[u8]) -> Result<()> {
         let done = self.table.enter_exporter(oxid, unknown, list);
         let call = Call::of(1).u64(oxid.0).guid(unknown);
@@ -205,6 +211,7 @@ where
         done
     }
 
+    /// [`Table::remove_exporter`], recorded.
     pub fn remove_exporter(&mut self, oxid: Oxid) -> Result<()> {
         let done = self.table.remove_exporter(oxid);
         self.recording
@@ -212,6 +219,7 @@ where
         done
     }
 
+    /// [`Table::enter_object`], recorded.
     pub fn enter_object(
         &mut self,
         oid: Oid,
@@ -230,6 +238,7 @@ where
         done
     }
 
+    /// [`Table::enter_interface`], recorded.
     pub fn enter_interface(&mut self, oid: Oid, ipid: Guid, iid: Guid, public: u32) -> Result<()> {
         let done = self.table.enter_interface(oid, ipid, iid, public);
         let call = Call::of(4).u64(oid.0).guid(ipid).guid(iid).u32(public);
@@ -237,6 +246,7 @@ where
         done
     }
 
+    /// [`Table::add`], recorded.
     pub fn add(&mut self, client: u32, ipid: Guid, public: u32, private: u32) -> Result<()> {
         let done = self.table.add(client, ipid, public, private);
         let call = Call::of(5).u32(client).guid(ipid).u32(public).u32(private);
@@ -244,6 +254,7 @@ where
         done
     }
 
+    /// [`Table::release`], recorded.
     pub fn release(
         &mut self,
         client: u32,
@@ -261,6 +272,7 @@ where
         done
     }
 
+    /// [`Table::drop_client`], recorded.
     pub fn drop_client(&mut self, client: u32) -> Result<()> {
         let done = self.table.drop_client(client);
         self.recording
@@ -268,12 +280,14 @@ where
         done
     }
 
+    /// [`Table::add_list`], recorded.
     pub fn add_list(&mut self, client: u32, items: &[u8], results: &mut [u8]) -> Result<()> {
         let done = self.table.add_list(client, items, results);
         self.listed(8, client, items, &done, results);
         done
     }
 
+    /// [`Table::release_list`], recorded.
     pub fn release_list(&mut self, client: u32, items: &[u8], results: &mut [u8]) -> Result<()> {
         let done = self.table.release_list(client, items, results);
         self.listed(9, client, items, &done, results);
@@ -287,6 +301,7 @@ where
             .push(call, [items, &[]], &number(done), &shown);
     }
 
+    /// [`Table::simple_ping`], recorded.
     pub fn simple_ping(&mut self, set: SetId) -> Result<()> {
         let done = self.table.simple_ping(set);
         self.recording
@@ -294,6 +309,7 @@ where
         done
     }
 
+    /// [`Table::complex_ping`], recorded.
     pub fn complex_ping(
         &mut self,
         set: SetId,
@@ -311,6 +327,7 @@ where
         done
     }
 
+    /// [`Table::clock`], recorded.
     pub fn clock(&mut self, time: u64) -> Result<Counts> {
         let done = self.table.clock(time);
         let told = answer(&done, counts);
@@ -318,6 +335,7 @@ where
         done
     }
 
+    /// [`Table::resolve`], recorded.
     pub fn resolve(&mut self, oxid: Oxid, buffer: &mut [u8]) -> Result<Resolved> {
         let done = self.table.resolve(oxid, buffer);
         let call = Call::of(13).u64(oxid.0).room(buffer);
@@ -327,6 +345,7 @@ where
         done
     }
 
+    /// [`Table::resolve_filtered`], recorded.
     pub fn resolve_filtered(
         &mut self,
         oxid: Oxid,
@@ -342,12 +361,14 @@ where
         done
     }
 
+    /// [`Table::census`], recorded.
     pub fn census(&mut self) -> Result<Counts> {
         let done = self.table.census();
         self.recording.plain(Call::of(15), &answer(&done, counts));
         done
     }
 
+    /// [`Table::members`], recorded.
     pub fn members(&mut self, set: SetId) -> Result<usize> {
         let done = self.table.members(set);
         let told = answer(&done, |n| [*n as u64]);
@@ -355,6 +376,7 @@ where
         done
     }
 
+    /// [`Table::next_stop`], recorded.
     pub fn next_stop<'a>(&'a mut self, reference: &'a [u8]) -> Result<Stop<'a>> {
         let done = self.table.next_stop(reference);
         let (number, shown): (_, &[u8]) = match done {
@@ -366,6 +388,7 @@ where
         done
     }
 
+    /// [`Table::write_snapshot`], recorded.
     pub fn write_snapshot(&mut self, buffer: &mut [u8]) -> Result<usize> {
         let done = self.table.write_snapshot(buffer);
         let told = answer(&done, |n| [*n as u64]);
@@ -375,6 +398,7 @@ where
         done
     }
 
+    /// [`Table::load_snapshot`], recorded.
     pub fn load_snapshot(&mut self, snapshot: &[u8]) -> Result<()> {
         let done = self.table.load_snapshot(snapshot);
         self.recording

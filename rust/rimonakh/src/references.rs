@@ -15,10 +15,15 @@ impl ffi::Place {
 #[repr(C)]
 #[derive(Clone, Copy, Debug, Default, PartialEq, Eq)]
 pub struct Block {
+    /// The flags; [`Block::NO_PING`] is one.
     pub flags: u32,
+    /// Public references that go with it.
     pub public: u32,
+    /// The exporter.
     pub oxid: Oxid,
+    /// The object.
     pub oid: Oid,
+    /// The interface.
     pub ipid: Guid,
 }
 
@@ -26,6 +31,7 @@ impl Block {
     /// The bit of the flags that means no pinging.
     pub const NO_PING: u32 = 0x1000;
 
+    /// Whether the object is not pinged.
     pub fn no_ping(&self) -> bool {
         self.flags & Block::NO_PING != 0
     }
@@ -35,21 +41,33 @@ impl Block {
 #[repr(C)]
 #[derive(Clone, Copy, Debug, Default, PartialEq, Eq)]
 pub struct Reference {
+    /// The form: [`Reference::STANDARD`], [`HANDLER`](Reference::HANDLER), [`CUSTOM`](Reference::CUSTOM) or [`EXTENDED`](Reference::EXTENDED).
     pub flags: u32,
+    /// Which interface the object has.
     pub iid: Guid,
+    /// The object block; of all forms but a custom one.
     pub block: Block,
+    /// The handler's CLSID, or the unmarshaler's of a custom one.
     pub clsid: Guid,
+    /// The size of a custom one's extension.
     pub extension: u32,
+    /// What a custom one says of the size of its object data.
     pub size: u32,
+    /// What an extended one's element is.
     pub element: Guid,
 }
 
 impl Reference {
+    /// The flags of a standard reference.
     pub const STANDARD: u32 = 1;
+    /// The flags of a handler reference.
     pub const HANDLER: u32 = 2;
+    /// The flags of a custom reference.
     pub const CUSTOM: u32 = 4;
+    /// The flags of an extended reference.
     pub const EXTENDED: u32 = 8;
 
+    /// A standard reference.
     pub fn standard(iid: Guid, block: Block) -> Reference {
         Reference {
             flags: Reference::STANDARD,
@@ -59,6 +77,7 @@ impl Reference {
         }
     }
 
+    /// A handler reference, with the handler's CLSID.
     pub fn handler(iid: Guid, block: Block, clsid: Guid) -> Reference {
         Reference {
             flags: Reference::HANDLER,
@@ -69,6 +88,7 @@ impl Reference {
         }
     }
 
+    /// A custom reference, with its unmarshaler's CLSID and its two sizes.
     pub fn custom(iid: Guid, clsid: Guid, extension: u32, size: u32) -> Reference {
         Reference {
             flags: Reference::CUSTOM,
@@ -80,6 +100,7 @@ impl Reference {
         }
     }
 
+    /// An extended reference, with the identifier of its element.
     pub fn extended(iid: Guid, block: Block, element: Guid) -> Reference {
         Reference {
             flags: Reference::EXTENDED,
@@ -192,11 +213,15 @@ impl Reference {
 #[repr(C)]
 #[derive(Clone, Copy, Debug, Default, PartialEq, Eq)]
 pub struct Context {
+    /// Which context it is.
     pub id: Guid,
+    /// Kept as it is.
     pub reserved: u32,
+    /// Kept as it is.
     pub marshal: u32,
     /// The number of properties.
     pub count: u32,
+    /// Kept as it is.
     pub frozen: u32,
 }
 
@@ -224,14 +249,20 @@ impl Context {
 #[repr(C)]
 #[derive(Clone, Copy, Debug, Default, PartialEq, Eq)]
 pub struct Property {
+    /// The CLSID.
     pub clsid: Guid,
+    /// The policy.
     pub policy: Guid,
+    /// [`Property::PROPAGATE`], [`EXPOSE`](Property::EXPOSE) or [`ENVOY`](Property::ENVOY).
     pub flags: u32,
 }
 
 impl Property {
+    /// The flags of a property that goes with the context.
     pub const PROPAGATE: u32 = 1;
+    /// The flags of a property that is exposed.
     pub const EXPOSE: u32 = 2;
+    /// The flags of a property for an envoy.
     pub const ENVOY: u32 = 4;
 
     /// Reads the fields of property `k` of a context.
