@@ -55,6 +55,7 @@ pub mod limits;
 pub mod list;
 mod recording;
 mod references;
+pub mod snapshot;
 mod table;
 
 pub use error::{wire_code, Error, NoRefusal};
@@ -65,6 +66,7 @@ pub use limits::{BYTES, LONGEST_SNAPSHOT, WORDS};
 pub use list::{Part, SecurityBinding, StringBinding, Text};
 pub use recording::{Outcome, Recorder, Tally};
 pub use references::{Block, Context, Property, Reference};
+pub use snapshot::Snapshot;
 pub use table::{snapshot_clock, Counts, Item, Pinged, Released, Resolved, Stop, Table};
 
 /// The version of the archive: major, minor and patch.
