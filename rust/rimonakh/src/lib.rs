@@ -2,7 +2,7 @@
 //! interfaces and ping sets. Every call ends with an answer number; a refusal is an [`Error`] and changes nothing.
 //!
 //! ```
-//! use rimonakh::{list, snapshot_clock, wire_code, Block, Error, Guid, Oid, Oxid, Part, Reference, SetId, Stop, Table};
+//! use rimonakh::{list, snapshot_clock, wire_code, Block, Error, Guid, Oid, Oxid, Reference, SetId, Stop, Table};
 //!
 //! let list = list::of(&[(7, "10.1.4.20[49500]")], &[])?; // one string binding: TCP
 //! let iid = Guid::new(0x39c13a54, 0x011e, 0x11d0, [0x96, 0x75, 0x00, 0x20, 0xaf, 0xd8, 0xad, 0xb3]);
@@ -19,7 +19,7 @@
 //!
 //! // a client reads it, resolves the exporter, pings, and gives its references back
 //! let reference = Reference::read(&bytes[..length])?;
-//! assert_eq!(Reference::binding(&bytes[..length], Part::Strings, 0)?[..2], [7, 0]);
+//! assert!(Reference::strings(&bytes[..length])?.all(|binding| binding.address == "10.1.4.20[49500]"));
 //! assert_eq!(table.next_stop(&bytes[..length])?, Stop::Exporter(&list));
 //! let mut buffer = [0; 2048];
 //! assert_eq!(table.resolve(reference.block.oxid, &mut buffer)?.unknown, unknown);
@@ -37,6 +37,12 @@
 //! assert_eq!(wire_code(&table.add(0, ipid, 1, 0)), 0x800401FB);
 //! # Ok::<(), Error>(())
 //! ```
+//!
+//! The crate needs `alloc` and no `std`. [`limits`] has how much a table, a list and a reference hold. What a table holds is shown by
+//! [`Debug`](core::fmt::Debug), and has types in a [`Snapshot`].
+//!
+//! The build links `librimonakh.a` of the folder `RIMONAKH_LIB_DIR`, if that is set; else the one that was built in this repository;
+//! else the installed one of the crate's version, by `pkg-config`.
 
 #![no_std]
 #![deny(missing_docs)]

@@ -5,6 +5,7 @@ use crate::{Table, BYTES, WORDS};
 use alloc::boxed::Box;
 use alloc::vec;
 use alloc::vec::Vec;
+use core::fmt;
 
 /// What was granted, what releases took, and what the removal of an exporter, a clock or the drop of a client took.
 #[repr(C)]
@@ -51,7 +52,7 @@ pub struct Outcome {
 /// assert_eq!((outcome.tally.granted, outcome.tally.taken), (5, 5));
 /// # Ok::<(), rimonakh::Error>(())
 /// ```
-#[derive(Clone, Debug)]
+#[derive(Clone)]
 pub struct Recorder<W = Box<[u64]>, S = Box<[u8]>> {
     table: Table<W, S>,
     recording: Recording,
@@ -72,8 +73,44 @@ impl Recorder {
     }
 }
 
+/// Shows the table's entries and the number of records.
+impl<W, S> fmt::Debug for Recorder<W, S>
+where
+    W: AsRef<[u64]>,
+    S: AsRef<[u8]>,
+{
+    fn fmt(&self, f: &mut fmt::Formatter<'_>) -> fmt::Result {
+        let mut shown = f.debug_struct("Recorder");
+        shown.field("table", &self.table);
+        shown.field("records", &self.records()).finish()
+    }
+}
+
+impl<W, S> Recorder<W, S> {
+    /// The table as it is.
+    pub fn table(&self) -> &Table<W, S> {
+        &self.table
+    }
+
+    /// The recording so far.
+    pub fn recording(&self) -> &[u8] {
+        &self.recording.0
+    }
+
+    /// The number of records. A recording of more than [`MOST_RECORDS`](crate::limits::MOST_RECORDS) is not replayed.
+    pub fn records(&self) -> u64 {
+        let (n, _) = self.recording.0.split_first_chunk().expect("the number");
+        u64::from_le_bytes(*n)
+    }
+
+    /// The table and its recording.
+    pub fn finish(self) -> (Table<W, S>, Vec<u8>) {
+        (self.table, self.recording.0)
+    }
+}
+
 /// The records, after their number.
-#[derive(Clone, Debug)]
+#[derive(Clone)]
 struct Recording(Vec<u8>);
 
 impl Default for Recording {
@@ -173,27 +210,6 @@ where
         let mut recording = Recording::default();
         recording.push(Call::of(19), [&snapshot, &[]], &[0], &[]);
         Ok(Recorder { table, recording })
-    }
-
-    /// The table as it is.
-    pub fn table(&self) -> &Table<W, S> {
-        &self.table
-    }
-
-    /// The recording so far.
-    pub fn recording(&self) -> &[u8] {
-        &self.recording.0
-    }
-
-    /// The number of records. A recording of more than [`MOST_RECORDS`](crate::limits::MOST_RECORDS) is not replayed.
-    pub fn records(&self) -> u64 {
-        let (n, _) = self.recording.0.split_first_chunk().expect("the number");
-        u64::from_le_bytes(*n)
-    }
-
-    /// The table and its recording.
-    pub fn finish(self) -> (Table<W, S>, Vec<u8>) {
-        (self.table, self.recording.0)
     }
 
     /// [`Table::reset`], recorded.

@@ -2,6 +2,7 @@
 
 use crate::{list, Guid, Oid, Oxid, Result, SecurityBinding, SetId, StringBinding, Table};
 use alloc::vec::Vec;
+use core::fmt;
 
 /// The entries of a snapshot, each kind rising by its identifier.
 ///
@@ -37,13 +38,25 @@ pub struct Snapshot {
 }
 
 /// An exporter with its binding list.
-#[derive(Clone, Debug, PartialEq, Eq)]
+#[derive(Clone, PartialEq, Eq)]
 pub struct Exporter {
     /// Its number.
     pub oxid: Oxid,
     /// The IPID of its remote unknown.
     pub unknown: Guid,
     list: Vec<u8>,
+}
+
+/// Shows the bindings of its list.
+impl fmt::Debug for Exporter {
+    fn fmt(&self, f: &mut fmt::Formatter<'_>) -> fmt::Result {
+        f.debug_struct("Exporter")
+            .field("oxid", &self.oxid)
+            .field("unknown", &self.unknown)
+            .field("strings", &self.strings().collect::<Vec<_>>())
+            .field("securities", &self.securities().collect::<Vec<_>>())
+            .finish()
+    }
 }
 
 impl Exporter {

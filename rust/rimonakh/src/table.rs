@@ -2,10 +2,11 @@
 
 use crate::error::answered;
 use crate::limits::{BYTES, LONGEST_SNAPSHOT, WORDS};
-use crate::{Guid, Oid, Outcome, Oxid, Result, SetId};
+use crate::{Guid, Oid, Outcome, Oxid, Result, SetId, Snapshot};
 use alloc::boxed::Box;
 use alloc::vec;
 use alloc::vec::Vec;
+use core::fmt;
 
 /// Numbers of each kind: of live entries, or of those that went.
 #[repr(C)]
@@ -106,7 +107,7 @@ pub fn snapshot_clock(snapshot: &[u8]) -> u64 {
 /// assert_eq!(seen.census()?, Counts::default());
 /// # Ok::<(), rimonakh::Error>(())
 /// ```
-#[derive(Clone, Debug)]
+#[derive(Clone)]
 pub struct Table<W = Box<[u64]>, S = Box<[u8]>> {
     words: W,
     store: S,
@@ -133,6 +134,31 @@ impl<W, S> Table<W, S> {
     /// Its words and bytes.
     pub fn into_parts(self) -> (W, S) {
         (self.words, self.store)
+    }
+}
+
+/// Shows the entries, by a [`Snapshot`]; of memory that holds no sound table the refusal.
+///
+/// ```
+/// use rimonakh::Table;
+///
+/// assert_eq!(
+///     format!("{:?}", Table::new(7)),
+///     "Table(Snapshot { clock: 7, next_set: SetId(0x1), exporters: [], objects: [], interfaces: [], sets: [] })"
+/// );
+/// assert_eq!(format!("{:?}", Table::over([0; 8192], [0; 8192])), "Table(Unsound)");
+/// ```
+impl<W, S> fmt::Debug for Table<W, S>
+where
+    W: AsRef<[u64]>,
+    S: AsRef<[u8]>,
+{
+    fn fmt(&self, f: &mut fmt::Formatter<'_>) -> fmt::Result {
+        let mut shown = f.debug_tuple("Table");
+        match self.snapshot().and_then(|bytes| Snapshot::read(&bytes)) {
+            Ok(entries) => shown.field(&entries).finish(),
+            Err(refusal) => shown.field(&refusal).finish(),
+        }
     }
 }
 

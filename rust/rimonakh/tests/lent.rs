@@ -1,6 +1,6 @@
 //! Tables over memory of the caller's.
 
-use rimonakh::{list, Counts, Error, Guid, Oid, Oxid, Reference, SetId, Stop, Table};
+use rimonakh::{list, Counts, Error, Guid, Oid, Oxid, Recorder, Reference, SetId, Stop, Table};
 use std::sync::Arc;
 
 /// A table with one entry of each kind, and its set.
@@ -65,4 +65,25 @@ fn to_be_changed_and_back() {
     let table = Table::over(&words[..], &store[..]);
     assert_eq!(table.census().unwrap().objects, 0);
     assert_eq!(table.members(set), Ok(0));
+}
+
+#[test]
+fn shown() {
+    let (table, _) = table();
+    let said = format!("{table:?}");
+    for part in [
+        "Table(Snapshot { clock: 1000, next_set: SetId(0x2), exporters: [Exporter { oxid: Oxid(0x1), ",
+        "strings: [StringBinding { tower: 7, address: \"a\" }], securities: []",
+        "objects: [Object { oid: Oid(0x1), exporter: Oxid(0x1), no_ping: false, heard: 1000 }]",
+        "ipid: {02020202-0202-0202-0202-020202020202}",
+        "sets: [Set { number: SetId(0x1), sequence: 1, pinged: 1000, members: [Oid(0x1)] }]",
+    ] {
+        assert!(said.contains(part), "{said}");
+    }
+    let recorder = Recorder::over(table).unwrap();
+    let recorded = format!("Recorder {{ table: {said}, records: 1 }}");
+    assert_eq!(format!("{recorder:?}"), recorded);
+    let (words, store) = Table::new(0).into_parts();
+    let short = Table::over(&words[1..], &store[..]);
+    assert_eq!(format!("{short:?}"), "Table(Unsound)");
 }
