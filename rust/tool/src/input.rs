@@ -18,11 +18,41 @@ pub enum Form {
     Raw,
 }
 
-/// The bytes of an input, and whether they stood there in hex.
+/// The bytes of an input.
 #[derive(Clone, Debug, PartialEq, Eq)]
 pub struct Input {
     pub bytes: Vec<u8>,
+    /// Whether they stood there in hex.
     pub hex: bool,
+    /// Where the bytes that are looked at were found, where they were looked for.
+    pub found: Option<usize>,
+}
+
+impl Input {
+    fn new(bytes: Vec<u8>, hex: bool) -> Input {
+        let found = None;
+        Input { bytes, hex, found }
+    }
+
+    /// Where the first signature of a reference stands.
+    pub fn signature(&self) -> Option<usize> {
+        self.bytes.windows(4).position(|four| four == b"MEOW")
+    }
+
+    /// Leaves the bytes from the first signature on; those of a marshaled pointer (MS-DCOM, section 2.2.14), which has their number before
+    /// them, up to its end.
+    pub fn find(&mut self) -> Result<(), Failed> {
+        let at = self.signature();
+        let at = at.ok_or("no signature MEOW stands in the input")?;
+        let size = self.bytes[..at].last_chunk();
+        let size = size.map(|n| u32::from_le_bytes(*n) as usize);
+        self.bytes.drain(..at);
+        let left = self.bytes.len();
+        let within = size.filter(|n| (24..=left).contains(n));
+        self.bytes.truncate(within.unwrap_or(left));
+        self.found = Some(at);
+        Ok(())
+    }
 }
 
 /// What a failed read says.
@@ -85,14 +115,14 @@ fn decoded(bytes: Vec<u8>, form: Form) -> Result<Input, Failed> {
         Form::Told if text => (),
         Form::Hex if text => (),
         Form::Hex => return Err("not hex: it is not text".into()),
-        _ => return Ok(Input { bytes, hex: false }),
+        _ => return Ok(Input::new(bytes, false)),
     }
     let text = String::from_utf8_lossy(&bytes);
     let bytes = from_hex(&text).map_err(|e| match form {
         Form::Hex => format!("not hex: {e}"),
         _ => format!("text, but not hex: {e} (--raw takes it as bytes)"),
     })?;
-    Ok(Input { bytes, hex: true })
+    Ok(Input::new(bytes, true))
 }
 
 /// Printable ASCII, tabs and ends of lines.

@@ -129,25 +129,13 @@ fn printed(
 fn objref(request: &Request, streams: &mut Streams, paint: Paint) -> Result<End, End> {
     let mut input = read(request, streams, MOST_READ)?;
     if request.find {
-        find(&mut input.bytes).map_err(End::Failed)?;
+        input.find().map_err(End::Failed)?;
     }
     let bytes = &input.bytes[..];
     Reference::judge(bytes).map_err(|e| End::Refused(Refusal::of_reference(&input, e)))?;
-    let text = || show::reference::text(bytes, paint);
-    printed(request, text, || show::reference::json(bytes)).map(End::Done)
-}
-
-/// Leaves the bytes from the first signature on; those of a marshaled pointer (MS-DCOM, section 2.2.14), which has their number before
-/// them, up to its end.
-fn find(bytes: &mut Vec<u8>) -> Result<(), String> {
-    let at = refusal::signature(bytes).ok_or("no signature MEOW stands in the input")?;
-    let size = bytes[..at].last_chunk().map(|n| u32::from_le_bytes(*n));
-    bytes.drain(..at);
-    let within = size
-        .map(|n| n as usize)
-        .filter(|n| (24..=bytes.len()).contains(n));
-    bytes.truncate(within.unwrap_or(bytes.len()));
-    Ok(())
+    let text = || show::reference::text(bytes, input.found, paint);
+    let json = || show::reference::json(bytes, input.found);
+    printed(request, text, json).map(End::Done)
 }
 
 /// The entries of the snapshot that is read.

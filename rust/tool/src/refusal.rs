@@ -20,11 +20,6 @@ pub struct Refusal {
     hint: Option<String>,
 }
 
-/// Where the first signature of a reference stands.
-pub fn signature(bytes: &[u8]) -> Option<usize> {
-    bytes.windows(4).position(|four| four == b"MEOW")
-}
-
 /// The place of a byte with up to eight before it and fifteen behind.
 fn window(at: usize, length: usize) -> Range<usize> {
     let from = at.saturating_sub(8).min(length);
@@ -48,9 +43,11 @@ impl Refusal {
     }
 
     pub fn of_reference(input: &Input, error: Error) -> Refusal {
-        let inside = signature(&input.bytes).filter(|at| *at > 0);
-        let found = |at| format!("a signature MEOW stands at byte {at}: try --find");
-        let hint = other(&input.bytes).or_else(|| inside.map(found));
+        let inside = input.signature().filter(|at| *at > 0);
+        let begins = |at| format!("a signature MEOW stands at byte {at}: try --find");
+        let found = |at| format!("the bytes are those from byte {at} of the input on");
+        let hint = other(&input.bytes).or_else(|| inside.map(begins));
+        let hint = input.found.map(found).or(hint);
         Refusal::new(input, error, references::reference(&input.bytes), hint)
     }
 

@@ -2,7 +2,7 @@
 
 mod common;
 
-use common::{file, full, path, ran, usual};
+use common::{file, full, painted, path, ran, usual};
 use rimonakh::{wire_code, Error, Reference};
 use std::io::Read;
 use std::process::{Command, Stdio};
@@ -131,7 +131,7 @@ fn refusals_say_why() {
     let cut = ran(&["objref"], &file("crates/objref/stdin")[..71]);
     let said = "\
 refused: the bytes end before a field does (13)
-  a binding list of N = 57 words has 114 bytes, and 3 are left
+  a binding list of N = 57 words: 114 bytes are needed, 3 are left
   at byte 68 (0x44) of 71:
   003c: 8c 9d 0e 1f 39 00 25 00 [07] 00 70 end
 ";
@@ -166,12 +166,27 @@ fn find() {
     assert!(refused
         .err
         .ends_with("  a signature MEOW stands at byte 8: try --find\n"));
+    let plain = ran(&["objref"], &reference).out;
     let found = ran(&["objref", "--find"], &marshaled);
-    assert_eq!(found, ran(&["objref"], &reference));
     assert_eq!(
-        ran(&["objref", "--find"], &marshaled[5..8 + reference.len()]),
-        found
+        (found.status, found.out),
+        (0, format!("found at byte 8 (0x8)\n{plain}"))
     );
+    let bare = ran(&["objref", "--find"], &marshaled[5..8 + reference.len()]);
+    assert_eq!(
+        (bare.status, bare.out),
+        (0, format!("found at byte 3 (0x3)\n{plain}"))
+    );
+    let json = ran(&["objref", "--find", "--json"], &marshaled);
+    assert!(json
+        .out
+        .starts_with("{\"found_at\":8,\"form\":\"standard\","));
+    let cut = ran(&["objref", "--find"], &marshaled[..80]);
+    assert_eq!(cut.status, 1);
+    assert!(cut.err.contains("  at byte 68 (0x44) of 72:\n"));
+    assert!(cut
+        .err
+        .ends_with("  the bytes are those from byte 8 of the input on\n"));
     assert_eq!(ran(&["objref", "--find"], &[1; 40]).status, 2);
 }
 
@@ -280,6 +295,38 @@ fn wrong_use() {
         (empty.status, &empty.err[..]),
         (2, "rimonakh: standard input: empty\n")
     );
+}
+
+/// Colours are put around words, on a terminal only, and never into JSON or a file.
+#[test]
+fn colours() {
+    let plain = |text: &str| {
+        let parts = text.split("\x1b[").enumerate();
+        let shown = parts.map(|(k, part)| {
+            if k == 0 {
+                part
+            } else {
+                part.split_once('m').unwrap().1
+            }
+        });
+        shown.collect::<String>()
+    };
+    let reference = file("crates/objref/stdin");
+    for (command, bytes) in [
+        ("objref", reference.clone()),
+        ("objref", reference[..90].to_vec()),
+        ("snapshot", usual().snapshot().unwrap()),
+        ("replay", file("examples/day.recording")),
+        ("replay", file("crates/replay/stdin")),
+    ] {
+        let (shown, bare) = (painted(&[command], &bytes, true), ran(&[command], &bytes));
+        assert!(shown.out.contains('\x1b') || shown.err.contains('\x1b'));
+        assert!(!bare.out.contains('\x1b') && !bare.err.contains('\x1b'));
+        assert_eq!((plain(&shown.out), plain(&shown.err)), (bare.out, bare.err));
+        assert!(!painted(&[command, "--json"], &bytes, true)
+            .out
+            .contains('\x1b'));
+    }
 }
 
 #[test]

@@ -92,7 +92,7 @@ impl<'a> Walk<'a> {
             None => Err(Fault {
                 number: self.short,
                 at: self.place(),
-                rule: format!("{what} has {n} bytes, and {} are left", left.len()),
+                rule: format!("{what}: {n} bytes are needed, {} are left", left.len()),
             }),
         }
     }

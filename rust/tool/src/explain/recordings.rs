@@ -11,38 +11,52 @@ struct Placed<'a> {
     places: [usize; 5],
 }
 
-/// Why bytes are no recording that is replayed.
+/// Why bytes are no recording that is replayed: bytes that end, before any record is looked into; then a record of another form; then the
+/// number of records.
 pub fn recording(bytes: &[u8]) -> Walked<()> {
-    records(bytes).map(|_| ())
-}
-
-/// The records of a recording.
-pub fn records(bytes: &[u8]) -> Walked<Vec<Record<'_>>> {
-    let mut walk = Walk::new(bytes, Error::Short, Error::Layout);
-    let count = walk.u64("the number of records")?;
-    let mut found = Vec::new();
-    for k in 1..=count {
-        found.push(record(&mut walk, k)?);
-    }
-    for (k, placed) in found.iter().enumerate() {
-        well_formed(&walk, placed).map_err(|f| f.within(&format!("record {}", k + 1)))?;
-    }
+    each(bytes, |_, _, _| Ok(()))?;
+    let (count, walk) = each(bytes, |walk, k, placed| {
+        well_formed(walk, placed).map_err(|f| f.within(&format!("record {k}")))
+    })?;
     walk.end("the recording")?;
-    if count > MOST_RECORDS {
-        return Err(Fault {
+    match count > MOST_RECORDS {
+        false => Ok(()),
+        true => Err(Fault {
             number: Error::TooMany.number(),
             at: 0,
             rule: format!("{count} records, where {MOST_RECORDS} are the most"),
-        });
+        }),
     }
-    Ok(found.into_iter().map(|placed| placed.record).collect())
+}
+
+/// The records of a recording that was replayed.
+pub fn records(bytes: &[u8]) -> Walked<Vec<Record<'_>>> {
+    let mut found = Vec::new();
+    each(bytes, |_, _, placed| {
+        found.push(placed.record);
+        Ok(())
+    })?;
+    Ok(found)
+}
+
+/// Goes over the records, with their numbers from 1; answers how many there are, and what is left.
+fn each<'a>(
+    bytes: &'a [u8],
+    mut one: impl FnMut(&Walk, u64, &Placed<'a>) -> Walked<()>,
+) -> Walked<(u64, Walk<'a>)> {
+    let mut walk = Walk::new(bytes, Error::Short, Error::Layout);
+    let count = walk.u64("the number of records")?;
+    for k in 1..=count {
+        let placed = record(&mut walk, k)?;
+        one(&walk, k, &placed)?;
+    }
+    Ok((count, walk))
 }
 
 fn record<'a>(walk: &mut Walk<'a>, k: u64) -> Walked<Placed<'a>> {
     let mut places = [0; 5];
     let mut section = |n: usize, name: &str| {
-        let what = format!("the number of bytes of the {name} of record {k}");
-        let size = walk.u64(what)?;
+        let size = walk.u64(format_args!("the size of the {name} of record {k}"))?;
         places[n] = walk.place();
         walk.take(size, format_args!("the {name} of record {k}"))
     };

@@ -6,9 +6,12 @@ use crate::names::{self, Known};
 use rimonakh::{Context, Error, Property, Reference};
 use std::fmt::Write;
 
-/// The fields of a reference, one to a line; what is inside it stands further in.
-pub fn text(bytes: &[u8], paint: Paint) -> Result<String, Error> {
+/// The fields of a reference, one to a line, after the place where it was found; what is inside it stands further in.
+pub fn text(bytes: &[u8], found: Option<usize>, paint: Paint) -> Result<String, Error> {
     let mut out = String::new();
+    if let Some(at) = found {
+        let _ = writeln!(out, "found at byte {at} ({at:#x})");
+    }
     level(&mut out, "", bytes, paint)?;
     Ok(out)
 }
@@ -107,8 +110,17 @@ fn element(
     Ok(())
 }
 
-/// The fields of a reference.
-pub fn json(bytes: &[u8]) -> Result<Json, Error> {
+/// The fields of a reference, likewise.
+pub fn json(bytes: &[u8], found: Option<usize>) -> Result<Json, Error> {
+    let mut out: Vec<_> = found
+        .map(|at| ("found_at", json::size(at)))
+        .into_iter()
+        .collect();
+    out.extend(json_fields(bytes)?);
+    Ok(Json::Object(out))
+}
+
+fn json_fields(bytes: &[u8]) -> Result<Vec<(&'static str, Json)>, Error> {
     let r = Reference::read(bytes)?;
     let tail = Reference::tail(bytes)?;
     let mut out = vec![
@@ -125,7 +137,7 @@ pub fn json(bytes: &[u8]) -> Result<Json, Error> {
         out.push(("extension_size", json::number(r.extension)));
         out.push(("size", json::number(r.size)));
         out.push(json_object_data(&r, tail)?);
-        return Ok(Json::Object(out));
+        return Ok(out);
     }
     let b = r.block;
     out.push(("block_flags", json::number(b.flags)));
@@ -138,13 +150,13 @@ pub fn json(bytes: &[u8]) -> Result<Json, Error> {
     if r.flags == Reference::EXTENDED {
         let data = Reference::element(bytes, 0)?;
         let inside = match is_reference(data) {
-            true => ("reference", json(data)?),
+            true => ("reference", json(data, None)?),
             false => ("data", plain_hex(data)),
         };
         let element = Json::Object(vec![("id", json::text(r.element)), inside]);
         out.push(("element", element));
     }
-    Ok(Json::Object(out))
+    Ok(out)
 }
 
 fn json_object_data(r: &Reference, data: &[u8]) -> Result<(&'static str, Json), Error> {

@@ -15,13 +15,18 @@ pub struct Ran {
 
 /// Runs the program with these arguments and this input, on no terminal.
 pub fn ran(args: &[&str], stdin: &[u8]) -> Ran {
+    painted(args, stdin, false)
+}
+
+/// The same, with or without the colours of a terminal.
+pub fn painted(args: &[&str], stdin: &[u8], colours: bool) -> Ran {
     let (mut out, mut err) = (Vec::new(), Vec::new());
     let mut streams = Streams {
         stdin: &mut &stdin[..],
         stdout: &mut out,
         stderr: &mut err,
-        colour_out: false,
-        colour_err: false,
+        colour_out: colours,
+        colour_err: colours,
         progress: false,
     };
     let status = run(args.iter().map(|a| a.to_string()), &mut streams);
