@@ -362,18 +362,20 @@ fn in_a_browser() {
         let snapshot = table.snapshot().unwrap();
         let file = folder.join(format!("{name}.html"));
         std::fs::write(&file, page(&snapshot)).unwrap();
-        let shown = Command::new("chromium")
-            .args(["--headless", "--no-sandbox", "--disable-gpu", "--dump-dom"])
+        let shown = Command::new("timeout")
+            .args(["120", "chromium", "--headless", "--no-sandbox"])
+            .args(["--disable-gpu", "--dump-dom"])
             .arg(format!(
                 "--user-data-dir={}",
                 folder.join("profile").display()
             ))
             .arg(format!("file://{}", file.display()))
-            .output();
-        let Ok(shown) = shown else {
+            .output()
+            .unwrap();
+        if shown.status.code() == Some(127) {
             println!("chromium is not installed");
             break;
-        };
+        }
         assert!(shown.status.success());
         let html = String::from_utf8(shown.stdout).unwrap();
         check(&Snapshot::read(&snapshot).unwrap(), &html);
