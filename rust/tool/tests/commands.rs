@@ -75,6 +75,41 @@ fn replay() {
         .contains("the shown bytes differ from byte 2 on\n"));
 }
 
+/// Of long bytes those around the first difference are shown.
+#[test]
+fn shown_bytes() {
+    let mut day = rimonakh::Recorder::over(usual()).unwrap();
+    let mut buffer = vec![0; 9000];
+    let length = day.write_snapshot(&mut buffer).unwrap();
+    let mut recording = day.recording().to_vec();
+    let at = recording.len() - length + 1000;
+    recording[at] ^= 1;
+    let found = ran(&["replay"], &recording);
+    let row = |bytes: &[u8]| {
+        format!(
+            "    03e0: {}  ",
+            bytes
+                .iter()
+                .map(|b| format!("{b:02x}"))
+                .collect::<Vec<_>>()
+                .join(" ")
+        )
+    };
+    let rows = [&recording[at - 8..at + 8], &buffer[992..1008]].map(row);
+    assert!(
+        rows.iter().all(|row| found.out.contains(row)),
+        "{}",
+        found.out
+    );
+    assert!(found.out.contains("    ... 976 bytes before\n    03d0: "));
+    assert!(found
+        .out
+        .contains(&format!("    ... {} bytes more\n", length - 976 - 64)));
+    assert!(found
+        .out
+        .contains("\nthe shown bytes differ from byte 1000 on\n"));
+}
+
 /// A recording in which each record in turn has another answer: our answer, which a replay does not tell, is the one that was recorded.
 #[test]
 fn ours() {

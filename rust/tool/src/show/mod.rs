@@ -70,10 +70,22 @@ pub fn many(n: usize, thing: &str) -> String {
     format!("{n} {thing}{}", if n == 1 { "" } else { "s" })
 }
 
-/// The first bytes of data in rows of sixteen, with a mark where it is cut.
-pub fn dump(out: &mut String, margin: &str, data: &[u8]) {
-    const SHOWN: usize = 64;
-    for (k, row) in data.chunks(16).take(SHOWN / 16).enumerate() {
+/// Bytes of data in rows of sixteen, with marks where it is cut: the first ones, or those around a place further in.
+pub fn dump(out: &mut String, margin: &str, data: &[u8], place: usize) {
+    const ROW: usize = 16;
+    const SHOWN: usize = 4 * ROW;
+    let from = match place < SHOWN {
+        true => 0,
+        false => (place / ROW - 1) * ROW,
+    };
+    let cut = |out: &mut String, n: usize, words: &str| {
+        if n > 0 {
+            let _ = writeln!(out, "{margin}... {} {words}", many(n, "byte"));
+        }
+    };
+    let (before, shown) = data.split_at(from.min(data.len()));
+    cut(out, before.len(), "before");
+    for (k, row) in shown.chunks(ROW).take(SHOWN / ROW).enumerate() {
         let seen = |b: &u8| {
             if matches!(b, b' '..=b'~') {
                 *b as char
@@ -82,11 +94,10 @@ pub fn dump(out: &mut String, margin: &str, data: &[u8]) {
             }
         };
         let text: String = row.iter().map(seen).collect();
-        let _ = writeln!(out, "{margin}{:04x}: {:<47}  {text}", 16 * k, hex(row));
+        let at = from + ROW * k;
+        let _ = writeln!(out, "{margin}{at:04x}: {:<47}  {text}", hex(row));
     }
-    if data.len() > SHOWN {
-        let _ = writeln!(out, "{margin}... {} more", many(data.len() - SHOWN, "byte"));
-    }
+    cut(out, shown.len().saturating_sub(SHOWN), "more");
 }
 
 /// The bindings of a whole list, one to a line.

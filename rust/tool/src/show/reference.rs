@@ -58,7 +58,7 @@ fn object_data(out: &mut String, margin: &str, r: &Reference, data: &[u8]) -> Re
     if r.clsid != Context::MARSHALER {
         let length = many(data.len(), "byte");
         let _ = writeln!(out, "{margin}object data: {length}");
-        dump(out, &inner, data);
+        dump(out, &inner, data, 0);
         return Ok(());
     }
     let c = Context::read(data)?;
@@ -75,7 +75,7 @@ fn object_data(out: &mut String, margin: &str, r: &Reference, data: &[u8]) -> Re
             "{inner}property {k}: class {class}, policy {policy}, flags {} ({flags}), {length}",
             p.flags
         );
-        dump(out, &format!("{inner}  "), &data[place]);
+        dump(out, &format!("{inner}  "), &data[place], 0);
     }
     Ok(())
 }
@@ -106,7 +106,7 @@ fn element(
         return level(out, &inner, data, paint);
     }
     let _ = writeln!(out, "{margin}element 0: {id}, {length}");
-    dump(out, &inner, data);
+    dump(out, &inner, data, 0);
     Ok(())
 }
 

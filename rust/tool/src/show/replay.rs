@@ -57,9 +57,10 @@ impl<'a> Replay<'a> {
         }
         if let Some((_, recorded, ours)) = self.differing() {
             let _ = writeln!(out, "call: {}", call(&recorded));
-            answered(&mut out, "recorded", &recorded);
-            answered(&mut out, "ours", &ours);
-            if let Some(at) = first_difference(recorded.shown, ours.shown) {
+            let differs = first_difference(recorded.shown, ours.shown);
+            answered(&mut out, "recorded", &recorded, differs.unwrap_or(0));
+            answered(&mut out, "ours", &ours, differs.unwrap_or(0));
+            if let Some(at) = differs {
                 let _ = writeln!(out, "the shown bytes differ from byte {at} on");
             }
         }
@@ -97,12 +98,12 @@ impl<'a> Replay<'a> {
     }
 }
 
-/// An answer, with the bytes that it shows.
-fn answered(out: &mut String, whose: &str, record: &Record) {
+/// An answer, with the bytes that it shows around a place.
+fn answered(out: &mut String, whose: &str, record: &Record, place: usize) {
     let _ = writeln!(out, "{whose}: {}", answer(record));
     if !record.shown.is_empty() {
         let _ = writeln!(out, "  shown: {}", many(record.shown.len(), "byte"));
-        dump(out, "    ", record.shown);
+        dump(out, "    ", record.shown, place);
     }
 }
 
