@@ -4,7 +4,7 @@
 mod common;
 
 use common::{file, guid, usual};
-use rimonakh::{Block, Context, Error, Oid, Oxid, Reference, Snapshot, Table};
+use rimonakh::{list, Block, Context, Error, Oid, Oxid, Reference, Snapshot, Table};
 use rimonakh_tool::explain::{recordings, references, snapshots, Walked};
 
 /// The input, its cuts, one byte more, and each byte changed four times.
@@ -140,6 +140,62 @@ fn of_snapshots() {
     }
 }
 
+/// The bytes of a snapshot at clock 0: an exporter for each list, objects of the first, each with so many interfaces, and empty sets.
+fn made(lists: &[Vec<u8>], objects: u64, interfaces: u64, sets: u64) -> Vec<u8> {
+    let mut out = [&[2, 0][..], &[0; 8], &(sets + 1).to_le_bytes()].concat();
+    let count = |n: u64| (n as u16).to_le_bytes();
+    out.extend(count(lists.len() as u64));
+    for (k, list) in (1..).zip(lists) {
+        out.extend([&u64::to_le_bytes(k), &guid(k << 32).0[..]].concat());
+        out.extend([&count(list.len() as u64), &list[..]].concat());
+    }
+    out.extend(count(objects));
+    for k in 1..=objects {
+        out.extend([k, 1].map(u64::to_le_bytes).concat());
+        out.extend([0; 9]);
+    }
+    out.extend(count(objects * interfaces));
+    for k in 0..objects * interfaces {
+        let ipid = (u128::from(k) + 1).to_be_bytes(); // rising by its bytes
+        out.extend([&ipid[..], &[0; 16], &(1 + k / interfaces).to_le_bytes()].concat());
+        out.extend([&[1][..], &[0; 35]].concat());
+    }
+    out.extend(count(sets));
+    for k in 1..=sets {
+        out.extend([&k.to_le_bytes()[..], &[0; 12]].concat());
+    }
+    out
+}
+
+/// Both sides of each limit.
+#[test]
+fn limits_of_snapshots() {
+    let list = |bytes: usize| list::of(&[(7, &"a".repeat(bytes / 2 - 6))], &[]).unwrap();
+    assert_eq!((list(12).len(), list(2048).len()), (12, 2048));
+    for (within, above) in [
+        (made(&[list(2048)], 0, 0, 0), made(&[list(2050)], 0, 0, 0)),
+        (
+            made(&[list(2048), list(2048), list(2048), list(2048)], 0, 0, 0),
+            made(
+                &[list(2048), list(2048), list(2048), list(2036), list(14)],
+                0,
+                0,
+                0,
+            ),
+        ),
+        (
+            made(&vec![list(12); 16], 1, 1, 0),
+            made(&vec![list(12); 17], 1, 1, 0),
+        ),
+        (made(&[list(12)], 128, 2, 0), made(&[list(12)], 129, 1, 0)),
+        (made(&[list(12)], 64, 4, 0), made(&[list(12)], 1, 257, 0)),
+        (made(&[list(12)], 1, 1, 32), made(&[list(12)], 1, 1, 33)),
+    ] {
+        let judge = |bytes: &[u8]| agrees(bytes, Snapshot::read(bytes), snapshots::snapshot(bytes));
+        assert!(!judge(&within) && judge(&above));
+    }
+}
+
 #[test]
 fn of_recordings() {
     let mut table = Table::new(0);
@@ -151,6 +207,22 @@ fn of_recordings() {
         for bytes in damaged(&file(name)) {
             agrees(&bytes, table.replay(&bytes), recordings::recording(&bytes));
         }
+    }
+    let no_ping = |mark: u8| {
+        let call = [
+            &[1, 0, 0, 0, 0, 0, 0, 0, 54, 0, 0, 0, 0, 0, 0, 0, 3][..],
+            &[0; 52],
+            &[mark],
+        ]
+        .concat();
+        [&call[..], &[0; 16], &[8], &[0; 7], &[3], &[0; 15]].concat()
+    };
+    for mark in 0..=3 {
+        let (bytes, answer) = (no_ping(mark), table.replay(&no_ping(mark)));
+        assert_eq!(
+            agrees(&bytes, answer, recordings::recording(&bytes)),
+            mark > 1
+        );
     }
     let drop_client = [
         &[5, 0, 0, 0, 0, 0, 0, 0, 7, 9, 0, 0, 0][..],
