@@ -13,7 +13,7 @@ pub fn form(flags: u32) -> &'static str {
     }
 }
 
-/// A protocol: documents 001, section 3.2, and 003, figure 13.
+/// A protocol: documents 001, section 3.2, and 003, figure 13; 0x0F is MS-RPCE's.
 pub fn protocol(tower: u16) -> Option<&'static str> {
     Some(match tower {
         0x04 => "ncacn_dnet_nsp",

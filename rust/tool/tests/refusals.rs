@@ -4,7 +4,7 @@
 mod common;
 
 use common::{file, guid, usual};
-use rimonakh::{list, Block, Context, Error, Oid, Oxid, Reference, Snapshot, Table};
+use rimonakh::{list, Context, Error, Reference, Snapshot, Table};
 use rimonakh_tool::explain::{recordings, references, snapshots, Walked};
 
 /// The input, its cuts, one byte more, and each byte changed four times.
@@ -41,88 +41,103 @@ fn hex(text: &str) -> Vec<u8> {
         .collect()
 }
 
-/// The bytes of the stored lines with this letter, behind so many numbers.
-fn lines(name: &str, letter: char, numbers: usize) -> Vec<Vec<u8>> {
+/// The stored lines with this letter: the numbers in front, so many, and the bytes.
+fn lines(name: &str, letter: char, numbers: usize) -> Vec<(Vec<usize>, Vec<u8>)> {
     let text = String::from_utf8(file(&format!("rust/compare/lines/{name}"))).unwrap();
-    let words = text.lines().filter_map(|line| line.strip_prefix(letter));
-    let rest = |line: &str| -> String { line.split_whitespace().skip(numbers).collect() };
-    words.map(|line| hex(&rest(line))).collect()
-}
-
-/// What `reference` writes.
-fn written(reference: Reference, tail: &[u8], content: &[u8]) -> Vec<u8> {
-    let mut bytes = vec![0; 256 + tail.len() + content.len()];
-    let length = reference.write(tail, content, &mut bytes).unwrap();
-    bytes.truncate(length);
-    bytes
-}
-
-/// So many extended references, each the data of the one before, around these bytes; no deeper than can be written.
-fn nest(levels: usize, inside: &[u8]) -> Vec<u8> {
-    let block = Block {
-        flags: 0,
-        public: 1,
-        oxid: Oxid(1),
-        oid: Oid(2),
-        ipid: guid(3),
+    let lines = text.lines().filter_map(|line| line.strip_prefix(letter));
+    let read = |line: &str| {
+        let words: Vec<&str> = line.split_whitespace().collect();
+        let (front, bytes) = words.split_at(numbers);
+        let front = front.iter().map(|n| n.parse().unwrap());
+        (front.collect(), hex(&bytes.concat()))
     };
+    lines.map(read).collect()
+}
+
+/// So many extended references, each the data of the one before, around these bytes; any number, and any bytes. Each of their identifiers
+/// is one byte and zeros, so that one change makes it nil.
+fn nest(levels: usize, innermost: &[u8]) -> Vec<u8> {
     let around = |inside: Vec<u8>, _| {
-        let extended = Reference::extended(guid(4), block, guid(5));
-        written(extended, &[2, 0, 1, 0, 0, 0, 0, 0], &inside)
+        let size = inside.len().next_multiple_of(8);
+        let block = [1, 2, 3, 4, 0].map(u64::to_le_bytes).concat();
+        let mut bytes = [b"MEOW\x08\0\0\0", &[6; 16][..], &block].concat();
+        bytes.extend(b"VYSN\x02\0\x01\0\0\0\0\0\x01\0\0\0VYSN");
+        bytes.extend(guid(5).0);
+        bytes.extend(
+            [inside.len() as u32, size as u32]
+                .map(u32::to_le_bytes)
+                .concat(),
+        );
+        bytes.extend(&inside);
+        bytes.resize(bytes.len() + size - inside.len(), 0);
+        bytes
     };
-    (0..levels).fold(inside.to_vec(), around)
+    (0..levels).fold(innermost.to_vec(), around)
 }
 
 /// The stored references.
 fn stored() -> Vec<Vec<u8>> {
     let mut found = vec![file("crates/objref/stdin")];
-    found.extend(lines("bytes.in", 'O', 0));
-    for (letter, numbers) in [('O', 0), ('E', 0), ('Z', 0), ('F', 1)] {
-        found.extend(lines("extended.in", letter, numbers));
+    for (name, letter, numbers) in [
+        ("bytes.in", 'O', 0),
+        ("extended.in", 'O', 0),
+        ("extended.in", 'E', 0),
+        ("extended.in", 'Z', 0),
+        ("extended.in", 'F', 1),
+    ] {
+        found.extend(
+            lines(name, letter, numbers)
+                .into_iter()
+                .map(|(_, bytes)| bytes),
+        );
     }
     found
 }
 
-/// The stored contexts, in a custom reference.
+/// The stored contexts, refused ones too, each in a custom reference.
 fn contexts() -> Vec<Vec<u8>> {
-    let bare = lines("extended.in", 'C', 0).into_iter();
-    let accepted = bare.filter(|context| Context::read(context).is_ok());
-    let custom = Reference::custom(guid(1), Context::MARSHALER, 0, 0);
-    accepted
-        .map(|context| written(custom, &context, &[]))
+    let custom = |(_, context): (_, Vec<u8>)| {
+        let front = [
+            &b"MEOW\x04\0\0\0"[..],
+            &[1; 16],
+            &Context::MARSHALER.0,
+            &[0; 8],
+        ];
+        [&front.concat()[..], &context].concat()
+    };
+    lines("extended.in", 'C', 0)
+        .into_iter()
+        .map(custom)
+        .collect()
+}
+
+/// The stored nests, those that are too deep among them.
+fn nests() -> Vec<Vec<u8>> {
+    let found = lines("extended.in", 'N', 1).into_iter();
+    found
+        .map(|(levels, inside)| nest(levels[0], &inside))
         .collect()
 }
 
 #[test]
 fn references_contexts_and_nests() {
-    let judge = |bytes: &[u8]| agrees(bytes, Reference::judge(bytes), references::reference(bytes));
-    let mut inputs = stored();
-    inputs.extend(contexts());
-    let accepted = inputs
-        .iter()
-        .filter(|b| Reference::judge(b).is_ok())
-        .count();
-    assert!(
-        inputs.len() > 400 && accepted > 100,
-        "{accepted} of {}",
-        inputs.len()
-    );
-    inputs.extend((1..=8).map(|levels| nest(levels, &[1; 9])));
-    inputs.extend(contexts().iter().take(3).map(|c| nest(3, c)));
-    let (mut refused, mut all) = (0, 0);
-    for input in &inputs {
-        for bytes in damaged(input) {
-            all += 1;
-            refused += usize::from(judge(&bytes));
-        }
+    let inputs = [stored(), contexts(), nests()];
+    assert_eq!(inputs.each_ref().map(Vec::len), [549, 40, 37]);
+    let mut seen = std::collections::BTreeMap::new();
+    for bytes in inputs.concat().iter().flat_map(|input| damaged(input)) {
+        let answer = Reference::judge(&bytes);
+        *seen.entry(answer.err()).or_insert(0) += 1;
+        agrees(&bytes, answer, references::reference(&bytes));
     }
-    assert!(refused > 100_000 && refused < all, "{refused} of {all}");
-    // the ninth level, which no writer makes: its data is replaced
-    let mut deep = nest(8, &[1; 112]);
-    let at = deep.windows(112).position(|w| w == [1; 112]).unwrap();
-    deep[at..at + 4].copy_from_slice(b"MEOW");
-    assert_eq!(Reference::judge(&deep), Err(Error::TooDeep));
-    assert!(judge(&deep));
+    let refusals = [
+        Error::Short,
+        Error::Layout,
+        Error::TooDeep,
+        Error::NilIdentifier,
+    ];
+    let all: Vec<_> = [None].into_iter().chain(refusals.map(Some)).collect();
+    assert_eq!(seen.keys().copied().collect::<Vec<_>>(), all);
+    assert!(seen.values().all(|n| *n > 500), "{seen:?}");
 }
 
 #[test]
