@@ -2,21 +2,22 @@
 use contexts::Context;
 use contexts::Property;
 use kinds::answer;
+use print::Buffer;
 
-pub fn report(s: &[u8], n: usize) {
+pub fn report(out: &mut Buffer, s: &[u8], n: usize) {
     let r = Context::read(s);
     let context = r.context;
     let id = context.id;
-    print::line::identifier(n, b"context id: ", id);
-    print::line::bits(n, b"reserved: 0x", context.reserved);
-    print::line::bits(n, b"marshal flags: 0x", context.marshal);
-    print::line::number(n, b"frozen: ", context.frozen);
-    print::line::number(n, b"properties: ", context.count);
-    properties(s, n);
+    print::line::identifier(out, n, b"context id: ", id);
+    print::line::bits(out, n, b"reserved: 0x", context.reserved);
+    print::line::bits(out, n, b"marshal flags: 0x", context.marshal);
+    print::line::number(out, n, b"frozen: ", context.frozen);
+    print::line::number(out, n, b"properties: ", context.count);
+    properties(out, s, n);
 }
 
 // A property has at least 40 bytes, so that there are fewer than the bound.
-fn properties(s: &[u8], n: usize) {
+fn properties(out: &mut Buffer, s: &[u8], n: usize) {
     let c = cursors::properties::start(s);
     let mut at = c.at;
     let mut left = c.left;
@@ -27,32 +28,32 @@ fn properties(s: &[u8], n: usize) {
             return;
         }
         let property = r.property;
-        fields(property, k, n);
+        fields(out, property, k, n);
         let from = r.from;
         let to = r.to;
-        print::dump::content(&s[from..to], n);
+        print::dump::content(out, &s[from..to], n);
         at = to;
         left = r.left;
         k += 1;
     }
 }
 
-fn fields(p: Property, k: usize, n: usize) {
-    print::line::named(n, b"property ");
-    print::decimal(k as u64);
-    print::text(b": class ");
+fn fields(out: &mut Buffer, p: Property, k: usize, n: usize) {
+    print::line::named(out, n, b"property ");
+    print::decimal(out, k as u64);
+    print::text(out, b": class ");
     let clsid = p.clsid;
-    print::guid(clsid);
-    print::text(b", policy ");
+    print::guid(out, clsid);
+    print::text(out, b", policy ");
     let policy = p.policy;
-    print::guid(policy);
-    flags(p.flags);
+    print::guid(out, policy);
+    flags(out, p.flags);
 }
 
-fn flags(f: u32) {
+fn flags(out: &mut Buffer, f: u32) {
     match f {
-        1 => print::text(b", flags 1 (propagate), "),
-        2 => print::text(b", flags 2 (expose), "),
-        _ => print::text(b", flags 4 (envoy), "),
+        1 => print::text(out, b", flags 1 (propagate), "),
+        2 => print::text(out, b", flags 2 (expose), "),
+        _ => print::text(out, b", flags 4 (envoy), "),
     }
 }

@@ -1,6 +1,7 @@
 // Reads an object reference of at most 65,536 bytes from standard input and prints its fields, one to a line; a reference inside it
 // further in.
 use kinds::answer;
+use print::Buffer;
 use references::Reference;
 
 mod context;
@@ -15,61 +16,63 @@ fn main() {
 // Reads into a buffer that is one byte longer than a reference may be.
 fn whole(input: &mut [u8]) {
     let n = io::read_full(0, input);
+    let mut out: Buffer = [0; print::ROOM];
     if 65536 < n {
-        print::text(b"too long: more than 65,536 bytes\n");
-        return;
+        print::text(&mut out, b"too long: more than 65,536 bytes\n");
+    } else {
+        report(&mut out, &input[..n]);
     }
-    report(&input[..n]);
+    print::flush(&mut out);
 }
 
-fn report(s: &[u8]) {
+fn report(out: &mut Buffer, s: &[u8]) {
     let number = references::reference_answer(s);
     if number == answer::DONE {
-        nest(s, 0);
+        nest(out, s, 0);
     } else {
-        refused(number);
+        refused(out, number);
     }
 }
 
 // A reference at depth n, from 0, and the reference in its element.
-fn nest(s: &[u8], n: usize) {
+fn nest(out: &mut Buffer, s: &[u8], n: usize) {
     if Reference::DEPTH <= n {
         return;
     }
-    single(s, n);
+    single(out, s, n);
     let x = references::element_data(s, 0);
     if elements::is_reference(x) {
-        nest(x, n + 1);
+        nest(out, x, n + 1);
     }
 }
 
-fn single(s: &[u8], n: usize) {
+fn single(out: &mut Buffer, s: &[u8], n: usize) {
     let r = Reference::read(s);
     let reference = r.reference;
-    form::fields(reference, n);
+    form::fields(out, reference, n);
     if reference.flags == Reference::CUSTOM {
         let clsid = reference.clsid;
-        data::object(clsid, references::tail(s), n);
+        data::object(out, clsid, references::tail(s), n);
     } else {
-        print::list::parts(references::tail(s), n);
+        print::list::parts(out, references::tail(s), n);
     }
     if reference.flags == Reference::EXTENDED {
         let id = reference.element;
-        data::element(id, references::element_data(s, 0), n);
+        data::element(out, id, references::element_data(s, 0), n);
     }
 }
 
-fn refused(number: u32) {
-    print::text(b"refused ");
-    print::decimal(number as u64);
+fn refused(out: &mut Buffer, number: u32) {
+    print::text(out, b"refused ");
+    print::decimal(out, number as u64);
     if number == answer::SHORT {
-        print::text(b": the bytes end before a field does");
+        print::text(out, b": the bytes end before a field does");
     } else if number == answer::LAYOUT {
-        print::text(b": a layout rule is broken");
+        print::text(out, b": a layout rule is broken");
     } else if number == answer::TOO_DEEP {
-        print::text(b": references nested deeper than 8");
+        print::text(out, b": references nested deeper than 8");
     } else if number == answer::NIL_IDENTIFIER {
-        print::text(b": an OXID, OID or IPID is zero");
+        print::text(out, b": an OXID, OID or IPID is zero");
     }
-    print::end_line();
+    print::end_line(out);
 }

@@ -1,22 +1,32 @@
 // Bytes in hex, at depth n.
+use crate::Buffer;
 use crate::line;
+use crate::pattern;
 ghost use Prim.Native.Nat.{_≤_};
 
-// The length, and the first 64 bytes in hex, 16 to a line.
-pub fn content(s: &[u8], n: usize) {
-    crate::decimal(s.len() as u64);
-    crate::text(b" bytes\n");
-    rows(s, n);
+// The length, and the first 64 bytes in hex, 16 to a line; then how many more there are.
+pub fn content(out: &mut Buffer, s: &[u8], n: usize) {
+    crate::decimal(out, s.len() as u64);
+    crate::text(out, b" bytes\n");
+    rows(out, s, n);
+    if 64 < s.len() {
+        more(out, s.len() - 64, n);
+    }
 }
 
-fn rows(s: &[u8], n: usize) {
+fn more(out: &mut Buffer, k: usize, n: usize) {
+    line::margin(out, n);
+    pattern::filled(out, b"  ... # more bytes\n", &[k as u64]);
+}
+
+fn rows(out: &mut Buffer, s: &[u8], n: usize) {
     let mut at = 0;
     while at < 64 {
         if s.len() <= at {
             return;
         }
         let end = row_end(at, s.len());
-        row(at, &s[at..end], n);
+        row(out, at, &s[at..end], n);
         at += 16;
     }
 }
@@ -30,23 +40,23 @@ fn row_end(at: usize, n: usize) -> usize
 }
 
 // The bytes from number at.
-fn row(at: usize, s: &[u8], n: usize) {
-    line::named(n, b"  ");
-    crate::hex(at as u64, 2);
-    crate::text(b":");
-    spaced(s);
-    crate::end_line();
+fn row(out: &mut Buffer, at: usize, s: &[u8], n: usize) {
+    line::named(out, n, b"  ");
+    crate::hex(out, at as u64, 2);
+    crate::text(out, b":");
+    spaced(out, s);
+    crate::end_line(out);
 }
 
-fn spaced(s: &[u8]) {
+fn spaced(out: &mut Buffer, s: &[u8]) {
     let mut i = 0;
     while i < s.len() {
-        byte(s[i]);
+        byte(out, s[i]);
         i += 1;
     }
 }
 
-fn byte(b: u8) {
-    crate::text(b" ");
-    crate::hex(b as u64, 2);
+fn byte(out: &mut Buffer, b: u8) {
+    crate::text(out, b" ");
+    crate::hex(out, b as u64, 2);
 }

@@ -1,36 +1,45 @@
 // The bindings of a list, at depth n.
+use crate::Buffer;
 use crate::line;
+use crate::pattern;
 use crate::words;
 use bindings::Part;
 use cursors::parts;
 use kinds::answer;
 
-pub fn parts(s: &[u8], n: usize) {
-    part(s, Part::Strings, n);
-    part(s, Part::Security, n);
+// The list's N and S (document 01), then its bindings.
+pub fn parts(out: &mut Buffer, s: &[u8], n: usize) {
+    line::margin(out, n);
+    pattern::filled(
+        out,
+        b"binding list: N #, S #\n",
+        &[fields::read_u16(s, 0) as u64, fields::read_u16(s, 2) as u64],
+    );
+    part(out, s, Part::Strings, n);
+    part(out, s, Part::Security, n);
 }
 
 // A line for each binding of a part, or one that says that there is none.
-fn part(s: &[u8], p: Part, n: usize) {
+fn part(out: &mut Buffer, s: &[u8], p: Part, n: usize) {
     let c = parts::start(s, p);
     let first = parts::next(s, p, c.at, c.left);
     if first.answer == answer::DONE {
-        all(s, p, c.at, c.left, n);
+        all(out, s, p, c.at, c.left, n);
     } else {
-        none(p, n);
+        none(out, p, n);
     }
 }
 
-fn none(p: Part, n: usize) {
-    line::margin(n);
+fn none(out: &mut Buffer, p: Part, n: usize) {
+    line::margin(out, n);
     match p {
-        Part::Strings => crate::text(b"string bindings: none\n"),
-        Part::Security => crate::text(b"security bindings: none\n"),
+        Part::Strings => crate::text(out, b"string bindings: none\n"),
+        Part::Security => crate::text(out, b"security bindings: none\n"),
     }
 }
 
 // The bindings of a part from at on. A list has at most 65,535 words, so it has fewer bindings than the bound.
-fn all(s: &[u8], p: Part, at: usize, words: usize, n: usize) {
+fn all(out: &mut Buffer, s: &[u8], p: Part, at: usize, words: usize, n: usize) {
     let mut i = at;
     let mut left = words;
     let mut k = 0;
@@ -41,60 +50,60 @@ fn all(s: &[u8], p: Part, at: usize, words: usize, n: usize) {
         }
         let from = b.from;
         let to = b.to;
-        binding(p, k, &s[from..to], n);
+        binding(out, p, k, &s[from..to], n);
         i = to;
         left = b.left;
         k += 1;
     }
 }
 
-fn binding(p: Part, k: usize, b: &[u8], n: usize) {
-    line::margin(n);
+fn binding(out: &mut Buffer, p: Part, k: usize, b: &[u8], n: usize) {
+    line::margin(out, n);
     match p {
-        Part::Strings => string_binding(k, b),
-        Part::Security => security_binding(k, b),
+        Part::Strings => string_binding(out, k, b),
+        Part::Security => security_binding(out, k, b),
     }
 }
 
-fn string_binding(k: usize, b: &[u8]) {
+fn string_binding(out: &mut Buffer, k: usize, b: &[u8]) {
     let tower = fields::read_u16(b, 0);
-    crate::text(b"string binding ");
-    crate::decimal(k as u64);
-    crate::text(b": tower ");
-    crate::decimal(tower as u64);
-    crate::text(b" (");
-    protocol(tower);
-    crate::text(b"), address ");
-    words::text(b, 1);
-    crate::end_line();
+    pattern::filled(
+        out,
+        b"string binding #: tower # (",
+        &[k as u64, tower as u64],
+    );
+    protocol(out, tower);
+    crate::text(out, b"), address ");
+    words::text(out, b, 1);
+    crate::end_line(out);
 }
 
-fn security_binding(k: usize, b: &[u8]) {
+fn security_binding(out: &mut Buffer, k: usize, b: &[u8]) {
     let service = fields::read_u16(b, 0);
-    crate::text(b"security binding ");
-    crate::decimal(k as u64);
-    crate::text(b": service ");
-    crate::decimal(service as u64);
-    crate::text(b" (0x");
-    crate::hex(service as u64, 4);
-    crate::text(b"), second word 0x");
-    crate::hex(fields::read_u16(b, 2) as u64, 4);
-    crate::text(b", principal name ");
-    words::text(b, 2);
-    crate::end_line();
+    pattern::filled(
+        out,
+        b"security binding #: service # (0x",
+        &[k as u64, service as u64],
+    );
+    crate::hex(out, service as u64, 4);
+    crate::text(out, b"), second word 0x");
+    crate::hex(out, fields::read_u16(b, 2) as u64, 4);
+    crate::text(out, b", principal name ");
+    words::text(out, b, 2);
+    crate::end_line(out);
 }
 
 // The protocol of a tower number (document 001, section 3.2).
-fn protocol(tower: u16) {
+fn protocol(out: &mut Buffer, tower: u16) {
     match tower {
-        0x04 => crate::text(b"ncacn_dnet_nsp"),
-        0x07 => crate::text(b"ncacn_ip_tcp"),
-        0x08 => crate::text(b"ncadg_ip_udp"),
-        0x0C => crate::text(b"ncacn_spx"),
-        0x0D => crate::text(b"ncacn_nb_ipx"),
-        0x0E => crate::text(b"ncadg_ipx"),
-        0x10 => crate::text(b"ncalrpc"),
-        0x12 => crate::text(b"ncacn_nb_nb"),
-        _ => crate::text(b"unknown"),
+        0x04 => crate::text(out, b"ncacn_dnet_nsp"),
+        0x07 => crate::text(out, b"ncacn_ip_tcp"),
+        0x08 => crate::text(out, b"ncadg_ip_udp"),
+        0x0C => crate::text(out, b"ncacn_spx"),
+        0x0D => crate::text(out, b"ncacn_nb_ipx"),
+        0x0E => crate::text(out, b"ncadg_ipx"),
+        0x10 => crate::text(out, b"ncalrpc"),
+        0x12 => crate::text(out, b"ncacn_nb_nb"),
+        _ => crate::text(out, b"unknown"),
     }
 }

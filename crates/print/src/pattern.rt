@@ -1,7 +1,8 @@
 // Text with numbers in it.
+use crate::Buffer;
 
 // A text in which # stands for the next of the numbers in decimal, and % for it in hex.
-pub fn filled(what: &[u8], numbers: &[u64]) {
+pub fn filled(out: &mut Buffer, what: &[u8], numbers: &[u64]) {
     let mut k = 0;
     let mut from = 0;
     let mut i = 0;
@@ -9,13 +10,13 @@ pub fn filled(what: &[u8], numbers: &[u64]) {
         let c = what[i];
         i += 1;
         if is_number(c) {
-            crate::text(&what[from..i - 1]);
-            number(c, numbers, k);
+            crate::text(out, &what[from..i - 1]);
+            number(out, c, numbers, k);
             k += 1;
             from = i;
         }
     }
-    crate::text(&what[from..]);
+    crate::text(out, &what[from..]);
 }
 
 fn is_number(c: u8) -> bool {
@@ -25,19 +26,19 @@ fn is_number(c: u8) -> bool {
     c == b'%'
 }
 
-fn number(c: u8, numbers: &[u64], k: usize) {
+fn number(out: &mut Buffer, c: u8, numbers: &[u64], k: usize) {
     if k < numbers.len() {
         if c == b'#' {
-            crate::decimal(numbers[k]);
+            crate::decimal(out, numbers[k]);
         } else {
-            crate::hex(numbers[k], 1);
+            crate::hex(out, numbers[k], 1);
         }
     }
 }
 
 // A text in which a mark stands for the next number of the bytes: # of 8 bytes in decimal, % of 8 in hex, $ of 4 and & of 2 in
 // decimal, ! of 1 as yes or no, @ a GUID.
-pub fn told(what: &[u8], s: &[u8]) {
+pub fn told(out: &mut Buffer, what: &[u8], s: &[u8]) {
     let mut at = 0;
     let mut from = 0;
     let mut i = 0;
@@ -46,14 +47,14 @@ pub fn told(what: &[u8], s: &[u8]) {
         let w = width(c);
         i += 1;
         if 0 < w {
-            crate::text(&what[from..i - 1]);
+            crate::text(out, &what[from..i - 1]);
             let rest = &s[at..];
-            marked(c, rest);
+            marked(out, c, rest);
             at += fields::within(rest, w);
             from = i;
         }
     }
-    crate::text(&what[from..]);
+    crate::text(out, &what[from..]);
 }
 
 // The bytes of the number that a mark stands for; 0 of any other character.
@@ -68,13 +69,13 @@ fn width(c: u8) -> usize {
     }
 }
 
-fn marked(c: u8, s: &[u8]) {
+fn marked(out: &mut Buffer, c: u8, s: &[u8]) {
     match c {
-        b'#' => crate::decimal(fields::read_u64(s, 0)),
-        b'%' => crate::hex(fields::read_u64(s, 0), 16),
-        b'$' => crate::decimal(fields::read_u32(s, 0) as u64),
-        b'&' => crate::decimal(fields::read_u16(s, 0) as u64),
-        b'!' => crate::either(fields::is_zero(s, 0, 1), b"no", b"yes"),
-        _ => crate::guid(fields::read_guid(s, 0)),
+        b'#' => crate::decimal(out, fields::read_u64(s, 0)),
+        b'%' => crate::hex(out, fields::read_u64(s, 0), 16),
+        b'$' => crate::decimal(out, fields::read_u32(s, 0) as u64),
+        b'&' => crate::decimal(out, fields::read_u16(s, 0) as u64),
+        b'!' => crate::either(out, fields::is_zero(s, 0, 1), b"no", b"yes"),
+        _ => crate::guid(out, fields::read_guid(s, 0)),
     }
 }

@@ -1,27 +1,28 @@
 // Text in words of 16 bits.
+use crate::Buffer;
 
 // The words of s from word number first up to a zero word.
-pub fn text(s: &[u8], first: usize) {
+pub fn text(out: &mut Buffer, s: &[u8], first: usize) {
     let mut i = first;
     while i < s.len() / 2 {
         let w = fields::read_u16(s, 2 * i);
         if w == 0 {
             return;
         }
-        unit(w);
+        unit(out, w);
         i += 1;
     }
 }
 
 // A printable ASCII character as it is, a backslash doubled, any other unit as \uXXXX.
-fn unit(w: u16) {
+fn unit(out: &mut Buffer, w: u16) {
     if w == 0x5C {
-        crate::text(b"\\\\");
+        crate::text(out, b"\\\\");
     } else if is_printable(w) {
-        character(w);
+        character(out, w);
     } else {
-        crate::text(b"\\u");
-        crate::hex(w as u64, 4);
+        crate::text(out, b"\\u");
+        crate::hex(out, w as u64, 4);
     }
 }
 
@@ -32,7 +33,7 @@ fn is_printable(w: u16) -> bool {
     w < 0x7F
 }
 
-fn character(w: u16) {
+fn character(out: &mut Buffer, w: u16) {
     let c = [(w % 128) as u8];
-    crate::text(&c);
+    crate::text(out, &c);
 }

@@ -1,10 +1,12 @@
 // A call and an answer as a record tells them: a line of text for each code, in which marks stand for the numbers.
+use print::Buffer;
 
 // The call of a section: its name and its numbers.
-pub fn call(s: &[u8]) {
+pub fn call(out: &mut Buffer, s: &[u8]) {
     let from = fields::within(s, 1);
-    print::text(b"call: ");
+    print::text(out, b"call: ");
     told(
+        out,
         b"reset, time #\n\
         enter exporter, OXID 0x%, remote unknown @\n\
         remove exporter, OXID 0x%\n\
@@ -31,8 +33,9 @@ pub fn call(s: &[u8]) {
 }
 
 // The answer of a call of this code: its number and its results.
-pub fn answer(code: u8, s: &[u8]) {
+pub fn answer(out: &mut Buffer, code: u8, s: &[u8]) {
     told(
+        out,
         b"#\n#\n#\n#\n#\n#\n\
         #, taken public #, private #, interfaces that went #, objects #\n\
         #\n#\n#\n#\n\
@@ -51,16 +54,16 @@ pub fn answer(code: u8, s: &[u8]) {
 }
 
 // The line of a code, with the numbers that stand in the bytes.
-fn told<'a>(lines: &'a [u8], code: u8, s: &'a [u8]) {
+fn told<'a>(out: &'a mut Buffer, lines: &'a [u8], code: u8, s: &'a [u8]) {
     let from = fields::within(lines, start(lines, code));
-    first(&lines[from..], s);
+    first(out, &lines[from..], s);
 }
 
 // The first line.
-fn first<'a>(lines: &'a [u8], s: &'a [u8]) {
+fn first<'a>(out: &'a mut Buffer, lines: &'a [u8], s: &'a [u8]) {
     let to = fields::within(lines, length(lines));
-    print::pattern::told(&lines[0..to], s);
-    print::end_line();
+    print::pattern::told(out, &lines[0..to], s);
+    print::end_line(out);
 }
 
 // Where line k begins, from 0.

@@ -2,6 +2,7 @@
 // its call, what was recorded and what we answer; then the tally.
 use kinds::answer;
 use kinds::limits;
+use print::Buffer;
 use tally::Tally;
 
 mod answers;
@@ -21,33 +22,46 @@ fn whole(input: &mut [u8; 1048577]) {
 fn read(input: &mut [u8]) {
     let n = io::read_full(0, input);
     if 1048576 < n {
-        print::text(b"too long: more than 1,048,576 bytes\n");
+        too_long();
         return;
     }
     report(&mut input[..n]);
 }
 
+fn too_long() {
+    let mut out: Buffer = [0; print::ROOM];
+    print::text(&mut out, b"too long: more than 1,048,576 bytes\n");
+    print::flush(&mut out);
+}
+
 fn report(s: &mut [u8]) {
+    let mut out: Buffer = [0; print::ROOM];
+    replayed(&mut out, s);
+    print::flush(&mut out);
+}
+
+fn replayed(out: &mut Buffer, s: &mut [u8]) {
     let mut words = [0u64; limits::WORDS];
     let mut store = [0u8; limits::BYTES];
     let r = resolver::replay(&mut words, &mut store, s);
     if r.answer != answer::DONE {
-        refused(r.answer);
+        refused(out, r.answer);
         return;
     }
     if r.differs == 0 {
-        print::text(b"agrees\n");
-        tallied(r.tally);
+        print::text(out, b"agrees\n");
+        tallied(out, r.tally);
         return;
     }
-    record::differing(&mut words, &mut store, s, r.differs);
-    tallied(r.tally);
+    record::differing(out, &mut words, &mut store, s, r.differs);
+    tallied(out, r.tally);
 }
 
 // What is held is the rest of what was granted.
-fn tallied(t: Tally) {
+fn tallied(out: &mut Buffer, t: Tally) {
     let gone = std::num::wrapping_add_u64(t.taken, t.rundown);
     print::pattern::filled(
+        out,
         b"granted #, taken #, run down #, held #\n",
         &[
             t.granted,
@@ -58,17 +72,18 @@ fn tallied(t: Tally) {
     );
 }
 
-fn refused(number: u32) {
-    print::text(b"refused ");
-    print::decimal(number as u64);
+fn refused(out: &mut Buffer, number: u32) {
+    print::text(out, b"refused ");
+    print::decimal(out, number as u64);
     if number == answer::SHORT {
-        print::text(b": the bytes end before a number or a section does");
+        print::text(out, b": the bytes end before a number or a section does");
     } else if number == answer::LAYOUT {
         print::text(
+            out,
             b": a record is not in the form of its call, or bytes stand behind the last one",
         );
     } else if number == answer::TOO_MANY {
-        print::text(b": more than 16,384 records");
+        print::text(out, b": more than 16,384 records");
     }
-    print::end_line();
+    print::end_line(out);
 }

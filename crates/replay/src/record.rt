@@ -1,16 +1,23 @@
 // The record that differs.
 use crate::answers;
 use crate::ours;
+use print::Buffer;
 
 // Record k, from 1: its call, what was recorded, and what we answer after the records before it, which are replayed once more.
-pub fn differing<'a>(words: &'a mut [u64], store: &'a mut [u8], s: &'a mut [u8], k: u32) {
+pub fn differing<'a>(
+    out: &'a mut Buffer,
+    words: &'a mut [u64],
+    store: &'a mut [u8],
+    s: &'a mut [u8],
+    k: u32,
+) {
     let left = std::num::wrapping_sub_u32(k, 1);
     let at = place(s, left);
-    print::pattern::filled(b"record # differs\n", &[k as u64]);
+    print::pattern::filled(out, b"record # differs\n", &[k as u64]);
     fields::write_u64(s, 0, left as u64);
     let end = fields::within(s, at);
     resolver::replay(words, store, &s[0..end]);
-    compared(words, store, s, at);
+    compared(out, words, store, s, at);
 }
 
 // Where the record after so many begins.
@@ -40,25 +47,35 @@ fn section<'a>(s: &'a [u8], from: usize, to: usize) -> &'a [u8] {
 }
 
 // The record from at, on a table that the records before it left.
-fn compared<'a>(words: &'a mut [u64], store: &'a mut [u8], s: &'a [u8], at: usize) {
+fn compared<'a>(
+    out: &'a mut Buffer,
+    words: &'a mut [u64],
+    store: &'a mut [u8],
+    s: &'a [u8],
+    at: usize,
+) {
     let e = recording::record_ends(s, at);
     let call = section(s, at, e.call);
     let first = section(s, e.call, e.first);
     let second = section(s, e.first, e.second);
     let shown = section(s, e.answer, e.shown);
-    answers::call(call);
-    listed(b"  list: ", first);
-    listed(b"  deletes: ", second);
-    print::text(b"recorded: ");
-    answers::answer(recording::byte(call, 0), section(s, e.second, e.answer));
-    listed(b"  shown: ", shown);
-    ours::compared(words, store, call, first, second, shown);
+    answers::call(out, call);
+    listed(out, b"  list: ", first);
+    listed(out, b"  deletes: ", second);
+    print::text(out, b"recorded: ");
+    answers::answer(
+        out,
+        recording::byte(call, 0),
+        section(s, e.second, e.answer),
+    );
+    listed(out, b"  shown: ", shown);
+    ours::compared(out, words, store, call, first, second, shown);
 }
 
 // Bytes, if there are any.
-pub fn listed(what: &[u8], s: &[u8]) {
+pub fn listed(out: &mut Buffer, what: &[u8], s: &[u8]) {
     if s.len() != 0 {
-        print::text(what);
-        print::dump::content(s, 1);
+        print::text(out, what);
+        print::dump::content(out, s, 1);
     }
 }

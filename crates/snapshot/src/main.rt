@@ -2,6 +2,7 @@
 // exporters, objects, interfaces and ping sets, one to a line.
 use kinds::answer;
 use kinds::limits;
+use print::Buffer;
 
 mod rows;
 mod sections;
@@ -14,15 +15,17 @@ fn main() {
 // Reads into a buffer that is one byte longer than a snapshot may be.
 fn whole(input: &mut [u8]) {
     let n = io::read_full(0, input);
-    report(&input[..n]);
+    let mut out: Buffer = [0; print::ROOM];
+    report(&mut out, &input[..n]);
+    print::flush(&mut out);
 }
 
-fn report(s: &[u8]) {
+fn report(out: &mut Buffer, s: &[u8]) {
     let number = load(s);
     if number == answer::DONE {
-        sections::print_all(s);
+        sections::print_all(out, s);
     } else {
-        refused(number);
+        refused(out, number);
     }
 }
 
@@ -33,8 +36,11 @@ fn load(s: &[u8]) -> u32 {
     call_load::load_snapshot(&mut words, &mut store, s)
 }
 
-fn refused(number: u32) {
-    print::text(b"refused ");
-    print::decimal(number as u64);
-    print::text(b": the bytes are not the snapshot of any sound table\n");
+fn refused(out: &mut Buffer, number: u32) {
+    print::text(out, b"refused ");
+    print::decimal(out, number as u64);
+    print::text(
+        out,
+        b": the bytes are not the snapshot of any sound table\n",
+    );
 }

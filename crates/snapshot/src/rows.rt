@@ -1,102 +1,103 @@
 // A row of each section, at the front of bytes: it is printed, and its length is answered.
+use print::Buffer;
 use snapshot_rows::Section;
 
-pub fn row(section: Section, s: &[u8], clock: u64) -> usize {
+pub fn row(out: &mut Buffer, section: Section, s: &[u8], clock: u64) -> usize {
     match section {
-        Section::Exporters => exporter(s),
-        Section::Objects => object(s, clock),
-        Section::Interfaces => interface(s),
-        Section::Sets => set(s, clock),
+        Section::Exporters => exporter(out, s),
+        Section::Objects => object(out, s, clock),
+        Section::Interfaces => interface(out, s),
+        Section::Sets => set(out, s, clock),
     }
 }
 
-fn id(before: &[u8], n: u64) {
-    print::text(before);
-    print::hex(n, 16);
+fn id(out: &mut Buffer, before: &[u8], n: u64) {
+    print::text(out, before);
+    print::hex(out, n, 16);
 }
 
-fn counted(before: &[u8], n: u64) {
-    print::text(before);
-    print::decimal(n);
+fn counted(out: &mut Buffer, before: &[u8], n: u64) {
+    print::text(out, before);
+    print::decimal(out, n);
 }
 
 // The seconds from a time to the clock.
-fn ago(before: &[u8], time: u64, clock: u64) {
+fn ago(out: &mut Buffer, before: &[u8], time: u64, clock: u64) {
     if time <= clock {
-        counted(before, clock - time);
-        print::text(b" seconds ago");
+        counted(out, before, clock - time);
+        print::text(out, b" seconds ago");
     }
 }
 
-fn exporter(s: &[u8]) -> usize {
+fn exporter(out: &mut Buffer, s: &[u8]) -> usize {
     let n = fields::read_u16(s, 24) as usize;
-    id(b"  OXID 0x", fields::read_u64(s, 0));
-    print::text(b", remote unknown ");
-    print::guid(fields::read_guid(s, 8));
-    counted(b", list of ", n as u64);
-    print::text(b" bytes\n");
+    id(out, b"  OXID 0x", fields::read_u64(s, 0));
+    print::text(out, b", remote unknown ");
+    print::guid(out, fields::read_guid(s, 8));
+    counted(out, b", list of ", n as u64);
+    print::text(out, b" bytes\n");
     let end = 26 + n;
     if end <= s.len() {
-        print::list::parts(&s[26..end], 2);
+        print::list::parts(out, &s[26..end], 2);
     }
     end
 }
 
-fn object(s: &[u8], clock: u64) -> usize {
-    id(b"  OID 0x", fields::read_u64(s, 0));
-    id(b", exporter 0x", fields::read_u64(s, 8));
+fn object(out: &mut Buffer, s: &[u8], clock: u64) -> usize {
+    id(out, b"  OID 0x", fields::read_u64(s, 0));
+    id(out, b", exporter 0x", fields::read_u64(s, 8));
     if fields::is_zero(s, 16, 1) {
-        print::text(b", pinged");
+        print::text(out, b", pinged");
     } else {
-        print::text(b", not pinged");
+        print::text(out, b", not pinged");
     }
-    ago(b", heard ", fields::read_u64(s, 17), clock);
-    print::end_line();
+    ago(out, b", heard ", fields::read_u64(s, 17), clock);
+    print::end_line(out);
     25
 }
 
-fn interface(s: &[u8]) -> usize {
-    print::text(b"  IPID ");
-    print::guid(fields::read_guid(s, 0));
-    print::text(b", IID ");
-    print::guid(fields::read_guid(s, 16));
-    id(b", OID 0x", fields::read_u64(s, 32));
-    counted(b", public ", fields::read_u32(s, 40) as u64);
-    privates(s);
-    print::end_line();
+fn interface(out: &mut Buffer, s: &[u8]) -> usize {
+    print::text(out, b"  IPID ");
+    print::guid(out, fields::read_guid(s, 0));
+    print::text(out, b", IID ");
+    print::guid(out, fields::read_guid(s, 16));
+    id(out, b", OID 0x", fields::read_u64(s, 32));
+    counted(out, b", public ", fields::read_u32(s, 40) as u64);
+    privates(out, s);
+    print::end_line(out);
     76
 }
 
 // The private references of each client that has some.
-fn privates(s: &[u8]) {
+fn privates(out: &mut Buffer, s: &[u8]) {
     let mut client = 0;
     while client < 8 {
         let n = fields::read_u32(s, 44 + 4 * client);
         if n != 0 {
-            counted(b", client ", client as u64);
-            counted(b" private ", n as u64);
+            counted(out, b", client ", client as u64);
+            counted(out, b" private ", n as u64);
         }
         client += 1;
     }
 }
 
-fn set(s: &[u8], clock: u64) -> usize {
+fn set(out: &mut Buffer, s: &[u8], clock: u64) -> usize {
     let n = fields::read_u16(s, 18);
-    counted(b"  set ", fields::read_u64(s, 0));
-    counted(b", sequence ", fields::read_u16(s, 8) as u64);
-    ago(b", pinged ", fields::read_u64(s, 10), clock);
-    counted(b", members ", n as u64);
-    print::end_line();
-    members(s, n);
+    counted(out, b"  set ", fields::read_u64(s, 0));
+    counted(out, b", sequence ", fields::read_u16(s, 8) as u64);
+    ago(out, b", pinged ", fields::read_u64(s, 10), clock);
+    counted(out, b", members ", n as u64);
+    print::end_line(out);
+    members(out, s, n);
     20 + 8 * n as usize
 }
 
 // A line for each member.
-fn members(s: &[u8], n: u16) {
+fn members(out: &mut Buffer, s: &[u8], n: u16) {
     let mut k = 0;
     while k < n {
-        id(b"    OID 0x", fields::read_u64(s, 20 + 8 * k as usize));
-        print::end_line();
+        id(out, b"    OID 0x", fields::read_u64(s, 20 + 8 * k as usize));
+        print::end_line(out);
         k += 1;
     }
 }

@@ -51,7 +51,7 @@ fn read(reference: &[u8]) -> Block {
         b"client: reads the reference, OXID 0x%, OID 0x%, # public references, ",
         &[block.oxid.0, block.oid.0, block.public as u64],
     );
-    print::either(block.no_ping(), b"not pinged\n", b"pinged\n");
+    say::either(block.no_ping(), b"not pinged\n", b"pinged\n");
     block
 }
 
@@ -59,11 +59,11 @@ fn next_stop<'a>(log: &'a mut [u8], words: &'a [u64], store: &'a [u8], reference
     let place = resolver::next_stop_place(words, store, reference);
     let stop = resolver::next_stop(words, store, reference);
     recorder::next_stop(log, reference, place.answer, stop);
-    say::answer(place.answer);
-    print::either(
+    say::results(place.answer, b"client: asks where to go next, ", &[]);
+    say::either(
         place.in_store,
-        b"client: asks where to go next, the exporter's list, ",
-        b"client: asks where to go next, the reference's own list, ",
+        b"the exporter's list, ",
+        b"the reference's own list, ",
     );
     say::address(stop);
 }
@@ -283,12 +283,12 @@ fn released(r: Released) {
         b"client: gives 7 public and 1 private references back, took # and #",
         &[r.public as u64, r.private as u64],
     );
-    print::either(
+    say::either(
         r.interfaces == 0,
         b", no interface went",
         b", the interface went",
     );
-    print::either(
+    say::either(
         r.objects == 0,
         b", no object went\n",
         b", the object went\n",

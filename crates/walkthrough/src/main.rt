@@ -17,7 +17,7 @@ mod server;
 pub const LOG: usize = 8192;
 
 fn main() {
-    print::text(
+    say::text(
         b"     0 done, 4 the server has left, 6 the tank level group has ended, 11 the client was silent too long and begins anew\n",
     );
     let mut snapshot = [0u8; server::SNAPSHOT];
@@ -48,7 +48,7 @@ fn after_noon(log: &mut [u8; LOG], snapshot: &[u8; server::SNAPSHOT], set: SetId
     let clock = server::take_over(log, &mut words, &mut store, snapshot);
     client::leave(log, &mut words, &store, set);
     client::lose_other(log, &mut words, &store, set);
-    print::text(b"     the next client falls silent\n");
+    say::text(b"     the next client falls silent\n");
     server::offer(log, &mut words, &store, &mut reference);
     client::fall_silent(log, &mut words, &store, &reference, clock);
     server::close(log, &mut words, &mut store);
@@ -65,16 +65,18 @@ fn replay_bytes(log: &[u8]) {
     let mut store = [0u8; limits::BYTES];
     let end = fields::within(log, recorder::end(log));
     let r = resolver::replay(&mut words, &mut store, &log[0..end]);
-    say::answer(r.answer);
-    print::text(b"support: replays the day");
-    if r.differs == 0 {
-        print::text(b", agrees");
-    } else {
-        print::pattern::filled(b", record # differs", &[r.differs as u64]);
-    }
     let t = r.tally;
-    print::pattern::filled(
-        b", granted #, taken #, run down #\n",
-        &[t.granted, t.taken, t.rundown],
-    );
+    if r.differs == 0 {
+        say::results(
+            r.answer,
+            b"support: replays the day, agrees, granted #, taken #, run down #\n",
+            &[t.granted, t.taken, t.rundown],
+        );
+    } else {
+        say::results(
+            r.answer,
+            b"support: replays the day, record # differs, granted #, taken #, run down #\n",
+            &[r.differs as u64, t.granted, t.taken, t.rundown],
+        );
+    }
 }

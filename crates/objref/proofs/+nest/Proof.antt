@@ -13,14 +13,14 @@ use Rattle.references.proofs.element_data.Reads as element-data-reads
 use Rattle.objref.proofs.+nest.{statement}
 use Rattle.objref.proofs.+nest.Tie.{close}
 
-abbrev μ-nest : Measures 1 nest-kinds.ps ℕ
-μ-nest κs a = 8 - a .1 .0
+abbrev μ-nest : Measures 2 nest-kinds.ps ℕ
+μ-nest κs a = 8 - a .1 .1 .0
 
-abbrev nest-at : ℕ → In 1 nest-kinds.ps
-nest-at t = and 1 nest-kinds.ps (is 1 nest-kinds.ps μ-nest t) nest.Pre
+abbrev nest-at : ℕ → In 2 nest-kinds.ps
+nest-at t = and 2 nest-kinds.ps (is 2 nest-kinds.ps μ-nest t) nest.Pre
 
-abbrev nest-below : ℕ → In 1 nest-kinds.ps
-nest-below t = and 1 nest-kinds.ps (falls 1 nest-kinds.ps _<_ μ-nest t) nest.Pre
+abbrev nest-below : ℕ → In 2 nest-kinds.ps
+nest-below t = and 2 nest-kinds.ps (falls 2 nest-kinds.ps _<_ μ-nest t) nest.Pre
 
 -- what the callees of `nest` ask and promise
 abbrev nest-claims : ℕ → nest-lts.Claims
@@ -51,7 +51,7 @@ nest-add-nest : (t : ℕ) → nest-lts.Need-add-nest (nest-claims t) (nest-at t)
 nest-add-nest t c = search needs
 
 nest-nest-requires : (t : ℕ) → nest-lts.Need-nest-requires (nest-claims t) (nest-at t) nest.Post
-nest-nest-requires t c κs = (omega (arith, c .before .before .before .before .before .before .pre .0), tt)
+nest-nest-requires t c κs = (omega (arith, c .before .before .before .before .before .before .before .before .pre .0), tt)
 
 nest-returns-2 : (t : ℕ) → nest-lts.Need-returns-2 (nest-claims t) (nest-at t) nest.Post
 nest-returns-2 t c = search needs

@@ -6,10 +6,10 @@ use Rattle.objref.proofs.context.properties.Statement.{statement}
 use Rattle.objref.proofs.context.properties.Tie as tie
 
 abbrev Inv-loop : tie.InvT-loop
-Inv-loop s n at₀ left₀ k₀ at left k = Unit {0}
+Inv-loop out₀ s n at₀ left₀ k₀ out at left k = Unit {0}
 
 abbrev μ-loop : tie.MeasureT-loop
-μ-loop s n at₀ left₀ k₀ at left k = 65536 - k
+μ-loop out₀ s n at₀ left₀ k₀ out at left k = 65536 - k
 
 pub properties-spec : {M : Type 1} → statement M
 properties-spec =

@@ -5,10 +5,10 @@ use Rattle.print.proofs.dump.rows.Statement.{statement}
 use Rattle.print.proofs.dump.rows.Tie as tie
 
 abbrev Inv-loop : tie.InvT-loop
-Inv-loop s n at₀ at = Unit {0}
+Inv-loop out₀ s n at₀ out at = Unit {0}
 
 abbrev μ-loop : tie.MeasureT-loop
-μ-loop s n at₀ at = 64 - at
+μ-loop out₀ s n at₀ out at = 64 - at
 
 pub rows-spec : {M : Type 1} → statement M
 rows-spec =

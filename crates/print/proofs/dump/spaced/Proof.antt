@@ -6,10 +6,10 @@ use Rattle.print.proofs.dump.spaced.Statement.{statement}
 use Rattle.print.proofs.dump.spaced.Tie as tie
 
 abbrev Inv-loop : tie.InvT-loop
-Inv-loop s i₀ i = i ≤ length s
+Inv-loop out₀ s i₀ out i = i ≤ length s
 
 abbrev μ-loop : tie.MeasureT-loop
-μ-loop s i₀ i = length s - i
+μ-loop out₀ s i₀ out i = length s - i
 
 pub spaced-spec : {M : Type 1} → statement M
 spaced-spec =

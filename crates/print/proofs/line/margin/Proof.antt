@@ -5,10 +5,10 @@ use Rattle.print.proofs.line.margin.Statement.{statement}
 use Rattle.print.proofs.line.margin.Tie as tie
 
 abbrev Inv-loop : tie.InvT-loop
-Inv-loop n i₀ t3 i = Unit {0}
+Inv-loop out₀ n i₀ t4 out i = Unit {0}
 
 abbrev μ-loop : tie.MeasureT-loop
-μ-loop n i₀ t3 i = n - i
+μ-loop out₀ n i₀ t4 out i = n - i
 
 pub margin-spec : {M : Type 1} → statement M
 margin-spec =

@@ -6,10 +6,10 @@ use Rattle.print.proofs.list.all.Statement.{statement}
 use Rattle.print.proofs.list.all.Tie as tie
 
 abbrev Inv-loop : tie.InvT-loop
-Inv-loop s p at words n i₀ left₀ k₀ i left k = Unit {0}
+Inv-loop out₀ s p at words n i₀ left₀ k₀ out i left k = Unit {0}
 
 abbrev μ-loop : tie.MeasureT-loop
-μ-loop s p at words n i₀ left₀ k₀ i left k = 65536 - k
+μ-loop out₀ s p at words n i₀ left₀ k₀ out i left k = 65536 - k
 
 pub all-spec : {M : Type 1} → statement M
 all-spec =

@@ -6,10 +6,10 @@ use Rattle.print.proofs.pattern.filled.Statement.{statement}
 use Rattle.print.proofs.pattern.filled.Tie as tie
 
 abbrev Inv-loop : tie.InvT-loop
-Inv-loop what numbers k₀ from₀ i₀ k from i = (i ≤ length what) × (from ≤ i) × (k ≤ i)
+Inv-loop out₀ what numbers k₀ from₀ i₀ out k from i = (i ≤ length what) × (from ≤ i) × (k ≤ i)
 
 abbrev μ-loop : tie.MeasureT-loop
-μ-loop what numbers k₀ from₀ i₀ k from i = length what - i
+μ-loop out₀ what numbers k₀ from₀ i₀ out k from i = length what - i
 
 pub filled-spec : {M : Type 1} → statement M
 filled-spec =

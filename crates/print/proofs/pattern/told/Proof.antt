@@ -6,10 +6,10 @@ use Rattle.print.proofs.pattern.told.Statement.{statement}
 use Rattle.print.proofs.pattern.told.Tie as tie
 
 abbrev Inv-loop : tie.InvT-loop
-Inv-loop what s at₀ from₀ i₀ at from i = (i ≤ length what) × (from ≤ i) × (at ≤ length s)
+Inv-loop out₀ what s at₀ from₀ i₀ out at from i = (i ≤ length what) × (from ≤ i) × (at ≤ length s)
 
 abbrev μ-loop : tie.MeasureT-loop
-μ-loop what s at₀ from₀ i₀ at from i = length what - i
+μ-loop out₀ what s at₀ from₀ i₀ out at from i = length what - i
 
 pub told-spec : {M : Type 1} → statement M
 told-spec =

@@ -6,10 +6,10 @@ use Rattle.print.proofs.words.text.Statement.{statement}
 use Rattle.print.proofs.words.text.Tie as tie
 
 abbrev Inv-loop : tie.InvT-loop
-Inv-loop s first i₀ i = Unit {0}
+Inv-loop out₀ s first i₀ out i = Unit {0}
 
 abbrev μ-loop : tie.MeasureT-loop
-μ-loop s first i₀ i = length s / 2 - i
+μ-loop out₀ s first i₀ out i = length s / 2 - i
 
 pub text-spec : {M : Type 1} → statement M
 text-spec =

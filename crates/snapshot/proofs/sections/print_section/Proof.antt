@@ -6,10 +6,10 @@ use Rattle.snapshot.proofs.sections.print_section.Statement.{statement}
 use Rattle.snapshot.proofs.sections.print_section.Tie as tie
 
 abbrev Inv-loop : tie.InvT-loop
-Inv-loop s from section clock n at₀ i₀ at i = at ≤ length s
+Inv-loop out₀ s from section clock n at₀ i₀ out at i = at ≤ length s
 
 abbrev μ-loop : tie.MeasureT-loop
-μ-loop s from section clock n at₀ i₀ at i = n - i
+μ-loop out₀ s from section clock n at₀ i₀ out at i = n - i
 
 pub print-section-spec : {M : Type 1} → statement M
 print-section-spec =
