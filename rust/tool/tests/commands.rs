@@ -29,7 +29,7 @@ fn objref() {
         &["string binding 1", "string binding 0", "security binding"],
     );
     for line in [
-        "binding list: 118 bytes, N = 57, S = 37",
+        "binding list: N 57, S 37, 118 bytes",
         "  string 0: tower 7 (ncacn_ip_tcp), address plant-gw01[49668]",
         "  string 1: tower 8 (ncadg_ip_udp), address mühle-02[49671]",
         "  security 0: service 10 (NTLM), second word 0xffff, principal RPCSS/plant-gw01",

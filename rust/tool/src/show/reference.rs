@@ -34,7 +34,7 @@ fn level(out: &mut String, margin: &str, bytes: &[u8], paint: Paint) -> Result<(
     }
     let ((n, s), inner) = (sizes(tail), format!("{margin}  "));
     let length = many(tail.len(), "byte");
-    let _ = writeln!(out, "{margin}binding list: {length}, N = {n}, S = {s}");
+    let _ = writeln!(out, "{margin}binding list: N {n}, S {s}, {length}");
     bindings(out, &inner, tail)?;
     if r.flags == Reference::EXTENDED {
         element(out, margin, &r, Reference::element(bytes, 0)?, paint)?;

@@ -59,7 +59,7 @@ fn exporter(out: &mut String, s: &Snapshot, x: &Exporter, paint: Paint) -> Resul
     let (name, (n, w)) = (paint.bold("exporter"), sizes(x.list()));
     let length = x.list().len();
     let _ = writeln!(out, "{name} {:#018x}, remote unknown {}", x.oxid, x.unknown);
-    let _ = writeln!(out, "  binding list: {length} bytes, N = {n}, S = {w}");
+    let _ = writeln!(out, "  binding list: N {n}, S {w}, {length} bytes");
     bindings(out, "    ", x.list())?;
     for o in s.objects.iter().filter(|o| o.exporter == x.oxid) {
         object(out, s, o, paint);
