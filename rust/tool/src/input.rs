@@ -3,6 +3,7 @@
 //! never takes one for hex.
 
 use crate::progress::Progress;
+use crate::show::seen;
 use std::fs::File;
 use std::io::{self, Read};
 
@@ -219,14 +220,7 @@ fn shown_bytes(body: &str) -> Option<Vec<u8>> {
     let gaps = body.match_indices("  ").map(|(at, _)| at);
     gaps.filter(|at| *at > 0).find_map(|at| {
         let bytes = digits(&body[..at]).ok().filter(|b| !b.is_empty())?;
-        let seen = |b: &u8| {
-            if matches!(b, b' '..=b'~') {
-                *b as char
-            } else {
-                '.'
-            }
-        };
-        let text: String = bytes.iter().map(seen).collect();
+        let text = seen(&bytes);
         let rest = &body[at..];
         let before = rest
             .strip_suffix(&format!("|{text}|"))

@@ -1,6 +1,7 @@
 //! Binding lists (DUALSTRINGARRAY).
 
 use super::{Walk, Walked};
+use crate::show::many;
 
 /// The list at the front of what is left.
 pub fn front(walk: &mut Walk) -> Walked<()> {
@@ -48,11 +49,8 @@ fn part(words: &[u16], head: usize, name: &str) -> Result<(), (usize, String)> {
     match words.len() - at {
         1 => Ok(()),
         left => {
-            let words = if left == 2 { "word" } else { "words" };
-            let rule = format!(
-                "a zero word ends the {name} part, but it has {} {words} more",
-                left - 1
-            );
+            let more = many(left - 1, "word");
+            let rule = format!("a zero word ends the {name} part, but it has {more} more");
             Err((at, rule))
         }
     }

@@ -49,6 +49,15 @@ pub fn plain_hex(bytes: &[u8]) -> Json {
     json::text(bytes.iter().map(|b| format!("{b:02x}")).collect::<String>())
 }
 
+/// Bytes as a dump shows them: printable ASCII, and points for the others.
+pub fn seen(bytes: &[u8]) -> String {
+    let shown = |b: &u8| match b {
+        b' '..=b'~' => *b as char,
+        _ => '.',
+    };
+    bytes.iter().map(shown).collect()
+}
+
 /// A text of a binding, with what can't be printed escaped; half a pair as its unit.
 pub fn text(text: Text) -> String {
     let mut out = String::new();
@@ -86,14 +95,7 @@ pub fn dump(out: &mut String, margin: &str, data: &[u8], place: usize) {
     let (before, shown) = data.split_at(from.min(data.len()));
     cut(out, before.len(), "before");
     for (k, row) in shown.chunks(ROW).take(SHOWN / ROW).enumerate() {
-        let seen = |b: &u8| {
-            if matches!(b, b' '..=b'~') {
-                *b as char
-            } else {
-                '.'
-            }
-        };
-        let text: String = row.iter().map(seen).collect();
+        let text = seen(row);
         let at = from + ROW * k;
         let _ = writeln!(out, "{margin}{at:04x}: {:<47}  {text}", hex(row));
     }
