@@ -13,9 +13,9 @@ use Rattle.lists.proofs.Tests.{and-intro}
 use Rattle.lists.proofs.Lists.{every-nil}
 use Rattle.lists.proofs.Distinct.{distinct-cons}
 use Rattle.lists.proofs.Guids.{guid-decides}
-use Rattle.table_columns.specs.Buckets.{guidBucket}
+use Rattle.table_columns.specs.Buckets.{guidBucket, lowBucket}
 use Rattle.table_columns.proofs.buckets.Marks.{marked-none, marked-kept, marked-one, unmarked, repeated}
-use Rattle.identifiers.specs.Index.{lowBucket, MarkedTwice, Entered}
+use Rattle.identifiers.specs.Index.{MarkedTwice, Entered}
 use Rattle.identifiers.proofs.Laws.{fails-at}
 
 -- a GUID is not nil

@@ -8,7 +8,7 @@ use lib.Dec.{eqb, ltb}
 use Rattle.kinds.specs.declared.Guid.{Guid}
 use Rattle.lists.specs.Lists.{every, nonzero, distinct, among}
 use Rattle.lists.specs.Guids.{nil, sameGuid}
-use Rattle.table_columns.specs.Buckets.{guidBucket, wordBucket, Marked}
+use Rattle.table_columns.specs.Buckets.{guidBucket, lowBucket, wordBucket, Marked}
 
 -- each number is above the one before it, and the first above a
 unfoldable pub climbing : ℕ → List ℕ → Bool
@@ -29,10 +29,6 @@ pub record Noted (col rows : List ℕ) (r : Bool) : Type 0 where
 pub record RowOf (x : ℕ) (col : List ℕ) (r : ℕ) : Type 0 where
   pub here : r < length col → getD col r 0 ≡ x
   pub absent : length col ≤ r → among col x ≡ false
-
--- a second bucket of a GUID
-abbrev pub lowBucket : Guid → ℕ
-lowBucket g = g .low % 4096
 
 -- both buckets of each GUID are marked
 pub record MarkedTwice (marks : List Bool) (xs : List Guid) : Type 0 where

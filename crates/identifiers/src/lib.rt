@@ -14,7 +14,7 @@ ghost use Rattle.lists.specs.Lists.{every, some, nonzero, distinct, among};
 ghost use Rattle.lists.specs.Guids.{sameGuid};
 ghost use Rattle.table_columns.specs.Guids.{guids};
 ghost use Rattle.table_columns.specs.Buckets.{wordBucket};
-ghost use Rattle.identifiers.specs.Index.{climbing, Indexed, Noted, RowOf, lowBucket, MarkedTwice, Entered};
+ghost use Rattle.identifiers.specs.Index.{climbing, Indexed, Noted, RowOf, MarkedTwice, Entered};
 
 // The bucket of a word among m.
 fn bucket(x: u64, m: usize) -> usize
@@ -160,13 +160,6 @@ fn stands_later<'a>(
     table_columns::has_guid(lows2, highs2, g)
 }
 
-// A second bucket of a GUID, so that two in one bucket are rarely in one by both.
-fn low_bucket(g: Guid) -> usize
-    ensures { λ r. ⌜ (r ≡ lowBucket g) × (r < 4096) ⌝ }
-{
-    (g.low % 4096) as usize
-}
-
 // Whether the GUIDs of two columns are proper before those of two more, whose buckets are marked; marks theirs as well. From the
 // last GUID to the first: where one of its buckets is not yet marked, no later GUID is the same.
 pub fn enter_guids<'a>(
@@ -192,7 +185,7 @@ pub fn enter_guids<'a>(
             return false;
         }
         let b = buckets::of_guid(g);
-        let k = low_bucket(g);
+        let k = buckets::low_of_guid(g);
         if marks[b] {
             if marks[k] {
                 if stands_later(lows, highs, next, lows2, highs2, g) {

@@ -1,9 +1,10 @@
 -- Buckets: numbers below 4,096, one for each GUID and each word, under which the same ones are found.
 use Prim.Native.Nat.{ℕ, _+_, _*_, _/_, _%_}
 use mathlib.Core.Path.{_≡_}
-use mathlib.Core.Bool.{Bool, true, false}
+use mathlib.Core.Bool.{Bool, true, false, not}
 use mathlib.Core.List.{List}
 use lib.ListN.{length, getD}
+use lib.Dec.{eqb}
 use Rattle.kinds.specs.declared.Guid.{Guid}
 use Rattle.lists.specs.Lists.{every}
 
@@ -13,6 +14,10 @@ guidBucket g =
     (g .low % 4294967296 * 1013904223 + g .low / 4294967296 * 668265263 + (g .high % 4294967296 * 374761393 + g .high / 4294967296 * 461845907))
     / 1048576 % 4096
 
+-- a second bucket of a GUID
+abbrev pub lowBucket : Guid → ℕ
+lowBucket g = g .low % 4096
+
 abbrev pub wordBucket : ℕ → ℕ
 wordBucket x = guidBucket (record { low = x; high = 0 })
 
@@ -20,3 +25,8 @@ wordBucket x = guidBucket (record { low = x; high = 0 })
 pub record Marked {A : Type 0} (bucket : A → ℕ) (marks : List Bool) (xs : List A) : Type 0 where
   pub size : length marks ≡ 4096
   pub each : every (λ x. getD marks (bucket x) false) xs ≡ true
+
+-- a number for each bucket: 0, or one more than a row to try; that of each element's bucket is not 0
+pub record Indexed {A : Type 0} (bucket : A → ℕ) (rows : List ℕ) (xs : List A) : Type 0 where
+  pub size : length rows ≡ 4096
+  pub each : every (λ x. not (eqb (getD rows (bucket x) 0) 0)) xs ≡ true

@@ -39,7 +39,7 @@ loop-again c =
     let l = c .before .before .before .before .before .before .before .before .loop in
     let g = c .before .before .before .before .before .before .guid-at in
     let b = c .before .before .before .of-guid in
-    let k = c .before .before .low-bucket in
+    let k = c .before .before .low-of-guid in
     let m = l .inv .1 .marked in
     let n = sym (c .before .before .before .before .before .is-nil .ensures) ∙ c .before .before .before .before .if1 .left in (
       search needs,
