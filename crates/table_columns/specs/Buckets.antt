@@ -1,5 +1,5 @@
 -- Buckets: numbers below 4,096, one for each GUID and each word, under which the same ones are found.
-use Prim.Native.Nat.{ℕ, _+_, _*_, _/_, _%_}
+use Prim.Native.Nat.{ℕ, _+_, _*_, _/_, _%_, _^_}
 use mathlib.Core.Path.{_≡_}
 use mathlib.Core.Bool.{Bool, true, false, not}
 use mathlib.Core.List.{List}
@@ -8,18 +8,17 @@ use lib.Dec.{eqb}
 use Rattle.kinds.specs.declared.Guid.{Guid}
 use Rattle.lists.specs.Lists.{every}
 
--- middle bits of a sum of products, so that identifiers that count up by any step spread; the factors are odd and below 2 ^ 30
-unfoldable pub guidBucket : Guid → ℕ
-guidBucket g =
-    (g .low % 4294967296 * 1013904223 + g .low / 4294967296 * 668265263 + (g .high % 4294967296 * 374761393 + g .high / 4294967296 * 461845907))
-    / 1048576 % 4096
+-- middle bits of a sum of products, so that words that count up by any step spread; the factors are odd and below 2 ^ 30
+unfoldable pub wordBucket : ℕ → ℕ
+wordBucket x = (x % 4294967296 * 961217543 + x / 4294967296 * 699039225) / 1048576 % 4096
+
+-- that of the sum of both halves, as 64 bits hold it
+abbrev pub guidBucket : Guid → ℕ
+guidBucket g = wordBucket ((g .low + g .high) % 2 ^ 64)
 
 -- a second bucket of a GUID
 abbrev pub lowBucket : Guid → ℕ
 lowBucket g = g .low % 4096
-
-abbrev pub wordBucket : ℕ → ℕ
-wordBucket x = guidBucket (record { low = x; high = 0 })
 
 -- a mark for each bucket; the bucket of each element is marked
 pub record Marked {A : Type 0} (bucket : A → ℕ) (marks : List Bool) (xs : List A) : Type 0 where
