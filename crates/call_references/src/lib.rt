@@ -48,12 +48,21 @@ pub fn interface_row<'a>(words: &'a [u64], store: &'a [u8], hint: u8, ipid: Guid
     ensures { λ r. ⌜ Holds (λ e. r ≡ interfaceRow e ipid) (now (words .entry)) ⌝ }
 {
     let row = hint as usize;
-    if row < find::interface_count(words) {
-        if is_same(find::ipid(words, row), ipid) {
-            return row;
-        }
+    if is_row(words, store, row, ipid) {
+        return row;
     }
     find::interface_row(words, ipid)
+}
+
+// Whether the interface at a row, which may be any number, has an IPID.
+pub fn is_row<'a>(words: &'a [u64], store: &'a [u8], row: usize, ipid: Guid) -> bool
+    requires { ⌜ SoundTable (memory (now words) (now store)) ⌝ }
+    ensures { λ r. ⌜ (r ≡ true → Holds (λ e. row ≡ interfaceRow e ipid) (now (words .entry))) ⌝ }
+{
+    if row < find::interface_count(words) {
+        return is_same(find::ipid(words, row), ipid);
+    }
+    false
 }
 
 fn is_same(a: Guid, b: Guid) -> bool

@@ -1,5 +1,5 @@
 -- `call_references::is_same`: both halves are.
-use mathlib.Core.Path.{_≡_, sym}
+use mathlib.Core.Path.{sym}
 use borrow.Author.Tests.{ne-eqb, eq-eqb}
 use Rattle.call_references.proofs.is_same.Statement.{statement}
 use Rattle.call_references.proofs.is_same.Tie as tie
