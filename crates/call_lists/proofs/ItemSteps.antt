@@ -1,27 +1,28 @@
 -- A step of an item's call is the item done; its number is a byte.
-use Prim.Native.Nat.{ℕ, _+_, _*_, _<_, _≤_}
+use Prim.Native.Nat.{ℕ, _+_, _-_, _*_, _<_, _≤_}
 use mathlib.Core.Path.{_≡_, refl, sym, subst, ap, _∙_}
 use mathlib.Core.Bool.{Bool, true, false, cond, not, _||_, true≢false}
-use mathlib.Core.List.{List}
+use mathlib.Core.List.{List, [], _∷_}
 use mathlib.Core.Logic.{⊎-elim}
 use native.Mathlib.Omega.{arith}
 use native.Mathlib.Nat.{add-zero}
 use borrow.Author.Tests.{eq-eqb, ne-eqb}
 use lib.ListN.{length, take, drop, length-drop}
-use lib.Seq.{length-take-le}
+use lib.Seq.{drop-drop, length-take-le}
 use Rattle.kinds.specs.Refusals.{order}
-use Rattle.kinds.specs.declared.Guid.{Guid}
-use Rattle.fields.specs.Fields.{bytesNumber, field, guidAt}
+use Rattle.fields.specs.Fields.{bytesNumber, field}
 use Rattle.fields.proofs.Fields.{field-in, part-of}
 use Rattle.lists.proofs.Tests.{same-or-not}
 use Rattle.rules.specs.Entries.{Entries, publicOf, privateOf}
-use Rattle.rules.specs.Calls.{Counting, adding, releasing, Reply}
-use Rattle.rules.specs.Items.{Item, itemAt, itemCall}
+use Rattle.rules.specs.Calls.{Counting, adding, releasing, Reply, numbered}
+use Rattle.rules.specs.Items.{Item, itemAt, itemCall, itemCount}
 use Rattle.rules.specs.Rules.{isLiveInterface, interfaceOf, passesCount, noClient, refusals, number, next}
 use Rattle.rules.specs.Contract.{Memory}
 use Rattle.rules.proofs.Stepping.{reply-number, step-sound}
 use Rattle.rules.proofs.OneByOne.{item-done}
-use Rattle.table_view.specs.View.{view, SoundTable, Stepped}
+use Rattle.table_view.specs.View.{memory, view, SoundTable, Stepped}
+use Rattle.call_references.specs.Replies.{releaseReply}
+use Rattle.call_references.specs.declared.Released.{Released}
 use Rattle.call_lists.specs.Listing.{wayOf, ItemStepped}
 
 -- the numbers of an item are bytes
@@ -54,18 +55,16 @@ item-stepped w c t {m} {m′} {x} s p words store =
     }
 
 -- an item given back or added
-module _ (c : ℕ) (t : Item) {m m′ : Memory} {x : Reply} (h : SoundTable m) (words : length (m′ .words) ≡ 8192) (store : length (m′ .store) ≡ 8192) where
-  pub item-back : (b : Bool) → b ≡ true → Stepped (itemCall releasing c t) m x m′ → ItemStepped (wayOf b) c t m (x .number) m′
-  item-back false e r = absurd (true≢false (sym e))
-  item-back true e r = item-stepped releasing c t h r words store
+module _ (c : ℕ) (t : Item) (ws ws′ st : List ℕ) (h : SoundTable (memory ws st)) (l : length ws′ ≡ length ws) where
+  pub item-back : (b : Bool) (x : Released) → b ≡ true → Stepped (itemCall releasing c t) (memory ws st) (releaseReply x) (memory ws′ st)
+      → ItemStepped (wayOf b) c t (memory ws st) (x .answer) (memory ws′ st)
+  item-back false x e r = absurd (true≢false (sym e))
+  item-back true x e r = item-stepped releasing c t h r (l ∙ h .words) (h .store)
 
-  pub item-added : (b : Bool) → b ≡ false → Stepped (itemCall adding c t) m x m′ → ItemStepped (wayOf b) c t m (x .number) m′
-  item-added true e r = absurd (true≢false e)
-  item-added false e r = item-stepped adding c t h r words store
-
--- the item that was read is item k
-pub item-read : (s : List ℕ) (k : ℕ) {w : Counting} {c r : ℕ} {t : Item} {m m′ : Memory} → t ≡ itemAt s k → ItemStepped w c t m r m′ → ItemStepped w c (itemAt s k) m r m′
-item-read s k {w} {c} {r} {t} {m} {m′} e p = subst (λ (i : Item). ItemStepped w c i m r m′) e p
+  pub item-added : (b : Bool) (n : ℕ) → b ≡ false → Stepped (itemCall adding c t) (memory ws st) (numbered n) (memory ws′ st)
+      → ItemStepped (wayOf b) c t (memory ws st) n (memory ws′ st)
+  item-added true n e r = absurd (true≢false e)
+  item-added false n e r = item-stepped adding c t h r (l ∙ h .words) (h .store)
 
 -- a number in a part of the bytes
 part-field : (s : List ℕ) (at n k w : ℕ) → k + w ≤ n → at + n ≤ length s → field (take n (drop at s)) k w ≡ field s (at + k) w
@@ -76,10 +75,27 @@ part-field s at n k w h l =
     ∙ ap bytesNumber (sym (part-of s (take n (drop at s)) at n k w refl h))
     ∙ sym (field-in s (at + k) w (omega arith))
 
+-- a number of eight bytes is two of four
+halves : (l : List ℕ) → bytesNumber (take 8 l) ≡ bytesNumber (take 4 l) + 4294967296 * bytesNumber (take 4 (drop 4 l))
+unfolding bytesNumber
+halves [] = refl
+halves (a ∷ []) = omega arith
+halves (a ∷ b ∷ []) = omega arith
+halves (a ∷ b ∷ c ∷ []) = omega arith
+halves (a ∷ b ∷ c ∷ d ∷ l) = omega arith
+
+pub field-halves : (s : List ℕ) (at : ℕ) {p q : ℕ} → at + 8 ≤ length s → p ≡ field s at 4 → q ≡ field s (at + 4) 4 → p + 4294967296 * q ≡ field s at 8
+field-halves s at h e f =
+    rw (e, f, field-in s at 8 h, field-in s at 4 (omega arith), field-in s (at + 4) 4 (omega arith), ← drop-drop 4 at s) (sym (halves (drop at s)))
+
 -- the fields of item k, in its part of the bytes
-module _ (s : List ℕ) (at n k : ℕ) (e : at ≡ 24 * k) (z : n ≡ 24) (l : at + 24 ≤ length s) where
-  pub part-item : {i : Guid} {p q : ℕ} → i ≡ guidAt (take n (drop at s)) 0 → p ≡ field (take n (drop at s)) 16 4 → q ≡ field (take n (drop at s)) 20 4
-      → record { ipid = i; public = p; private = q } ≡ itemAt s k
-  part-item a b c =
-      let f : (j w : ℕ) → j + w ≤ 24 → field (take n (drop at s)) j w ≡ field s (24 * k + j) w = λ j w h. rw (z, ← e) (part-field s at 24 j w h l) in
-      rw (a, b, c, f 0 8 (omega arith), f 8 8 (omega arith), f 16 4 (omega arith), f 20 4 (omega arith), add-zero (24 * k))
+module _ (s : List ℕ) (k : ℕ) (l : k < itemCount s) where
+  abbrev itemPart : List ℕ
+  itemPart = take (24 * k + 24 - 24 * k) (drop (24 * k) s)
+
+  pub part-item : {x y p q : ℕ} → x ≡ field itemPart 0 8 → y ≡ field itemPart 8 8 → p ≡ field itemPart 16 4 → q ≡ field itemPart 20 4
+      → record { ipid = record { low = x; high = y }; public = p; private = q } ≡ itemAt s k
+  part-item a b c d =
+      let z : 24 * k + 24 - 24 * k ≡ 24 = omega arith in
+      let f : (j w : ℕ) → j + w ≤ 24 → field itemPart j w ≡ field s (24 * k + j) w = λ j w h. rw z (part-field s (24 * k) 24 j w h (omega arith)) in
+      rw (a, b, c, d, f 0 8 (omega arith), f 8 8 (omega arith), f 16 4 (omega arith), f 20 4 (omega arith), add-zero (24 * k))

@@ -1,3 +1,4 @@
+pub mod Index
 pub mod ItemSteps
 pub mod Loop
 pub mod Unknown

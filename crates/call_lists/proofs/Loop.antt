@@ -7,15 +7,15 @@ use borrow.Author.Tests.{lt-ltb, le-ltb, eq-eqb, ne-eqb}
 use lib.ListN.{length, getD, set}
 use Rattle.kinds.specs.Refusals.{order}
 use Rattle.lists.proofs.Lists.{length-tabulate, getD-tabulate}
-use Rattle.rules.specs.Entries.{Entries}
 use Rattle.rules.specs.Calls.{Call, Counting}
-use Rattle.rules.specs.Items.{Item, itemAt, itemCount, itemsOf, itemCall}
-use Rattle.rules.specs.Rules.{itemDone, refusals, number, next, results, refusedReply, acceptedReply}
+use Rattle.rules.specs.Items.{Item, itemAt, itemCount, itemsOf}
+use Rattle.rules.specs.Rules.{refusals, number, next, results, refusedReply, acceptedReply}
 use Rattle.rules.specs.Contract.{Memory}
 use Rattle.rules.proofs.ListLoop.{noItem, Listed, listed-none, listed-next, listed-all}
 use Rattle.table_view.specs.View.{view, SoundTable, Stepped}
 use Rattle.table_view.proofs.Steps.{refused-step, accepted-step}
-use Rattle.call_lists.specs.Listing.{listReply, ItemStepped}
+use Rattle.table_columns.specs.Buckets.{guidBucket, Indexed}
+use Rattle.call_lists.specs.Listing.{listReply, ipidsOf, ItemStepped, ListTaken}
 
 items-length : (s : List ℕ) → length (itemsOf s) ≡ itemCount s
 unfolding itemsOf
@@ -25,36 +25,42 @@ items-at : (s : List ℕ) (k : ℕ) → k < itemCount s → getD (itemsOf s) k n
 unfolding itemsOf
 items-at s k h = getD-tabulate (itemCount s) (itemAt s) noItem k h
 
--- k items are done, and the table is sound
-pub record Going (w : Counting) (c : ℕ) (s b₀ : List ℕ) (m₀ : Memory) (k : ℕ) (b : List ℕ) (m : Memory) : Type 0 where
+-- k items are done, the table is sound and its IPIDs have numbers
+pub record Going (w : Counting) (c : ℕ) (s b₀ : List ℕ) (m₀ : Memory) (k : ℕ) (b rows : List ℕ) (m : Memory) : Type 0 where
   pub listed : Listed w c (itemsOf s) b₀ (view m₀) k b (view m)
   pub table : SoundTable m
+  pub index : Indexed guidBucket rows (ipidsOf (m .words))
 
 module _ (w : Counting) (c : ℕ) (s b₀ : List ℕ) (m₀ : Memory) where
-  pub going-none : SoundTable m₀ → Going w c s b₀ m₀ 0 b₀ m₀
-  going-none t = record { listed = listed-none w c (itemsOf s) b₀ (view m₀); table = t }
+  pub going-none : (rows : List ℕ) → SoundTable m₀ → Indexed guidBucket rows (ipidsOf (m₀ .words)) → Going w c s b₀ m₀ 0 b₀ rows m₀
+  going-none rows t i = record { listed = listed-none w c (itemsOf s) b₀ (view m₀); table = t; index = i }
 
-  module _ (k : ℕ) (b : List ℕ) {m : Memory} (g : Going w c s b₀ m₀ k b m) where
+  module _ (k : ℕ) (b rows : List ℕ) (m : Memory) (g : Going w c s b₀ m₀ k b rows m) where
     -- one more
-    pub going-next : {r : ℕ} {m′ : Memory} → ItemStepped w c (itemAt s k) m r m′ → k < itemCount s → itemCount s ≤ length b₀ → Going w c s b₀ m₀ (k + 1) (set b k r) m′
-    going-next {r} {m′} p h room =
-        let l = items-length s in
+    pub going-next : (t : Item) (r : ℕ) (rows′ : List ℕ) (m′ : Memory) → k < itemCount s → t ≡ itemAt s k → ItemStepped w c t m r m′ → ListTaken c s b₀
+        → Indexed guidBucket rows′ (ipidsOf (m′ .words)) → Going w c s b₀ m₀ (k + 1) (set b k r) rows′ m′
+    going-next t r rows′ m′ h e p l x =
+        let n = items-length s in
         let z = g .listed .size in
-        let n = listed-next w c (itemsOf s) b₀ (view m₀) k b (view m) (g .listed) (omega arith) (omega arith) in
-        let i = subst (λ (t : Item). Listed w c (itemsOf s) b₀ (view m₀) (k + 1) (set b k (number (itemCall w c t) (view m))) (itemDone w c t (view m))) (items-at s k h) n in
-        let j = subst (λ (x : ℕ). Listed w c (itemsOf s) b₀ (view m₀) (k + 1) (set b k x) (itemDone w c (itemAt s k) (view m))) (sym (p .number)) i in
-        record { listed = subst (λ (e : Entries). Listed w c (itemsOf s) b₀ (view m₀) (k + 1) (set b k r) e) (sym (p .entries)) j; table = p .table }
+        let room = l .room in
+        let q = subst (λ (i : Item). ItemStepped w c i m r m′) (e ∙ sym (items-at s k h)) p in
+        let j = listed-next w c (itemsOf s) b₀ (view m₀) k b (view m) (g .listed) (omega arith) (omega arith) in
+        record { listed = rw (q .number, q .entries) j; table = p .table; index = x }
 
     pub going-within : k ≤ itemCount s
     going-within = let l = items-length s in let w = g .listed .within in omega arith
 
     -- all are done
-    pub going-all : k ≡ itemCount s → c ≤ 7 → length s % 24 ≡ 0 → itemCount s ≤ 65535 → itemCount s ≤ length b₀ → Stepped (Call.countList w c s b₀) m₀ (listReply 0 b) m
+    pub going-all : (itemCount s ≤ k) → ListTaken c s b₀ → Stepped (Call.countList w c s b₀) m₀ (listReply 0 b) m
     unfolding acceptedReply results next number refusals order
-    going-all h client whole limit room =
-        let a = listed-all w c (itemsOf s) b₀ (view m₀) k b (view m) (g .listed) (h ∙ sym (items-length s)) in
+    going-all h l =
+        let i = going-within in
+        let n = items-length s in
+        let e : k ≡ length (itemsOf s) = omega arith in
+        let a = listed-all w c (itemsOf s) b₀ (view m₀) k b (view m) (g .listed) e in
         subst (λ (x : List ℕ). Stepped (Call.countList w c s b₀) m₀ (listReply 0 x) m) (sym (a .1))
-        (accepted-step 0 (rw (le-ltb 7 c client, eq-eqb (length s % 24) 0 whole, le-ltb 65535 (itemCount s) limit, le-ltb (length b₀) (itemCount s) room)) refl m (a .0))
+        (accepted-step 0
+        (rw (le-ltb 7 c (l .client), eq-eqb (length s % 24) 0 (l .whole), le-ltb 65535 (itemCount s) (l .most), le-ltb (length b₀) (itemCount s) (l .room))) refl m (a .0))
 
   -- the list is refused
   pub no-client : 7 < c → Stepped (Call.countList w c s b₀) m₀ (listReply 20 b₀) m₀

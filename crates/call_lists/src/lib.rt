@@ -5,9 +5,11 @@ use kinds::limits;
 use table_columns::buckets;
 use table_view::find;
 ghost use mathlib.Core.Path.{_≡_};
-ghost use Prim.Native.Nat.{_≤_, _<_};
+ghost use Prim.Native.Nat.{_+_, _≤_, _<_};
+ghost use lib.Dec.{eqb};
 ghost use lib.ListN.{length};
-ghost use Rattle.table_columns.specs.Buckets.{guidBucket, Marked};
+ghost use Rattle.table_columns.specs.Buckets.{guidBucket, Indexed};
+ghost use Rattle.fields.specs.Fields.{field};
 ghost use Rattle.rules.specs.Contract.{Whole};
 ghost use Rattle.rules.specs.Entries.{interfaceRow};
 ghost use Rattle.rules.specs.Calls.{Call};
@@ -15,7 +17,8 @@ ghost use Rattle.rules.specs.Items.{itemAt, itemCount};
 ghost use Rattle.table_view.specs.View.{memory, Holds, SoundTable, Stepped};
 ghost use Rattle.call_lists.specs.Listing.{wayOf, listReply, ipidsOf, itemOf, ListTaken, ItemStepped};
 
-// A list on a sound table: given back, or else added.
+// A list on a sound table: given back, or else added. `rows` has a number for each bucket of IPIDs: 0, or one more than a row to try,
+// but 255 for row 255 too. The bucket of each live IPID has one that is not 0.
 pub fn list_step<'a>(
     words: &'a mut [u64],
     store: &'a [u8],
@@ -23,8 +26,9 @@ pub fn list_step<'a>(
     client: u32,
     items: &'a [u8],
     buffer: &'a mut [u8],
+    rows: &'a mut [u8; buckets::BUCKETS],
 ) -> u32
-    requires { ⌜ SoundTable (memory (now words) (now store)) ⌝ }
+    requires { ⌜ SoundTable (memory (now words) (now store)) × Indexed guidBucket (now rows) (ipidsOf (now words)) ⌝ }
     ensures { λ r. ⌜
         Stepped (Call.countList (wayOf back) client (now (items .entry)) (now (buffer .entry))) (memory (now (words .entry)) (now (store .entry)))
         (listReply r (now (buffer .exit))) (memory (now (words .exit)) (now (store .entry))) ⌝ }
@@ -42,134 +46,140 @@ pub fn list_step<'a>(
     if buffer.len() < n {
         return answer::NO_ROOM;
     }
-    if n < FEW {
-        return search_items(words, store, back, client, items, buffer);
-    }
-    note_items(words, store, back, client, items, buffer)
+    count_items(words, store, back, client, items, buffer, rows)
 }
 
-// A list of fewer items is not worth the notes of `note_rows`.
-const FEW: usize = 8;
-
-// The items of a list that is not refused, with a search for each.
-fn search_items<'a>(
+// The items of a list that is not refused.
+fn count_items<'a>(
     words: &'a mut [u64],
     store: &'a [u8],
     back: bool,
     client: u32,
     items: &'a [u8],
     buffer: &'a mut [u8],
+    rows: &'a mut [u8; buckets::BUCKETS],
 ) -> u32
-    requires { ⌜ SoundTable (memory (now words) (now store)) × ListTaken client (now items) (now buffer) ⌝ }
+    requires { ⌜
+        SoundTable (memory (now words) (now store)) × ListTaken client (now items) (now buffer)
+        × Indexed guidBucket (now rows) (ipidsOf (now words)) ⌝ }
     ensures { λ r. ⌜
         Stepped (Call.countList (wayOf back) client (now (items .entry)) (now (buffer .entry))) (memory (now (words .entry)) (now (store .entry)))
         (listReply r (now (buffer .exit))) (memory (now (words .exit)) (now (store .entry))) ⌝ }
 {
     let n = items.len() / 24;
-    let mut k = 0;
-    while k < n {
-        let item = read_item(items, k);
-        let row = find::interface_row(words, item.ipid);
-        let number = item_step(words, store, back, client, item, row);
-        buffer[k] = number as u8;
-        k += 1;
-    }
-    answer::DONE
-}
-
-// The same by notes of the interfaces' rows.
-fn note_items<'a>(
-    words: &'a mut [u64],
-    store: &'a [u8],
-    back: bool,
-    client: u32,
-    items: &'a [u8],
-    buffer: &'a mut [u8],
-) -> u32
-    requires { ⌜ SoundTable (memory (now words) (now store)) × ListTaken client (now items) (now buffer) ⌝ }
-    ensures { λ r. ⌜
-        Stepped (Call.countList (wayOf back) client (now (items .entry)) (now (buffer .entry))) (memory (now (words .entry)) (now (store .entry)))
-        (listReply r (now (buffer .exit))) (memory (now (words .exit)) (now (store .entry))) ⌝ }
-{
-    let n = items.len() / 24;
-    let mut marks = [false; buckets::BUCKETS];
-    let mut hints = [0u8; buckets::BUCKETS];
-    note_rows(words, &mut marks, &mut hints);
     let mut live = find::interface_count(words);
     let mut k = 0;
     while k < n {
         let item = read_item(items, k);
-        let row = noted_row(words, store, &marks, &hints, item.ipid);
+        let row = row_of(words, store, rows, item.ipid);
         let number = item_step(words, store, back, client, item, row);
         buffer[k] = number as u8;
-        live = follow_row(words, &mut hints, row, live);
+        live = follow_row(words, rows, row, live);
         k += 1;
     }
     answer::DONE
 }
 
-// Marks the bucket of each IPID, and hints at its row there. Adds and releases enter no interface, so an IPID whose bucket has no mark
-// stays unknown. What the hints hold is undecided: whoever tries a row compares its IPID.
-fn note_rows<'a>(
-    words: &'a [u64],
-    marks: &'a mut [bool; buckets::BUCKETS],
-    hints: &'a mut [u8; buckets::BUCKETS],
-)
-    requires { ⌜ Whole (now words) × (length (now marks) ≡ 4096) ⌝ }
-    ensures { λ _. ⌜ Marked guidBucket (now (marks .exit)) (ipidsOf (now (words .entry))) ⌝ }
+// Notes the row of each IPID under its bucket.
+pub fn note_rows<'a>(words: &'a [u64], rows: &'a mut [u8; buckets::BUCKETS])
+    requires { ⌜ Whole (now words) × (length (now rows) ≡ 4096) ⌝ }
+    ensures { λ _. ⌜ Indexed guidBucket (now (rows .exit)) (ipidsOf (now (words .entry))) ⌝ }
 {
     let mut i = find::interface_count(words);
     while 0 < i {
         i -= 1;
         let b = buckets::of_guid(find::ipid(words, i));
-        marks[b] = true;
-        hints[b] = (i % 256) as u8;
+        rows[b] = number_of(i);
     }
 }
 
-// The row of the interface with an IPID, as `find::interface_row` gives it.
-fn noted_row<'a>(
+// The number of a row: one more, so that 0 is no row's.
+fn number_of(row: usize) -> u8
+    ensures { λ r. ⌜ 0 < r ⌝ }
+{
+    if row < 255 { (row + 1) as u8 } else { 255 }
+}
+
+// The row of a number.
+fn row_at(number: u8) -> usize
+    requires { ⌜ 0 < number ⌝ }
+{
+    number as usize - 1
+}
+
+// The row of the interface with an IPID, as `find::interface_row` gives it. Adds and releases enter no interface, so an IPID whose
+// bucket has 0 stays unknown. What the other numbers are is undecided: the IPID of a row that is tried is compared.
+fn row_of<'a>(
     words: &'a [u64],
     store: &'a [u8],
-    marks: &'a [bool; buckets::BUCKETS],
-    hints: &'a [u8; buckets::BUCKETS],
+    rows: &'a [u8; buckets::BUCKETS],
     ipid: Guid,
 ) -> usize
-    requires { ⌜ SoundTable (memory (now words) (now store)) × Marked guidBucket (now marks) (ipidsOf (now words)) ⌝ }
+    requires { ⌜ SoundTable (memory (now words) (now store)) × Indexed guidBucket (now rows) (ipidsOf (now words)) ⌝ }
     ensures { λ r. ⌜ Holds (λ e. r ≡ interfaceRow e ipid) (now (words .entry)) ⌝ }
 {
     let b = buckets::of_guid(ipid);
-    if !marks[b] {
+    let number = rows[b];
+    if number == 0 {
         return find::interface_count(words);
     }
-    call_references::interface_row(words, store, hints[b], ipid)
+    let row = row_at(number);
+    if call_references::is_row(words, store, row, ipid) {
+        return row;
+    }
+    second_row(words, store, rows, ipid)
 }
 
-// Where the interface at a row went, the hints at later rows follow. Answers how many interfaces there are.
+// The same by the second bucket, then by row 255, whose number is that of row 254, then by a search.
+fn second_row<'a>(
+    words: &'a [u64],
+    store: &'a [u8],
+    rows: &'a [u8; buckets::BUCKETS],
+    ipid: Guid,
+) -> usize
+    requires { ⌜ SoundTable (memory (now words) (now store)) ⌝ }
+    ensures { λ r. ⌜ Holds (λ e. r ≡ interfaceRow e ipid) (now (words .entry)) ⌝ }
+{
+    let b = buckets::low_of_guid(ipid);
+    let number = rows[b];
+    if 0 < number {
+        let row = row_at(number);
+        if call_references::is_row(words, store, row, ipid) {
+            return row;
+        }
+    }
+    call_references::interface_row(words, store, 255, ipid)
+}
+
+// Where the interface at a row went, the numbers of later rows follow. Answers how many interfaces there are.
 fn follow_row<'a>(
     words: &'a [u64],
-    hints: &'a mut [u8; buckets::BUCKETS],
+    rows: &'a mut [u8; buckets::BUCKETS],
     row: usize,
     before: usize,
 ) -> usize
-    requires { ⌜ Whole (now words) ⌝ }
+    requires { ⌜ Whole (now words) × Indexed guidBucket (now rows) (ipidsOf (now words)) ⌝ }
+    ensures { λ _. ⌜ Indexed guidBucket (now (rows .exit)) (ipidsOf (now (words .entry))) ⌝ }
 {
     let n = find::interface_count(words);
     if n == before {
         return n;
     }
-    let gone = (row % 256) as u8;
+    let gone = number_of(row);
     let mut b = 0;
     while b < buckets::BUCKETS {
-        hints[b] = moved(hints[b], gone);
+        rows[b] = moved(rows[b], gone);
         b += 1;
     }
     n
 }
 
-// A row after another one went.
-fn moved(row: u8, gone: u8) -> u8 {
-    if gone < row { row - 1 } else { row }
+// A row's number after another row went.
+fn moved(number: u8, gone: u8) -> u8
+    requires { ⌜ 0 < gone ⌝ }
+    ensures { λ r. ⌜ eqb r 0 ≡ eqb number 0 ⌝ }
+{
+    if gone < number { number - 1 } else { number }
 }
 
 // An item of a list: an IPID and two counts.
@@ -188,10 +198,21 @@ fn read_item(items: &[u8], k: usize) -> Counted
     let end = at + 24;
     let item = &items[at..end];
     Counted {
-        ipid: fields::read_guid(item, 0),
+        ipid: Guid {
+            low: read_half(item, 0),
+            high: read_half(item, 8),
+        },
         public: fields::read_u32(item, 16),
         private: fields::read_u32(item, 20),
     }
+}
+
+// Half of an IPID by its own halves, of which the bucket is made: the compiler then reads each by one load.
+fn read_half(item: &[u8], at: usize) -> u64
+    requires { ⌜ at + 8 ≤ length (now item) ⌝ }
+    ensures { λ r. ⌜ r ≡ field (now (item .entry)) at 8 ⌝ }
+{
+    fields::read_u32(item, at) as u64 + 4294967296 * fields::read_u32(item, at + 4) as u64
 }
 
 // An item at the row that its IPID has.
