@@ -1,19 +1,18 @@
 -- Adds and releases enter no interface, so the index of the IPIDs stays good; an IPID whose bucket has no number is unknown.
-use Prim.Native.Nat.{ℕ, suc, _-_, _<_, _≤_}
-use mathlib.Core.Path.{_≡_, refl, sym, ap, _∙_}
+use Prim.Native.Nat.{ℕ, _<_, _≤_}
+use mathlib.Core.Path.{_≡_, refl, ap, _∙_}
 use mathlib.Core.Bool.{Bool, true, false, not}
-use mathlib.Core.List.{List, [], _∷_}
+use mathlib.Core.List.{List}
 use native.Mathlib.Omega.{arith}
 use borrow.Author.Tests.{ltb-false}
 use lib.Dec.{eqb}
-use lib.ListN.{length, getD, drop, length-map}
-use lib.Seq.{drop-length, drop-cons}
+use lib.ListN.{length, getD, length-map}
 use Rattle.kinds.specs.declared.Guid.{Guid}
 use Rattle.kinds.proofs.Refusing.{by-test}
 use Rattle.lists.specs.Lists.{every, some}
 use Rattle.lists.specs.Guids.{sameGuid}
 use Rattle.lists.proofs.Guids.{guid-decides}
-use Rattle.lists.proofs.Lists.{getD-map, map-unread-at}
+use Rattle.lists.proofs.Lists.{map-unread-at}
 use Rattle.lists.proofs.First.{some-first, first-le}
 use Rattle.lists.proofs.Distinct.{sublist-keep}
 use Rattle.table_columns.specs.Buckets.{guidBucket, Indexed}
@@ -22,7 +21,7 @@ use Rattle.rules.specs.Entries.{Interface, Entries, interfaceIpids, interfaceRo
 use Rattle.rules.specs.Calls.{Counting, adding, releasing}
 use Rattle.rules.specs.Items.{Item, itemCall}
 use Rattle.rules.specs.Sound.{held}
-use Rattle.rules.specs.Rules.{noInterface, increased, decreased, counted, itemDone, number}
+use Rattle.rules.specs.Rules.{increased, decreased, counted, itemDone, number}
 use Rattle.rules.specs.Contract.{Whole}
 use Rattle.table_view.specs.View.{interfaceCount, interfacesOf, memory, view}
 use Rattle.table_view.proofs.LiveRows.{interfaces-length}
@@ -31,23 +30,8 @@ use Rattle.call_lists.specs.Listing.{ipidsOf, ItemStepped}
 abbrev ipidOf : Interface → Guid
 ipidOf i = i .ipid
 
--- ---- the IPIDs by row
-
 ipids-length : (ws : List ℕ) → length (ipidsOf ws) ≡ interfaceCount ws
 ipids-length ws = length-map (interfacesOf ws) ipidOf ∙ interfaces-length ws
-
-pub ipids-end : (ws : List ℕ) (n : ℕ) → n ≡ interfaceCount ws → drop n (ipidsOf ws) ≡ []
-ipids-end ws n e = ap (λ (k : ℕ). drop k (ipidsOf ws)) (e ∙ sym (ipids-length ws)) ∙ drop-length (ipidsOf ws)
-
-pub ipids-last : (ws : List ℕ) (n : ℕ) {g : Guid} → g ≡ getD (interfacesOf ws) (n - 1) noInterface .ipid → 0 < n → n ≤ interfaceCount ws → drop (n - 1) (ipidsOf ws) ≡ g ∷ drop n (ipidsOf ws)
-ipids-last ws n e h b =
-    let l = ipids-length ws in
-    let m = interfaces-length ws in
-    let s : suc (n - 1) ≡ n = omega arith in
-    drop-cons (ipidsOf ws) (n - 1) (ipidOf noInterface) (omega arith)
-    ∙ λ u. (getD-map ipidOf (interfacesOf ws) noInterface (ipidOf noInterface) (n - 1) (omega arith) ∙ sym e) u ∷ drop (s u) (ipidsOf ws)
-
--- ---- an item
 
 module _ (p : Guid → Bool) (i : Guid) (a b c : ℕ) (e : Entries) (h : every p (interfaceIpids e) ≡ true) where
   -- what every IPID passes, every one that is left passes

@@ -80,11 +80,36 @@ fn count_items<'a>(
     answer::DONE
 }
 
-// Notes the row of each IPID under its bucket.
-pub fn note_rows<'a>(words: &'a [u64], rows: &'a mut [u8; buckets::BUCKETS])
-    requires { ⌜ Whole (now words) × (length (now rows) ≡ 4096) ⌝ }
+// The same where no judgement leaves an index. Any numbers but 0 are one; for a list of many items the rows are noted in it.
+pub fn noted_list_step<'a>(
+    words: &'a mut [u64],
+    store: &'a [u8],
+    back: bool,
+    client: u32,
+    items: &'a [u8],
+    buffer: &'a mut [u8],
+) -> u32
+    requires { ⌜ SoundTable (memory (now words) (now store)) ⌝ }
+    ensures { λ r. ⌜
+        Stepped (Call.countList (wayOf back) client (now (items .entry)) (now (buffer .entry))) (memory (now (words .entry)) (now (store .entry)))
+        (listReply r (now (buffer .exit))) (memory (now (words .exit)) (now (store .entry))) ⌝ }
+{
+    let mut rows = [255u8; buckets::BUCKETS];
+    note_rows(words, items.len(), &mut rows);
+    list_step(words, store, back, client, items, buffer, &mut rows)
+}
+
+// Lists of fewer bytes are not worth the notes: 8 items.
+const SHORT: usize = 192;
+
+// Notes the row of each IPID under its bucket, for a list of so many bytes.
+fn note_rows<'a>(words: &'a [u64], bytes: usize, rows: &'a mut [u8; buckets::BUCKETS])
+    requires { ⌜ Whole (now words) × Indexed guidBucket (now rows) (ipidsOf (now words)) ⌝ }
     ensures { λ _. ⌜ Indexed guidBucket (now (rows .exit)) (ipidsOf (now (words .entry))) ⌝ }
 {
+    if bytes < SHORT {
+        return;
+    }
     let mut i = find::interface_count(words);
     while 0 < i {
         i -= 1;
