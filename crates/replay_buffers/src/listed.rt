@@ -95,7 +95,7 @@ fn count_into<'a>(
         (now (answer .entry)) (now (shown .entry)) (memory (now (words .entry)) (now (store .entry)))
         r (memory (now (words .exit)) (now (store .entry))) ⌝ }
 {
-    let number = call_lists::list_step(words, store, back, client, items, buffer);
+    let number = call_lists::noted_list_step(words, store, back, client, items, buffer);
     let n = written(number, items.len() / 24);
     crate::shown_step(answer, shown, &buffer[..n], number, 0, 0, 0, 0)
 }

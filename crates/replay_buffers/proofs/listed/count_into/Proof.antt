@@ -8,13 +8,13 @@ use Rattle.replay_buffers.proofs.listed.count_into.Statement.{statement
 use Rattle.replay_buffers.proofs.listed.count_into.Tie as tie
 
 inside : tie.Need-slice-reshare-prefix-shown-step
-inside c = items-left (c .before .before .before .before .before .list-step .ensures) (c .written .ensures)
+inside c = items-left (c .before .before .before .before .before .noted-list-step .ensures) (c .written .ensures)
 
 returns : tie.Need-returns
 returns c =
     let step = c .before .before .before .before .before .before .before in
     let start = step .before .before .before .before .before .before .before .before .before in
-    items-done (step .list-step .ensures) (c .before .before .written .ensures) (start .pre .0) (start .pre .1) (omega arith) (start .pre .0 .store) (c .shown-step .ensures)
+    items-done (step .noted-list-step .ensures) (c .before .before .written .ensures) (start .pre .0) (start .pre .1) (omega arith) (start .pre .0 .store) (c .shown-step .ensures)
 
 pub count-into-spec : {M : Type 1} → statement M
 count-into-spec =
