@@ -12,10 +12,10 @@ use Rattle.rules.specs.Items.{Item, itemAt, itemCount, itemsOf}
 use Rattle.rules.specs.Rules.{refusals, number, next, results, refusedReply, acceptedReply}
 use Rattle.rules.specs.Contract.{Memory}
 use Rattle.rules.proofs.ListLoop.{noItem, Listed, listed-none, listed-next, listed-all}
-use Rattle.table_view.specs.View.{view, SoundTable, Stepped}
+use Rattle.table_view.specs.View.{view, SoundTable, Stepped, ipidsOf}
 use Rattle.table_view.proofs.Steps.{refused-step, accepted-step}
 use Rattle.table_columns.specs.Buckets.{guidBucket, Indexed}
-use Rattle.call_lists.specs.Listing.{listReply, ipidsOf, ItemStepped, ListTaken}
+use Rattle.call_lists.specs.Listing.{listReply, ItemStepped, ListTaken}
 
 items-length : (s : List ℕ) → length (itemsOf s) ≡ itemCount s
 unfolding itemsOf

@@ -23,9 +23,9 @@ use Rattle.rules.specs.Items.{Item, itemCall}
 use Rattle.rules.specs.Sound.{held}
 use Rattle.rules.specs.Rules.{increased, decreased, counted, itemDone, number}
 use Rattle.rules.specs.Contract.{Whole}
-use Rattle.table_view.specs.View.{interfaceCount, interfacesOf, memory, view}
+use Rattle.table_view.specs.View.{interfaceCount, interfacesOf, memory, view, ipidsOf}
 use Rattle.table_view.proofs.LiveRows.{interfaces-length}
-use Rattle.call_lists.specs.Listing.{ipidsOf, ItemStepped}
+use Rattle.call_lists.specs.Listing.{ItemStepped}
 
 abbrev ipidOf : Interface → Guid
 ipidOf i = i .ipid

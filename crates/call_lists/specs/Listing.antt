@@ -2,15 +2,13 @@
 use Prim.Native.Nat.{ℕ, _%_, _<_, _≤_}
 use mathlib.Core.Path.{_≡_}
 use mathlib.Core.Bool.{Bool, true, false}
-use mathlib.Core.List.{List, [], map}
+use mathlib.Core.List.{List, []}
 use lib.ListN.{length}
-use Rattle.kinds.specs.declared.Guid.{Guid}
-use Rattle.rules.specs.Entries.{Interface}
 use Rattle.rules.specs.Calls.{Counting, adding, releasing, Reply}
 use Rattle.rules.specs.Items.{Item, itemCount, itemCall}
 use Rattle.rules.specs.Rules.{mostListed, itemDone, number}
 use Rattle.rules.specs.Contract.{Memory}
-use Rattle.table_view.specs.View.{interfacesOf, view, SoundTable}
+use Rattle.table_view.specs.View.{view, SoundTable}
 use Rattle.call_lists.specs.declared.Counted.{Counted}
 
 -- items are given back, or else added
@@ -32,10 +30,6 @@ pub record ListTaken (c : ℕ) (items buffer : List ℕ) : Type 0 where
   pub whole : length items % 24 ≡ 0
   pub most : itemCount items ≤ mostListed
   pub room : itemCount items ≤ length buffer
-
--- the IPIDs of the interfaces
-abbrev pub ipidsOf : List ℕ → List Guid
-ipidsOf ws = map (λ (i : Interface). i .ipid) (interfacesOf ws)
 
 -- an item done on a sound table, which is sound afterwards
 pub record ItemStepped (w : Counting) (c : ℕ) (t : Item) (m : Memory) (r : ℕ) (m′ : Memory) : Type 0 where

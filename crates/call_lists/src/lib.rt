@@ -14,8 +14,8 @@ ghost use Rattle.rules.specs.Contract.{Whole};
 ghost use Rattle.rules.specs.Entries.{interfaceRow};
 ghost use Rattle.rules.specs.Calls.{Call};
 ghost use Rattle.rules.specs.Items.{itemAt, itemCount};
-ghost use Rattle.table_view.specs.View.{memory, Holds, SoundTable, Stepped};
-ghost use Rattle.call_lists.specs.Listing.{wayOf, listReply, ipidsOf, itemOf, ListTaken, ItemStepped};
+ghost use Rattle.table_view.specs.View.{memory, Holds, SoundTable, Stepped, ipidsOf};
+ghost use Rattle.call_lists.specs.Listing.{wayOf, listReply, itemOf, ListTaken, ItemStepped};
 
 // A list on a sound table: given back, or else added. `rows` has a number for each bucket of IPIDs: 0, or one more than a row to try,
 // but 255 for row 255 too. The bucket of each live IPID has one that is not 0.

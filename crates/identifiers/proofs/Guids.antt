@@ -1,88 +1,70 @@
 -- Laws of GUIDs that are entered before others.
-use Prim.Native.Nat.{ℕ, _<_, _≤_}
+use Prim.Native.Nat.{ℕ, _-_, _<_, _≤_}
 use mathlib.Core.Path.{_≡_, sym, ap, _∙_}
-use mathlib.Core.Bool.{Bool, true, false, not, _&&_, and-false, true≢false}
+use mathlib.Core.Bool.{Bool, true, false, not, _&&_, true≢false}
 use mathlib.Core.List.{List, [], _∷_, _++_, append-nil}
 use native.Mathlib.Omega.{arith}
-use lib.ListN.{length, getD, drop, set, length-drop}
+use lib.ListN.{length, drop, length-drop}
 use lib.Seq.{drop-append-le}
 use Rattle.kinds.specs.declared.Guid.{Guid}
 use Rattle.lists.specs.Lists.{every, some, distinct}
 use Rattle.lists.specs.Guids.{nil, sameGuid}
-use Rattle.lists.proofs.Tests.{and-intro}
-use Rattle.lists.proofs.Lists.{every-nil}
-use Rattle.lists.proofs.Distinct.{distinct-cons}
+use Rattle.lists.proofs.Tests.{and-intro, and-right}
+use Rattle.lists.proofs.Lists.{every-append}
 use Rattle.lists.proofs.Guids.{guid-decides}
-use Rattle.table_columns.specs.Buckets.{guidBucket, lowBucket}
-use Rattle.table_columns.proofs.buckets.Marks.{marked-none, marked-kept, marked-one, unmarked, repeated}
-use Rattle.identifiers.specs.Index.{MarkedTwice, Entered}
-use Rattle.identifiers.proofs.Laws.{fails-at}
+use Rattle.table_columns.specs.Buckets.{guidBucket, lowBucket, Indexed}
+use Rattle.table_columns.specs.Guids.{guidAt, guids}
+use Rattle.identifiers.specs.Index.{guidNoted, NumberOf, Entering, Entered}
+use Rattle.identifiers.proofs.Noting.{Before, each-indexed, not-named, not-different}
 
--- a GUID is not nil
-abbrev notNil : Guid → Bool
-notNil g = not (sameGuid g nil)
+-- a number below 255 leads to the GUID whose row it was made of
+pub leads-here : {rows lows highs lows2 highs2 : List ℕ} {from : ℕ} → Entering rows lows highs lows2 highs2 from → {g : Guid} (i : ℕ) → g ≡ guidAt lows highs (i - 1) → 0 < i
+    → {r : ℕ} → NumberOf i from r → r < 255 → sameGuid g (guidAt lows2 highs2 (r - 1)) ≡ true
+leads-here {lows2 = lows2} {highs2 = highs2} s {g} i e p n h =
+    let q = n .row h in
+    rw (q .0, e ∙ s .alike (i - 1) (omega arith)) (guid-decides .self (guidAt lows2 highs2 (i - 1)))
 
--- ---- two buckets
+module _ (lows highs lows2 highs2 : List ℕ) (from : ℕ) where
+  -- the GUIDs of the first columns, and those that are later
+  abbrev xs : List Guid
+  xs = guids lows highs
 
--- of no GUID
-pub twice-none : {ys : List Guid} (marks : List Bool) → length marks ≡ 4096 → ys ≡ [] → MarkedTwice marks ys
-twice-none marks l e = record { first = marked-none guidBucket marks l e; second = marked-none lowBucket marks l e }
+  abbrev ys : List Guid
+  ys = drop from (guids lows2 highs2)
 
--- a GUID of which one is not marked is not among them
-pub unmarked-first : {xs : List Guid} {marks : List Bool} {b : ℕ} (g : Guid) → MarkedTwice marks xs → (b ≡ guidBucket g) × (b < 4096) → getD marks b false ≡ false → some (sameGuid g) xs ≡ false
-unmarked-first g m q f = unmarked guidBucket sameGuid guid-decides g (m .first) q f
+  -- they are not proper
+  entered-not : (rows : List ℕ) → length rows ≡ 4096 → (every (λ g. not (sameGuid g nil)) xs && distinct sameGuid (xs ++ ys)) ≡ false → Entered lows highs lows2 highs2 from rows false
+  entered-not rows l e = record { size = l; judged = sym e; each = λ t. absurd (true≢false (sym t)) }
 
-pub unmarked-second : {xs : List Guid} {marks : List Bool} {k : ℕ} (g : Guid) → MarkedTwice marks xs → (k ≡ lowBucket g) × (k < 4096) → getD marks k false ≡ false → some (sameGuid g) xs ≡ false
-unmarked-second g m q f = unmarked lowBucket sameGuid guid-decides g (m .second) q f
+  module _ (i : ℕ) (rows : List ℕ) (l : length rows ≡ 4096) {g : Guid} {zs : List Guid} (e : drop i xs ≡ g ∷ zs) where
+    -- one is nil
+    pub entered-nil : sameGuid g nil ≡ true → Entered lows highs lows2 highs2 from rows false
+    entered-nil t = entered-not rows l (not-named sameGuid nil i xs (xs ++ ys) e t)
 
--- ---- before others
+    -- one stands again after it
+    pub entered-repeated : some (sameGuid g) (zs ++ ys) ≡ true → Entered lows highs lows2 highs2 from rows false
+    entered-repeated t =
+        let h : i ≤ length xs = omega (arith, length-drop i xs, ap length e) in
+        entered-not rows l (not-different sameGuid nil i xs (xs ++ ys) (drop-append-le i xs ys h ∙ ap (λ (zs : List Guid). zs ++ ys) e) t)
 
--- the GUIDs xs are proper before ys, and the buckets of all are marked
-pub record Before (marks : List Bool) (xs ys : List Guid) : Type 0 where
-  pub named : every notNil xs ≡ true
-  pub differ : distinct sameGuid (xs ++ ys) ≡ true
-  pub marked : MarkedTwice marks (xs ++ ys)
+  -- all are entered
+  pub entered-all : {rows : List ℕ} → length rows ≡ 4096 → Before sameGuid nil (guidNoted rows lows2 highs2) xs (xs ++ ys) → Entered lows highs lows2 highs2 from rows true
+  entered-all l p =
+      record { size = l; judged = sym (and-intro (every (λ g. not (sameGuid g nil)) xs) (distinct sameGuid (xs ++ ys)) (p .named) (p .differ)); each = λ t. p .each }
 
--- no GUID
-pub before-none : {xs ys : List Guid} (marks : List Bool) → xs ≡ [] → MarkedTwice marks ys → distinct sameGuid ys ≡ true → Before marks xs ys
-before-none {xs} {ys} marks e m d = rw e (record { named = every-nil notNil; differ = d; marked = m })
+-- no GUID is later
+pub entered-alone : {lows highs lows2 highs2 rows : List ℕ} {from : ℕ} {r : Bool} → drop from (guids lows2 highs2) ≡ [] → Entered lows highs lows2 highs2 from rows r
+    → (r ≡ (every (λ g. not (sameGuid g nil)) (guids lows highs) && distinct sameGuid (guids lows highs))) × (r ≡ true → every (guidNoted rows lows2 highs2) (guids lows highs) ≡ true)
+entered-alone e p = (rw (e, append-nil) at (p .judged), λ t. rw (e, append-nil) at (p .each t))
 
--- one more
-pub before-one : {g : Guid} {xs zs : List Guid} (ys : List Guid) {marks : List Bool} {b k : ℕ} → zs ≡ g ∷ xs → Before marks xs ys → (b ≡ guidBucket g) × (b < 4096) → (k ≡ lowBucket g) × (k < 4096)
-    → sameGuid g nil ≡ false → some (sameGuid g) (xs ++ ys) ≡ false → Before (set (set marks b true) k true) zs ys
-unfolding every
-before-one {g} {xs} {zs} ys {marks} {b} {k} e p q r n f =
-    let all = ap (λ (l : List Guid). l ++ ys) e in
+-- the buckets of the later ones have numbers
+pub later-indexed : {lows highs lows2 highs2 rows : List ℕ} {from : ℕ} {r : Bool} → Entered lows highs lows2 highs2 from rows r → r ≡ true
+    → Indexed guidBucket rows (drop from (guids lows2 highs2))
+later-indexed {lows} {highs} {lows2} {highs2} {rows} {from} p t =
+    let later = drop from (guids lows2 highs2) in
+    let noted = sym (every-append (guidNoted rows lows2 highs2) (guids lows highs) later) ∙ p .each t in
     record {
-      named = rw e (and-intro (notNil g) (every notNil xs) (ap not n) (p .named));
-      differ = rw e (distinct-cons sameGuid g (xs ++ ys) f (p .differ));
-      marked = record {
-        first = marked-kept guidBucket k (r .1) (marked-one guidBucket all (p .marked .first) q);
-        second = marked-one lowBucket all (marked-kept lowBucket b (q .1) (p .marked .second)) r;
-      };
+      size = p .size;
+      each = each-indexed guidBucket lowBucket (λ g i. sameGuid g (guidAt lows2 highs2 i)) rows later
+          (and-right (every (guidNoted rows lows2 highs2) (guids lows highs)) (every (guidNoted rows lows2 highs2) later) noted);
     }
-
--- they are not proper before ys
-entered-not : (xs ys : List Guid) (marks : List Bool) → (every notNil xs && distinct sameGuid (xs ++ ys)) ≡ false → Entered xs ys marks false
-entered-not xs ys marks e = record { judged = sym e; marked = λ t. absurd (true≢false (sym t)) }
-
-module _ (i : ℕ) (xs ys : List Guid) (marks : List Bool) {g : Guid} {zs : List Guid} (e : drop i xs ≡ g ∷ zs) where
-  -- one is nil
-  pub before-nil : sameGuid g nil ≡ true → Entered xs ys marks false
-  before-nil t = entered-not xs ys marks (let f : every notNil xs ≡ false = fails-at notNil i xs e (ap not t) in rw f)
-
-  -- one stands again after it
-  pub before-repeated : {t : Bool} → t ≡ some (sameGuid g) (zs ++ ys) → t ≡ true → Entered xs ys marks false
-  before-repeated q t =
-      let h : i ≤ length xs = omega (arith, length-drop i xs, ap length e) in
-      let f : false ≡ distinct sameGuid (xs ++ ys) = repeated sameGuid i (xs ++ ys) (drop-append-le i xs ys h ∙ ap (λ (l : List Guid). l ++ ys) e) (sym q ∙ t) in
-      entered-not xs ys marks (rw (← f) (and-false (every notNil xs)))
-
--- all are entered
-pub before-all : {xs ys : List Guid} {marks : List Bool} → Before marks xs ys → Entered xs ys marks true
-before-all {xs} {ys} p = record { judged = sym (and-intro (every notNil xs) (distinct sameGuid (xs ++ ys)) (p .named) (p .differ)); marked = λ t. p .marked }
-
--- before none
-pub entered-alone : {xs ys : List Guid} {marks : List Bool} {r : Bool} → ys ≡ [] → Entered xs ys marks r
-    → (r ≡ (every notNil xs && distinct sameGuid xs)) × (r ≡ true → MarkedTwice marks xs)
-entered-alone e p = (rw (e, append-nil) at (p .judged), λ t. rw (e, append-nil) at (p .marked t))

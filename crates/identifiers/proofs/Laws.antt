@@ -1,31 +1,25 @@
 -- Laws of indexes and of the rows that they lead to.
 use Prim.Native.Nat.{ℕ, zero, suc, _%_, _<_, _≤_}
-use mathlib.Core.Path.{_≡_, refl, sym, ap, subst, _∙_}
-use mathlib.Core.Bool.{Bool, true, false, not, _&&_, _||_, and-false, or-true, or-false, true≢false}
+use mathlib.Core.Path.{_≡_, refl, sym, ap, _∙_}
+use mathlib.Core.Bool.{Bool, true, false, not, _&&_, _||_, or-true, or-false, true≢false}
 use mathlib.Core.List.{List, [], _∷_}
 use mathlib.Core.Logic.{⊎-elim}
 use native.Mathlib.Omega.{arith}
 use borrow.Author.Tests.{eq-eqb, ne-eqb, eqb-true, ltb-true, lt-ltb, le-ltb}
 use lib.Dec.{eqb, ltb}
-use lib.ListN.{length, getD, set, take, drop, length-set}
+use lib.ListN.{length, getD, set, take}
 use lib.Seq.{getD-set-same, getD-set-other, getD-take, length-take-le}
 use Rattle.lists.specs.Lists.{every, some, nonzero, distinct, among, firstIndex}
 use Rattle.lists.proofs.Tests.{same-or-not, and-intro, and-left, and-right}
 use Rattle.lists.proofs.First.{first-at, some-first}
-use Rattle.lists.proofs.Lists.{every-nil, every-mono, every-ext, none-some, some-at, some-cons}
+use Rattle.lists.proofs.Lists.{every-mono, every-ext, none-some, some-at, some-cons}
 use Rattle.lists.proofs.Distinct.{eqb-decides, same-comm, distinct-none, distinct-cons, distinct-at}
 use Rattle.table_columns.specs.Buckets.{wordBucket}
-use Rattle.table_columns.proofs.buckets.Marks.{each-one, each-absent}
-use Rattle.identifiers.specs.Index.{climbing, Indexed, Noted, RowOf}
+use Rattle.table_columns.proofs.buckets.Marks.{each-absent}
+use Rattle.identifiers.proofs.Noting.{Before, each-indexed}
+use Rattle.identifiers.specs.Index.{climbing, noted, IndexedWords, Noted, Tried, RowOf}
 
 -- ---- lists
-
--- an element that fails
-pub fails-at : {A : Type 0} (p : A → Bool) (i : ℕ) (ys : List A) {x : A} {xs : List A} → drop i ys ≡ x ∷ xs → p x ≡ false → every p ys ≡ false
-unfolding every
-fails-at p zero ys e f = rw (e, f)
-fails-at p (suc i) [] e f = absurd (let z : _≡_ {A = ℕ} 0 1 = cc in omega arith)
-fails-at p (suc i) (y ∷ ys) e f = rw (fails-at p i ys e f) (and-false (p y))
 
 -- two tests that agree at each index
 pub every-agree : {A B : Type 0} (p : A → Bool) (q : B → Bool) (a : A) (b : B) (xs : List A) (ys : List B) → length xs ≡ length ys
@@ -87,44 +81,25 @@ abbrev isRow : ℕ → Bool
 isRow n = not (eqb n 0)
 
 -- a word whose bucket has no row is not there
-pub unindexed : {xs rows : List ℕ} {b : ℕ} (x : ℕ) → Indexed rows xs → (b ≡ wordBucket x % length rows) × (b < length rows) → getD rows b 0 ≡ 0 → among xs x ≡ false
+pub unindexed : {xs rows : List ℕ} {b : ℕ} (x : ℕ) → IndexedWords rows xs → (b ≡ wordBucket x % length rows) × (b < length rows) → getD rows b 0 ≡ 0 → among xs x ≡ false
 unindexed {xs} {rows} x m q z =
     each-absent (λ y. wordBucket y % length rows) isRow 0 eqb eqb-decides xs rows x (m .each) (ap not (eq-eqb (getD rows (wordBucket x % length rows) 0) 0 (rw (← q .0) z)))
 
--- the words are proper, and the rows are an index of them
-pub record Taken (rows xs : List ℕ) : Type 0 where
-  pub proper : (nonzero xs && distinct eqb xs) ≡ true
-  pub indexed : Indexed rows xs
-
--- no word
-pub taken-none : {ys : List ℕ} (rows : List ℕ) → 0 < length rows → ys ≡ [] → Taken rows ys
-taken-none rows h e =
-    record {
-      proper = rw e (and-intro _ _ (every-nil isRow) (distinct-none eqb));
-      indexed = record { room = h; each = rw e (every-nil (λ x. isRow (getD rows (wordBucket x % length rows) 0))) };
-    }
-
--- one more, which is not 0 and not among those after it, with a row under its bucket
-pub taken-one : {x : ℕ} {xs ys rows : List ℕ} {b : ℕ} (v : ℕ) → ys ≡ x ∷ xs → Taken rows xs → (b ≡ wordBucket x % length rows) × (b < length rows) → 0 < v
-    → eqb x 0 ≡ false → among xs x ≡ false → Taken (set rows b v) ys
-unfolding every
-taken-one {x} {xs} {ys} {rows} {b} v e m q h z n =
-    let l = length-set rows b v in
-    record {
-      proper = rw e
-          (and-intro (nonzero (x ∷ xs)) (distinct eqb (x ∷ xs))
-          (and-intro (isRow x) (nonzero xs) (ap not z) (and-left (nonzero xs) (distinct eqb xs) (m .proper)))
-          (distinct-cons eqb x xs n (and-right (nonzero xs) (distinct eqb xs) (m .proper))));
-      indexed = record {
-        room = rw l (m .indexed .room);
-        each = subst (λ (k : ℕ). every (λ y. isRow (getD (set rows b v) (wordBucket y % k) 0)) ys ≡ true) (sym l)
-            (each-one (λ y. wordBucket y % length rows) isRow 0 rows v e (q .0) (q .1) (ap not (ne-eqb v 0 (omega arith))) (m .indexed .each));
-      };
-    }
+-- a word is noted in m rows; the numbers lead to a column
+abbrev pub wordNoted : ℕ → List ℕ → List ℕ → ℕ → Bool
+wordNoted m col rows x = noted (getD rows (wordBucket x % m) 0) (getD rows (x % m) 0) (λ i. eqb x (getD col i 0))
 
 -- the column is not proper
 pub noted-not : (col rows : List ℕ) → (nonzero col && distinct eqb col) ≡ false → Noted col rows false
 noted-not col rows e = record { judged = sym e; indexed = λ t. absurd (true≢false (sym t)) }
+
+-- the column is proper and noted
+pub noted-all : {m : ℕ} {col rows : List ℕ} → length rows ≡ m → 0 < m → Before eqb 0 (wordNoted m col rows) col col → Noted col rows true
+noted-all {m} {col} {rows} l h p =
+    record {
+      judged = sym (and-intro (nonzero col) (distinct eqb col) (p .named) (p .differ));
+      indexed = λ t. record { room = rw l h; each = rw l (each-indexed (λ x. wordBucket x % m) (λ x. x % m) (λ x i. eqb x (getD col i 0)) rows col (p .each)) };
+    }
 
 -- ---- rows
 
@@ -135,6 +110,15 @@ row-searched x col {r} e =
       here = λ h. sym (eqb-true x (getD col r 0) (rw e (first-at (eqb x) 0 col (rw e at h))));
       absent = λ h. sym (some-first (eqb x) col) ∙ le-ltb (firstIndex (eqb x) col) (length col) (rw e at h);
     }
+
+-- a row that was tried
+pub row-tried : {x r : ℕ} {col : List ℕ} → Tried x col r → r < length col → RowOf x col r
+row-tried t l = record { here = λ h. t .here h; absent = λ h. absurd (omega arith) }
+
+-- no row, where the bucket has none
+pub row-none : {rows : List ℕ} {b : ℕ} (x : ℕ) (col : List ℕ) → IndexedWords rows col → (b ≡ wordBucket x % length rows) × (b < length rows) → getD rows b 0 ≡ 0
+    → RowOf x col (length col)
+row-none x col m q z = record { here = λ h. absurd (omega arith); absent = λ h. unindexed x m q z }
 
 -- where a word has a row it is there
 pub row-here : {x r : ℕ} {col : List ℕ} → RowOf x col r → r < length col → among col x ≡ true

@@ -1,7 +1,7 @@
 -- Buckets: numbers below 4,096, one for each GUID and each word, under which the same ones are found.
 use Prim.Native.Nat.{ℕ, _+_, _*_, _/_, _%_, _^_}
 use mathlib.Core.Path.{_≡_}
-use mathlib.Core.Bool.{Bool, true, false, not}
+use mathlib.Core.Bool.{true, not}
 use mathlib.Core.List.{List}
 use lib.ListN.{length, getD}
 use lib.Dec.{eqb}
@@ -19,11 +19,6 @@ guidBucket g = wordBucket ((g .low + g .high) % 2 ^ 64)
 -- a second bucket of a GUID
 abbrev pub lowBucket : Guid → ℕ
 lowBucket g = g .low % 4096
-
--- a mark for each bucket; the bucket of each element is marked
-pub record Marked {A : Type 0} (bucket : A → ℕ) (marks : List Bool) (xs : List A) : Type 0 where
-  pub size : length marks ≡ 4096
-  pub each : every (λ x. getD marks (bucket x) false) xs ≡ true
 
 -- a number for each bucket: 0, or one more than a row to try; that of each element's bucket is not 0
 pub record Indexed {A : Type 0} (bucket : A → ℕ) (rows : List ℕ) (xs : List A) : Type 0 where

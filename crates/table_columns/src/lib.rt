@@ -91,7 +91,7 @@ pub fn is_nil(g: Guid) -> bool
 }
 
 // The word at i, and 0 past the end.
-fn word_at(col: &[u64], i: usize) -> u64
+pub fn word_at(col: &[u64], i: usize) -> u64
     ensures { λ r. ⌜ r ≡ getD (now (col .entry)) i 0 ⌝ }
 {
     if i >= col.len() {
@@ -111,7 +111,7 @@ pub fn guid_at<'a>(lows: &'a [u64], highs: &'a [u64], i: usize) -> Guid
 }
 
 // Whether g stands at i.
-fn is_guid_at<'a>(lows: &'a [u64], highs: &'a [u64], i: usize, g: Guid) -> bool
+pub fn is_guid_at<'a>(lows: &'a [u64], highs: &'a [u64], i: usize, g: Guid) -> bool
     ensures { λ r. ⌜ r ≡ sameGuid g (guidAt (now (lows .entry)) (now (highs .entry)) i) ⌝ }
 {
     if g.low != word_at(lows, i) {

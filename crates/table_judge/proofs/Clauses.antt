@@ -8,13 +8,13 @@ use native.Mathlib.Omega.{arith}
 use borrow.Author.Tests.{not-true, not-false}
 use lib.ListN.{length, take, drop, length-take}
 use Rattle.kinds.specs.declared.Guid.{Guid}
-use Rattle.lists.specs.Lists.{every, distinct, apart, among, holding, tabulate}
-use Rattle.table_columns.specs.Guids.{guids}
+use Rattle.lists.specs.Lists.{every, distinct, apart, among, holding}
 use Rattle.lists.specs.Guids.{nil, sameGuid}
 use Rattle.lists.proofs.Tests.{holding-fails, holding-passes, holding-last, true-or-false, and-intro, and-left, and-right}
 use Rattle.lists.proofs.Lists.{every-map, every-append}
 use Rattle.lists.proofs.Distinct.{distinct-append}
 use Rattle.rules.specs.Sound.{properGuids}
+use Rattle.table_judge.specs.Leaves.{Leaves}
 
 -- ---- chains of clauses: t is the outcome of the first clause that is left
 
@@ -73,10 +73,15 @@ module _ {A : Type 0} (f : A → ℕ) (xs : List A) {col : List ℕ} (q : col �
 pub column-short : (ws : List ℕ) (first : ℕ) {n m : ℕ} {col : List ℕ} → col ≡ take n (drop first ws) → n ≤ m → length col ≤ m
 column-short ws first {n} e h = rw e (omega (arith, length-take n (drop first ws)))
 
--- two empty columns
-pub no-guids : guids [] [] ≡ []
-unfolding guids tabulate
-no-guids = refl
+-- ---- the index that is left
+
+-- none is promised
+pub leaves-not : {rows ws : List ℕ} → Leaves false rows ws
+leaves-not = record { index = λ t. absurd (true≢false (sym t)) }
+
+-- the one that a part of the judgement left
+pub leaves-where : {t r : Bool} {rows ws : List ℕ} → Leaves t rows ws → not t ≡ false → Leaves r rows ws
+leaves-where {t} p h = record { index = λ z. p .index (not-false t h) }
 
 -- ---- identifiers of two lists
 

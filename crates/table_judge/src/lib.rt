@@ -1,14 +1,17 @@
 // Whether a lent table is sound: the clauses of document 01's "sound", each over the columns that it speaks of.
 use kinds::limits;
+use table_columns::buckets;
 use table_view::find;
 ghost use mathlib.Core.Path.{_≡_};
 ghost use mathlib.Core.Bool.{true};
 ghost use Prim.Native.Nat.{_<_};
+ghost use lib.ListN.{length};
 ghost use Rattle.lists.specs.Lists.{holding};
 ghost use mathlib.Core.List.{[], _∷_};
 ghost use Rattle.rules.specs.Entries.{oxids, oids, ipids};
 ghost use Rattle.table_view.specs.View.{memory, view, soundMemory, Holds, oidsOf};
 ghost use Rattle.rules.specs.Contract.{Whole};
+ghost use Rattle.table_judge.specs.Leaves.{Leaves};
 ghost use Rattle.rules.specs.Sound.{proper, properGuids, interfacesHeld, setMembersLive, heardRecently, listsKept, objectExportersLive};
 ghost use Rattle.rules.specs.Sound.{interfaceObjectsLive, objectsHaveInterfaces, namingClauses, objectClauses, interfaceClauses, setClauses};
 
@@ -122,10 +125,12 @@ fn interfaces_held(words: &[u64]) -> bool
     true
 }
 
-// Remote-unknown and interface IPIDs are one kind: none is nil, and no two are the same.
-fn ipids_proper(words: &[u64]) -> bool
-    requires { ⌜ Whole (now words) ⌝ }
-    ensures { λ r. ⌜ Holds (λ e. r ≡ properGuids (ipids e)) (now (words .entry)) ⌝ }
+// Remote-unknown and interface IPIDs are one kind: none is nil, and no two are the same. Leaves an index of the latter.
+fn ipids_proper<'a>(words: &'a [u64], rows: &'a mut [u8; buckets::BUCKETS]) -> bool
+    requires { ⌜ Whole (now words) × (length (now rows) ≡ 4096) ⌝ }
+    ensures { λ r. ⌜
+        Holds (λ e. r ≡ properGuids (ipids e)) (now (words .entry))
+        × Leaves r (now (rows .exit)) (now (words .entry)) ⌝ }
 {
     let n = find::exporter_count(words);
     let m = find::interface_count(words);
@@ -133,18 +138,19 @@ fn ipids_proper(words: &[u64]) -> bool
     let unknown_highs = table_words::column(words, table_words::UNKNOWN_HIGHS, n);
     let lows = table_words::column(words, table_words::IPID_LOWS, m);
     let highs = table_words::column(words, table_words::IPID_HIGHS, m);
-    let mut marks = [false; table_columns::buckets::BUCKETS];
-    if !identifiers::enter_guids(&mut marks, lows, highs, &lows[..0], &highs[..0]) {
+    if !identifiers::enter_guids(rows, lows, highs, lows, highs, m) {
         return false;
     }
-    identifiers::enter_guids(&mut marks, unknown_lows, unknown_highs, lows, highs)
+    identifiers::enter_guids(rows, unknown_lows, unknown_highs, lows, highs, 0)
 }
 
-fn interfaces_sound(words: &[u64]) -> bool
-    requires { ⌜ Whole (now words) ⌝ }
-    ensures { λ r. ⌜ Holds (λ e. r ≡ holding (interfaceClauses e)) (now (words .entry)) ⌝ }
+fn interfaces_sound<'a>(words: &'a [u64], rows: &'a mut [u8; buckets::BUCKETS]) -> bool
+    requires { ⌜ Whole (now words) × (length (now rows) ≡ 4096) ⌝ }
+    ensures { λ r. ⌜
+        Holds (λ e. r ≡ holding (interfaceClauses e)) (now (words .entry))
+        × Leaves r (now (rows .exit)) (now (words .entry)) ⌝ }
 {
-    if !ipids_proper(words) {
+    if !ipids_proper(words, rows) {
         return false;
     }
     interfaces_held(words)
@@ -198,6 +204,21 @@ fn sets_sound(words: &[u64]) -> bool
 pub fn sound<'a>(words: &'a [u64], store: &'a [u8]) -> bool
     ensures { λ r. ⌜ r ≡ soundMemory (memory (now (words .entry)) (now (store .entry))) ⌝ }
 {
+    let mut rows = [0u8; buckets::BUCKETS];
+    sound_indexed(words, store, &mut rows)
+}
+
+// The same; leaves an index of the interfaces' IPIDs where it is.
+pub fn sound_indexed<'a>(
+    words: &'a [u64],
+    store: &'a [u8],
+    rows: &'a mut [u8; buckets::BUCKETS],
+) -> bool
+    requires { ⌜ length (now rows) ≡ 4096 ⌝ }
+    ensures { λ r. ⌜
+        (r ≡ soundMemory (memory (now (words .entry)) (now (store .entry))))
+        × Leaves r (now (rows .exit)) (now (words .entry)) ⌝ }
+{
     if words.len() != limits::WORDS {
         return false;
     }
@@ -213,7 +234,7 @@ pub fn sound<'a>(words: &'a [u64], store: &'a [u8]) -> bool
     if !objects_sound(words) {
         return false;
     }
-    if !interfaces_sound(words) {
+    if !interfaces_sound(words, rows) {
         return false;
     }
     sets_sound(words)

@@ -5,6 +5,7 @@ use mathlib.Core.Bool.{Bool, not}
 use mathlib.Core.List.{List, map}
 use lib.ListN.{getD, take, drop}
 use lib.Dec.{eqb, ltb}
+use Rattle.kinds.specs.declared.Guid.{Guid}
 use Rattle.bindings.specs.Bindings.{listLength}
 use Rattle.lists.specs.Lists.{tabulate, every, among}
 use Rattle.table_columns.specs.Rows.{cell, rowAt, rows}
@@ -98,6 +99,10 @@ objectsOf ws = map asObject (rows objectKind ws (objectCount ws))
 
 unfoldable pub interfacesOf : List ℕ → List Interface
 interfacesOf ws = map asInterface (rows interfaceKind ws (interfaceCount ws))
+
+-- the IPIDs of the interfaces
+abbrev pub ipidsOf : List ℕ → List Guid
+ipidsOf ws = map (λ (i : Interface). i .ipid) (interfacesOf ws)
 
 -- the OIDs of the objects
 abbrev pub oidsOf : List ℕ → List ℕ

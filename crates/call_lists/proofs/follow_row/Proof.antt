@@ -2,7 +2,7 @@
 use Prim.Native.Nat.{_≤_, _-_}
 use borrow.Author.Needs.{needs}
 use Rattle.table_columns.specs.Buckets.{guidBucket, Indexed}
-use Rattle.call_lists.specs.Listing.{ipidsOf}
+use Rattle.table_view.specs.View.{ipidsOf}
 use Rattle.call_lists.proofs.Index.{indexed-moved}
 use Rattle.call_lists.proofs.follow_row.Statement.{statement}
 use Rattle.call_lists.proofs.follow_row.Tie as tie

@@ -2,8 +2,7 @@
 use Prim.Native.Nat.{_≤_}
 use borrow.Author.Needs.{needs}
 use Rattle.table_columns.specs.Buckets.{guidBucket, Indexed}
-use Rattle.table_view.specs.View.{interfaceCount}
-use Rattle.call_lists.specs.Listing.{ipidsOf}
+use Rattle.table_view.specs.View.{interfaceCount, ipidsOf}
 use Rattle.call_lists.proofs.Index.{indexed-noted}
 use Rattle.call_lists.proofs.note_rows.Statement.{statement}
 use Rattle.call_lists.proofs.note_rows.Tie as tie

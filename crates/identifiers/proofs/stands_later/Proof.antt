@@ -1,25 +1,25 @@
 -- `identifiers::stands_later`: in the first two columns, or in the second two.
-use mathlib.Core.Path.{sym, _∙_}
+use mathlib.Core.Path.{_≡_, sym, _∙_}
+use mathlib.Core.Bool.{Bool, true, false}
+use mathlib.Core.List.{List, _++_}
 use borrow.Author.Needs.{needs}
-use lib.ListN.{drop}
-use Rattle.lists.specs.Guids.{sameGuid}
+use Rattle.lists.specs.Lists.{some}
 use Rattle.lists.proofs.Lists.{some-append}
-use Rattle.table_columns.specs.Guids.{guids}
 use Rattle.identifiers.proofs.stands_later.Statement.{statement}
 use Rattle.identifiers.proofs.stands_later.Tie as tie
 
-returns : tie.Need-returns
-returns c =
-    let v = c .before .before .before .before .before .before .args in
-    let t = sym (c .before .has-guid-from .ensures) ∙ c .if1 .taken in
-    sym (some-append (sameGuid (v .g)) (drop (v .from) (guids (v .lows .now) (v .highs .now))) (guids (v .lows2 .now) (v .highs2 .now)) ∙ rw t)
+module _ {A : Type 0} (p : A → Bool) (xs ys : List A) {t : Bool} (e : t ≡ some p xs) where
+  in-first : t ≡ true → true ≡ some p (xs ++ ys)
+  in-first h = let f : some p xs ≡ true = sym e ∙ h in sym (some-append p xs ys ∙ rw f)
 
-returns-2 : tie.Need-returns-2
-returns-2 c =
-    let v = c .before .before .before .before .before .before .before .args in
-    let f = sym (c .before .before .has-guid-from .ensures) ∙ c .before .if1 .left in
-    c .has-guid .ensures
-    ∙ sym (some-append (sameGuid (v .g)) (drop (v .from) (guids (v .lows .now) (v .highs .now))) (guids (v .lows2 .now) (v .highs2 .now)) ∙ rw f)
+  in-second : t ≡ false → {r : Bool} → r ≡ some p ys → r ≡ some p (xs ++ ys)
+  in-second h q = let f : some p xs ≡ false = sym e ∙ h in q ∙ sym (some-append p xs ys ∙ rw f)
 
 pub stands-later-spec : {M : Type 1} → statement M
-stands-later-spec = tie.close (tie.spec (λ c κs. search needs) returns (λ c κs. search needs) returns-2)
+stands-later-spec =
+    tie.close
+    (tie.spec
+    (λ c κs. search needs)
+    (λ c. in-first _ _ _ (c .before .has-guid-from .ensures) (c .if1 .taken))
+    (λ c κs. search needs)
+    (λ c. in-second _ _ _ (c .before .before .has-guid-from .ensures) (c .before .if1 .left) (c .has-guid-from2 .ensures)))

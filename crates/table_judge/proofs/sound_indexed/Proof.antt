@@ -1,4 +1,4 @@
--- `table_judge::sound`: both lengths, then the groups of clauses in turn.
+-- `table_judge::sound_indexed`: both lengths, then the groups of clauses in turn.
 use Prim.Native.Nat.{ℕ}
 use mathlib.Core.Path.{_≡_, sym, _∙_}
 use mathlib.Core.Bool.{Bool, true, false, not}
@@ -13,10 +13,10 @@ use Rattle.rules.specs.Contract as contract
 use Rattle.rules.proofs.SoundLaws.{sound-groups, clause-at}
 use Rattle.table_view.specs.View.{oidsOf, memory, view, soundMemory, Holds}
 use Rattle.table_view.proofs.KeptLists.{lists-judged}
-use Rattle.table_judge.proofs.Clauses.{judged-fails, judged-passes, judged-last, clauses-after}
+use Rattle.table_judge.proofs.Clauses.{judged-fails, judged-passes, judged-last, clauses-after, leaves-not, leaves-where}
 use borrow.Author.Needs.{needs}
-use Rattle.table_judge.proofs.sound.Statement.{statement}
-use Rattle.table_judge.proofs.sound.Tie as tie
+use Rattle.table_judge.proofs.sound_indexed.Statement.{statement}
+use Rattle.table_judge.proofs.sound_indexed.Tie as tie
 
 module _ (ws s : List ℕ) where
   -- both lengths and the groups of clauses, without the first k
@@ -69,19 +69,19 @@ module _ (ws s : List ℕ) where
 oids-proper : (ws : List ℕ) (n : Bool) → not n ≡ false → Holds (λ e. n ≡ holding (namingClauses e)) ws → proper (oidsOf ws) ≡ true
 oids-proper ws n h judged = clause-at _ 2 (sym (judged []) ∙ not-false _ h)
 
-pub sound-spec : {M : Type 1} → statement M
-sound-spec =
+pub sound-indexed-spec : {M : Type 1} → statement M
+sound-indexed-spec =
     tie.close
     (tie.spec
-    (λ c. search few-words)
-    (λ c. search few-bytes)
+    (λ c. (search few-words, leaves-not))
+    (λ c. (search few-bytes, leaves-not))
     (λ c κs. search needs)
-    (λ c. search lists-fail)
+    (λ c. (search lists-fail, leaves-not))
     (λ c κs. search needs)
-    (λ c. search names-fail)
+    (λ c. (search names-fail, leaves-not))
     (λ c κs. search needs)
-    (λ c. search objects-fail)
+    (λ c. (search objects-fail, leaves-not))
     (λ c κs. search needs)
-    (λ c. search interfaces-fail)
+    (λ c. (search interfaces-fail, leaves-not))
     (λ c κs. (search needs, search oids-proper))
-    (λ c. search sets-last))
+    (λ c. (search sets-last, search leaves-where)))
