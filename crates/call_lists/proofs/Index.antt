@@ -12,7 +12,7 @@ use lib.Seq.{getD-set-same, getD-set-other}
 use Rattle.kinds.specs.declared.Guid.{Guid}
 use Rattle.lists.proofs.Tests.{same-or-not}
 use Rattle.lists.proofs.Lists.{every-mono, every-from-at}
-use Rattle.table_columns.specs.Buckets.{guidBucket, Indexed}
+use Rattle.table_columns.specs.Buckets.{guidBucket, Indexed, wordBucket}
 
 -- one number anywhere
 module _ {A : Type 0} (bucket : A → ℕ) (xs : List A) (rows : List ℕ) (b v : ℕ) (m : Indexed bucket rows xs) (h : b < 4096) where
@@ -36,7 +36,7 @@ module _ {A : Type 0} (bucket : A → ℕ) (xs : List A) (rows : List ℕ) (b v 
 
 -- the same number everywhere
 bucket-below : (g : Guid) → guidBucket g < 4096
-unfolding guidBucket
+unfolding wordBucket
 bucket-below g = omega arith
 
 pub indexed-all : (n v : ℕ) (gs : List Guid) → n ≡ 4096 → 0 < v → Indexed guidBucket (replicate n v) gs

@@ -5,11 +5,10 @@ use kinds::limits;
 use table_columns::buckets;
 use table_view::find;
 ghost use mathlib.Core.Path.{_≡_};
-ghost use Prim.Native.Nat.{_+_, _≤_, _<_};
+ghost use Prim.Native.Nat.{_≤_, _<_};
 ghost use lib.Dec.{eqb};
 ghost use lib.ListN.{length};
 ghost use Rattle.table_columns.specs.Buckets.{guidBucket, Indexed};
-ghost use Rattle.fields.specs.Fields.{field};
 ghost use Rattle.rules.specs.Contract.{Whole};
 ghost use Rattle.rules.specs.Entries.{interfaceRow};
 ghost use Rattle.rules.specs.Calls.{Call};
@@ -223,21 +222,10 @@ fn read_item(items: &[u8], k: usize) -> Counted
     let end = at + 24;
     let item = &items[at..end];
     Counted {
-        ipid: Guid {
-            low: read_half(item, 0),
-            high: read_half(item, 8),
-        },
+        ipid: fields::read_guid(item, 0),
         public: fields::read_u32(item, 16),
         private: fields::read_u32(item, 20),
     }
-}
-
-// Half of an IPID by its own halves, of which the bucket is made: the compiler then reads each by one load.
-fn read_half(item: &[u8], at: usize) -> u64
-    requires { ⌜ at + 8 ≤ length (now item) ⌝ }
-    ensures { λ r. ⌜ r ≡ field (now (item .entry)) at 8 ⌝ }
-{
-    fields::read_u32(item, at) as u64 + 4294967296 * fields::read_u32(item, at + 4) as u64
 }
 
 // An item at the row that its IPID has.

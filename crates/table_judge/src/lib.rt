@@ -62,7 +62,7 @@ fn objects_named(words: &[u64]) -> bool
     let interfaces = find::interface_count(words);
     let oids = table_words::column(words, table_words::OIDS, objects);
     let named = table_words::column(words, table_words::INTERFACE_OBJECTS, interfaces);
-    let mut rows = [0u8; 4096];
+    let mut rows = [0u8; 2048];
     if !identifiers::note(&mut rows, oids) {
         return false;
     }
