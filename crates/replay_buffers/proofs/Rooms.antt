@@ -70,15 +70,16 @@ module _ (e : Entries) (s : sound e ≡ true) (f : Fits e) (x : ℕ) (live : isL
 -- ---- calls with a buffer of another length
 
 module _ (b b′ : List ℕ) (e : Entries) where
-  -- no list has more than 65,535 items
-  list-alike : (w : Counting) (c : ℕ) (s : List ℕ) → length b ≡ min (length b′) mostListed → Alike (countList w c s b) (countList w c s b′) e
+  -- one with room for every item of a list that is not refused
+  list-alike : (w : Counting) (c : ℕ) (s : List ℕ) (most : ℕ) → (itemCount s ≤ mostListed → itemCount s ≤ most) → length b ≡ min (length b′) most
+      → Alike (countList w c s b) (countList w c s b′) e
   unfolding number refusals results next order
-  list-alike w c s l =
+  list-alike w c s most fits l =
       record {
         number =
             by-bool (ltb mostListed (itemCount s))
             (λ many. rw many)
-            (λ few. rw (same-room (length b) (length b′) mostListed (itemCount s) l (ltb-false mostListed (itemCount s) few)));
+            (λ few. rw (same-room (length b) (length b′) most (itemCount s) l (fits (ltb-false mostListed (itemCount s) few))));
         count = refl;
         values = refl;
         part = refl;
@@ -141,12 +142,12 @@ recorded : {n l k : ℕ} (most : ℕ) → n ≡ min l most → l ≡ k → lengt
 recorded {n} {l} {k} most h e = sym (front-length most (omega arith)) ∙ h ∙ (λ u. min ((e ∙ sym (length-replicate {A = ℕ} k 0)) u) most)
 
 module _ {n l k : ℕ} {s shown : List ℕ} {m m′ : Memory} {r : Step} (t : SoundTable m) where
-  pub list-done : n ≡ min l mostListed → l ≡ k → {w : Counting} {x x′ : ℕ} {items : List ℕ} → x ≡ x′
-      → CallDone (countList w x items (take n (zeros mostListed))) s shown m r m′ → CallDone (countList w x′ items (zeros k)) s shown m r m′
-  list-done h i {w} {x} {x′} {items} e d =
+  pub list-done : {items : List ℕ} (most : ℕ) → (itemCount items ≤ mostListed → itemCount items ≤ most) → n ≡ min l most → l ≡ k → {w : Counting} {x x′ : ℕ} → x ≡ x′
+      → CallDone (countList w x items (take n (zeros most))) s shown m r m′ → CallDone (countList w x′ items (zeros k)) s shown m r m′
+  list-done {items} most fits h i {w} {x} {x′} e d =
       rw (← e)
-      (alike-done (countList w x items (take n (zeros mostListed))) (countList w x items (zeros k)) m m′ s shown t refl refl
-      (list-alike (take n (zeros mostListed)) (zeros k) (view m) w x items (recorded mostListed h i)) d)
+      (alike-done (countList w x items (take n (zeros most))) (countList w x items (zeros k)) m m′ s shown t refl refl
+      (list-alike (take n (zeros most)) (zeros k) (view m) w x items most fits (recorded most h i)) d)
 
   module _ (f : Lent m) where
     pub resolve-done : n ≡ min l longestList → l ≡ k → {x x′ : ℕ} → x ≡ x′

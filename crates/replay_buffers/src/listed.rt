@@ -3,10 +3,12 @@ use kinds::answer;
 use replay_calls::Step;
 ghost use mathlib.Core.Path.{_≡_};
 ghost use mathlib.Core.Bool.{cond};
+ghost use Prim.Native.Nat.{_≤_};
 ghost use lib.Dec.{eqb};
 ghost use lib.ListN.{length};
 ghost use Rattle.fields.specs.Fields.{field, zeros};
 ghost use Rattle.rules.specs.Calls.{countList, adding, releasing};
+ghost use Rattle.rules.specs.Items.{itemCount};
 ghost use Rattle.table_view.specs.View.{memory, SoundTable};
 ghost use Rattle.call_lists.specs.Listing.{wayOf};
 ghost use Rattle.replay_calls.specs.Steps.{CallDone};
@@ -47,8 +49,64 @@ pub fn release_list<'a>(
     count_list(words, store, true, call, items, answer, shown)
 }
 
-// A list given back, or else added: no list has more than 65,535 items.
+// A list given back, or else added.
 fn count_list<'a>(
+    words: &'a mut [u64],
+    store: &'a [u8],
+    back: bool,
+    call: &'a [u8],
+    items: &'a [u8],
+    answer: &'a [u8],
+    shown: &'a [u8],
+) -> Step
+    requires { ⌜ SoundTable (memory (now words) (now store)) × (length (now answer) ≡ 8) ⌝ }
+    ensures { λ r. ⌜
+        CallDone (countList (wayOf back) (field (now (call .entry)) 1 4) (now (items .entry)) (zeros (field (now (call .entry)) 5 8)))
+        (now (answer .entry)) (now (shown .entry)) (memory (now (words .entry)) (now (store .entry)))
+        r (memory (now (words .exit)) (now (store .entry))) ⌝ }
+{
+    if items.len() / 24 <= FEW {
+        return count_few(words, store, back, call, items, answer, shown);
+    }
+    count_many(words, store, back, call, items, answer, shown)
+}
+
+// A list of so many items takes a small buffer: most of the time of a short one would go into clearing the large one.
+const FEW: usize = 256;
+
+fn count_few<'a>(
+    words: &'a mut [u64],
+    store: &'a [u8],
+    back: bool,
+    call: &'a [u8],
+    items: &'a [u8],
+    answer: &'a [u8],
+    shown: &'a [u8],
+) -> Step
+    requires { ⌜
+        SoundTable (memory (now words) (now store)) × (length (now answer) ≡ 8) × (itemCount (now items) ≤ 256) ⌝ }
+    ensures { λ r. ⌜
+        CallDone (countList (wayOf back) (field (now (call .entry)) 1 4) (now (items .entry)) (zeros (field (now (call .entry)) 5 8)))
+        (now (answer .entry)) (now (shown .entry)) (memory (now (words .entry)) (now (store .entry)))
+        r (memory (now (words .exit)) (now (store .entry))) ⌝ }
+{
+    let client = fields::read_u32(call, 1);
+    let n = crate::shorter(fields::read_u64(call, 5), FEW);
+    let mut buffer = [0u8; FEW];
+    count_into(
+        words,
+        store,
+        back,
+        client,
+        items,
+        answer,
+        shown,
+        &mut buffer[..n],
+    )
+}
+
+// No list has more than 65,535 items.
+fn count_many<'a>(
     words: &'a mut [u64],
     store: &'a [u8],
     back: bool,
