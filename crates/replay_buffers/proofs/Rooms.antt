@@ -142,12 +142,14 @@ recorded : {n l k : ℕ} (most : ℕ) → n ≡ min l most → l ≡ k → lengt
 recorded {n} {l} {k} most h e = sym (front-length most (omega arith)) ∙ h ∙ (λ u. min ((e ∙ sym (length-replicate {A = ℕ} k 0)) u) most)
 
 module _ {n l k : ℕ} {s shown : List ℕ} {m m′ : Memory} {r : Step} (t : SoundTable m) where
-  pub list-done : {items : List ℕ} (most : ℕ) → (itemCount items ≤ mostListed → itemCount items ≤ most) → n ≡ min l most → l ≡ k → {w : Counting} {x x′ : ℕ} → x ≡ x′
-      → CallDone (countList w x items (take n (zeros most))) s shown m r m′ → CallDone (countList w x′ items (zeros k)) s shown m r m′
-  list-done {items} most fits h i {w} {x} {x′} e d =
+  pub list-done : {items : List ℕ} (b : List ℕ) → (itemCount items ≤ mostListed → itemCount items ≤ length b) → n ≡ min l (length b) → l ≡ k → {w : Counting} {x x′ : ℕ} → x ≡ x′
+      → CallDone (countList w x items (take n b)) s shown m r m′ → CallDone (countList w x′ items (zeros k)) s shown m r m′
+  list-done {items} b fits h i {w} {x} {x′} e d =
+      let z : length (take n b) ≡ min (length (zeros k)) (length b) =
+      length-take-le n b (omega arith) ∙ h ∙ (λ u. min ((i ∙ sym (length-replicate {A = ℕ} k 0)) u) (length b)) in
       rw (← e)
-      (alike-done (countList w x items (take n (zeros most))) (countList w x items (zeros k)) m m′ s shown t refl refl
-      (list-alike (take n (zeros most)) (zeros k) (view m) w x items most fits (recorded most h i)) d)
+      (alike-done (countList w x items (take n b)) (countList w x items (zeros k)) m m′ s shown t refl refl
+      (list-alike (take n b) (zeros k) (view m) w x items (length b) fits z) d)
 
   module _ (f : Lent m) where
     pub resolve-done : n ≡ min l longestList → l ≡ k → {x x′ : ℕ} → x ≡ x′

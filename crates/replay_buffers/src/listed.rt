@@ -9,6 +9,7 @@ ghost use lib.ListN.{length};
 ghost use Rattle.fields.specs.Fields.{field, zeros};
 ghost use Rattle.rules.specs.Calls.{countList, adding, releasing};
 ghost use Rattle.rules.specs.Items.{itemCount};
+ghost use Rattle.rules.specs.Rules.{mostListed};
 ghost use Rattle.table_view.specs.View.{memory, SoundTable};
 ghost use Rattle.call_lists.specs.Listing.{wayOf};
 ghost use Rattle.replay_calls.specs.Steps.{CallDone};
@@ -66,15 +67,18 @@ fn count_list<'a>(
         r (memory (now (words .exit)) (now (store .entry))) ⌝ }
 {
     if items.len() / 24 <= FEW {
-        return count_few(words, store, back, call, items, answer, shown);
+        let mut buffer = [0u8; FEW];
+        return count_within(words, store, back, call, items, answer, shown, &mut buffer);
     }
-    count_many(words, store, back, call, items, answer, shown)
+    let mut buffer = [0u8; answer::MOST_LISTED];
+    count_within(words, store, back, call, items, answer, shown, &mut buffer)
 }
 
-// A list of so many items takes a small buffer: most of the time of a short one would go into clearing the large one.
+// A list of so many items takes a small buffer: clearing the large one would be most of the time of a short list.
 const FEW: usize = 256;
 
-fn count_few<'a>(
+// The same in a buffer that has a byte for each item of a list that is not refused.
+fn count_within<'a>(
     words: &'a mut [u64],
     store: &'a [u8],
     back: bool,
@@ -82,48 +86,18 @@ fn count_few<'a>(
     items: &'a [u8],
     answer: &'a [u8],
     shown: &'a [u8],
+    buffer: &'a mut [u8],
 ) -> Step
     requires { ⌜
-        SoundTable (memory (now words) (now store)) × (length (now answer) ≡ 8) × (itemCount (now items) ≤ 256) ⌝ }
+        SoundTable (memory (now words) (now store)) × (length (now answer) ≡ 8)
+        × (itemCount (now items) ≤ mostListed → itemCount (now items) ≤ length (now buffer)) ⌝ }
     ensures { λ r. ⌜
         CallDone (countList (wayOf back) (field (now (call .entry)) 1 4) (now (items .entry)) (zeros (field (now (call .entry)) 5 8)))
         (now (answer .entry)) (now (shown .entry)) (memory (now (words .entry)) (now (store .entry)))
         r (memory (now (words .exit)) (now (store .entry))) ⌝ }
 {
     let client = fields::read_u32(call, 1);
-    let n = crate::shorter(fields::read_u64(call, 5), FEW);
-    let mut buffer = [0u8; FEW];
-    count_into(
-        words,
-        store,
-        back,
-        client,
-        items,
-        answer,
-        shown,
-        &mut buffer[..n],
-    )
-}
-
-// No list has more than 65,535 items.
-fn count_many<'a>(
-    words: &'a mut [u64],
-    store: &'a [u8],
-    back: bool,
-    call: &'a [u8],
-    items: &'a [u8],
-    answer: &'a [u8],
-    shown: &'a [u8],
-) -> Step
-    requires { ⌜ SoundTable (memory (now words) (now store)) × (length (now answer) ≡ 8) ⌝ }
-    ensures { λ r. ⌜
-        CallDone (countList (wayOf back) (field (now (call .entry)) 1 4) (now (items .entry)) (zeros (field (now (call .entry)) 5 8)))
-        (now (answer .entry)) (now (shown .entry)) (memory (now (words .entry)) (now (store .entry)))
-        r (memory (now (words .exit)) (now (store .entry))) ⌝ }
-{
-    let client = fields::read_u32(call, 1);
-    let n = crate::shorter(fields::read_u64(call, 5), answer::MOST_LISTED);
-    let mut buffer = [0u8; answer::MOST_LISTED];
+    let n = crate::shorter(fields::read_u64(call, 5), buffer.len());
     count_into(
         words,
         store,
