@@ -1,7 +1,7 @@
 -- Numbers marked by bits.
 use Prim.Native.Nat.{ℕ, zero, suc, _+_, _-_, _*_, _/_, _%_, _^_, _<_, _≤_, max}
 use mathlib.Core.Path.{_≡_, refl, sym, ap, _∙_}
-use mathlib.Core.Bool.{true, false}
+use mathlib.Core.Bool.{true, false, or-comm}
 use mathlib.Core.List.{List, [], _∷_}
 use mathlib.Core.Logic.{⊎-elim}
 use native.Mathlib.Omega.{arith}
@@ -10,11 +10,11 @@ use borrow.Author.Tests.{eq-eqb, ne-eqb}
 use lib.Bits.{bitOr, or-shr, or-step}
 use lib.Pow.{shl-exact, pow-lt, pow-add, shl-shr, shr-le}
 use lib.Dec.{eqb}
-use lib.ListN.{length, getD, set, drop, replicate, length-set, length-replicate}
-use lib.Seq.{drop-length, drop-cons, getD-set-same, getD-set-other}
+use lib.ListN.{length, getD, set, take, replicate, length-set, length-replicate}
+use lib.Seq.{take-length, take-suc, getD-set-same, getD-set-other}
 use Rattle.fields.specs.Fields.{field}
-use Rattle.lists.specs.Lists.{some}
-use Rattle.lists.proofs.Lists.{length-tabulate, getD-tabulate}
+use Rattle.lists.specs.Lists.{some, among}
+use Rattle.lists.proofs.Lists.{some-cons, some-snoc, length-tabulate, getD-tabulate}
 use Rattle.lists.proofs.Tests.{same-or-not, below-or-not}
 use Rattle.bindings.specs.Filter.{wordsIn, isMarked, Marks}
 
@@ -106,15 +106,38 @@ module _ (ms xs : List ℕ) (x : ℕ) (m : Marks ms xs) (h : x < 65536) where
             (same-or-not y x);
       }
 
--- the numbers from i on, and from the end
-module _ (xs : List ℕ) where
-  pub marks-end : (ms : List ℕ) (i : ℕ) → i ≡ length xs → Marks ms [] → Marks ms (drop i xs)
-  marks-end ms i e m = rw (e, drop-length xs) m
+-- the numbers before the last `left` are marked
+pub record Passed (ms xs : List ℕ) (left : ℕ) : Type 0 where
+  pub within : left ≤ length xs
+  pub marked : Marks ms (take (length xs - left) xs)
 
-  pub marks-last : (ms : List ℕ) (i x : ℕ) → 0 < i → i ≤ length xs → x ≡ getD xs (i - 1) 0 → Marks ms (x ∷ drop i xs) → Marks ms (drop (i - 1) xs)
-  marks-last ms i x h l e m =
-      let s : suc (i - 1) ≡ i = omega arith in
-      rw (drop-cons xs (i - 1) 0 (omega arith), s, ← e) m
+module _ (xs : List ℕ) where
+  pub passed-none : (ms : List ℕ) (left : ℕ) → left ≡ length xs → Marks ms [] → Passed ms xs left
+  passed-none ms left e m =
+      let z : length xs - left ≡ 0 = omega arith in
+      record { within = omega arith; marked = rw z m }
+
+  -- one more
+  pub passed-more : (ms ms′ : List ℕ) (left x : ℕ) → Passed ms xs left → 0 < left → x ≡ getD xs (length xs - left) 0
+      → ((ys : List ℕ) → Marks ms ys → Marks ms′ (x ∷ ys)) → Passed ms′ xs (left - 1)
+  passed-more ms ms′ left x p h e f =
+      let i = length xs - left in
+      let within = p .within in
+      let s : length xs - (left - 1) ≡ suc i = omega arith in
+      let g : i < length xs = omega arith in
+      let m = f (take i xs) (p .marked) in
+      record {
+        within = omega arith;
+        marked = record {
+          size = m .size;
+          each = λ y. m .each y ∙ some-cons (eqb y) x (take i xs) ∙ or-comm (eqb y x) (among (take i xs) y) ∙ sym (rw (s, take-suc xs i 0 g, ← e) (some-snoc (eqb y) (take i xs) x));
+        };
+      }
+
+  pub passed-all : (ms : List ℕ) (left : ℕ) → Passed ms xs left → left ≡ 0 → Marks ms xs
+  passed-all ms left p e =
+      let s : length xs - left ≡ length xs = omega arith in
+      rw (s, take-length xs) at (p .marked)
 
 -- words in bytes
 pub words-length : (s : List ℕ) → length (wordsIn s) ≡ length s / 2

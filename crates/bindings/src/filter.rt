@@ -60,10 +60,12 @@ pub fn mark_all(marks: &mut [u64; MARKS], protocols: &[u16])
     requires { ⌜ Marks (now marks) [] ⌝ }
     ensures { λ _. ⌜ Marks (now (marks .exit)) (now (protocols .entry)) ⌝ }
 {
-    let mut i = protocols.len();
-    while 0 < i {
-        i -= 1;
-        mark(marks, protocols[i]);
+    let n = protocols.len();
+    let mut left = n;
+    while 0 < left {
+        let x = protocols[n - left];
+        left -= 1;
+        mark(marks, x);
     }
 }
 
@@ -72,10 +74,12 @@ pub fn mark_all_bytes(marks: &mut [u64; MARKS], protocols: &[u8])
     requires { ⌜ Marks (now marks) [] ⌝ }
     ensures { λ _. ⌜ Marks (now (marks .exit)) (wordsIn (now (protocols .entry))) ⌝ }
 {
-    let mut i = protocols.len() / 2;
-    while 0 < i {
-        i -= 1;
-        mark(marks, fields::word(protocols, 2 * i));
+    let n = protocols.len() / 2;
+    let mut left = n;
+    while 0 < left {
+        let x = fields::word(protocols, 2 * (n - left));
+        left -= 1;
+        mark(marks, x);
     }
 }
 

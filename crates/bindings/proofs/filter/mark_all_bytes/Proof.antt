@@ -1,38 +1,30 @@
--- `filter::mark_all_bytes`: the words from i on are marked.
+-- `filter::mark_all_bytes`: the words before the last ones are marked.
+use mathlib.Core.Path.{sym, _∙_}
 use Prim.Native.Nat.{_-_, _/_, _≤_}
-use mathlib.Core.Path.{_≡_, sym, _∙_}
 use native.Mathlib.Omega.{arith}
 use borrow.Author.Needs.{needs}
-use lib.ListN.{length, drop}
-use Rattle.bindings.specs.Filter.{wordsIn, Marks}
-use Rattle.bindings.proofs.Marks.{words-length, word-in, marks-end, marks-last}
+use lib.ListN.{length}
+use Rattle.bindings.specs.Filter.{wordsIn}
+use Rattle.bindings.proofs.Marks.{words-length, word-in, Passed, passed-none, passed-more, passed-all}
 use Rattle.bindings.proofs.filter.mark_all_bytes.Statement.{statement}
 use Rattle.bindings.proofs.filter.mark_all_bytes.Tie as tie
 
 abbrev Inv-loop : tie.InvT-loop
-Inv-loop marks₀ protocols i₀ marks i = (i ≤ length protocols / 2) × Marks marks (drop i (wordsIn protocols))
+Inv-loop marks₀ protocols n left₀ marks left = (left ≤ length protocols / 2) × Passed marks (wordsIn protocols) left
 
 abbrev μ-loop : tie.MeasureT-loop
-μ-loop marks₀ protocols i₀ marks i = i
-
-loop-holds : tie.Need-loop-holds Inv-loop μ-loop
-loop-holds c =
-    let s = c .before .args .protocols .now in
-    let n = words-length s in
-    (omega arith, marks-end (wordsIn s) _ _ (sym n) (c .before .pre))
+μ-loop marks₀ protocols n left₀ marks left = left
 
 loop-again : tie.Need-loop-again Inv-loop μ-loop
 loop-again c =
-    let s = c .before .before .before .before .before .before .args .protocols .now in
     let l = c .before .before .before .before .loop in
-    let n = words-length s in
-    (omega arith, marks-last (wordsIn s) _ (l .i) _ (search needs) (omega arith) (c .before .word .ensures ∙ sym (word-in s (l .i - 1) (omega arith))) (c .mark .ensures _ (l .inv .1)))
-
-returns : tie.Need-returns Inv-loop μ-loop
-returns c =
-    let l = c .before .loop in
-    let e : l .i ≡ 0 = omega arith in
-    rw e at (l .inv .1)
+    let s = c .before .before .before .before .before .before .args .protocols .now in
+    let n = words-length s in (
+      omega arith,
+      passed-more (wordsIn s) (l .marks) _ (l .left) _ (l .inv .1) (search needs)
+          (rw n (c .before .before .word .ensures ∙ sym (word-in s (length s / 2 - l .left) (omega arith))))
+          (c .mark .ensures),
+    )
 
 pub mark-all-bytes-spec : {M : Type 1} → statement M
 mark-all-bytes-spec =
@@ -40,11 +32,12 @@ mark-all-bytes-spec =
     (tie.spec
     Inv-loop
     μ-loop
-    loop-holds
+    (λ c. (omega arith, passed-none _ _ _ (sym (words-length (c .before .args .protocols .now))) (c .before .pre)))
     (λ c. search needs)
-    (λ c. omega arith)
-    (λ c κs. omega arith)
+    (λ c. search needs)
+    (λ c κs. search needs)
+    (λ c. search needs)
     (λ c κs. search needs)
     (λ c. search needs)
     loop-again
-    returns)
+    (λ c. passed-all _ _ (c .before .loop .left) (search needs) (omega arith)))
