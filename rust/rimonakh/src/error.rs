@@ -110,11 +110,18 @@ impl fmt::Display for Error {
 impl core::error::Error for Error {}
 
 /// What goes with an answer number: `value` where it is 0, else the refusal.
+#[inline]
 pub(crate) fn answered<T>(number: u32, value: T) -> Result<T, Error> {
     match number {
         0 => Ok(value),
-        n => Err(Error::try_from(n).expect("every answer number is 0 or a refusal's")),
+        n => Err(refusal(n)),
     }
+}
+
+/// The refusal of an answer number, apart, so that an accepted call passes one test.
+#[cold]
+fn refusal(number: u32) -> Error {
+    Error::try_from(number).expect("every answer number is 0 or a refusal's")
 }
 
 /// The code that goes out on the wire for an answer: an HRESULT or an error code.
