@@ -91,20 +91,25 @@ fn property_answer(t: &[u8]) -> u32
     answer::DONE
 }
 
-// Of n properties in a row from the start of the bytes, with nothing after them.
+// Of n properties in a row from the start of the bytes, with nothing after them. The heads and the data are counted apart, so that the way
+// from a property to the next is one sum.
 fn properties_answer(t: &[u8], n: u32) -> u32
     ensures { λ r. ⌜ r ≡ propertiesAnswer n (now (t .entry)) ⌝ }
 {
     let mut left = n;
-    let mut at: usize = 0;
+    let mut heads: usize = 0;
+    let mut content: usize = 0;
     while 0 < left {
+        let at = heads + content;
         let number = property_answer(&t[at..]);
         if number != answer::DONE {
             return number;
         }
-        at += 40 + (fields::read_u32(&t[at..], 36) as usize);
+        heads += 40;
+        content += fields::read_u32(&t[at..], 36) as usize;
         left -= 1;
     }
+    let at = heads + content;
     if at < t.len() {
         return answer::LAYOUT;
     }
