@@ -112,24 +112,28 @@ impl Reference {
     }
 
     /// Whether the bytes are a reference.
+    #[inline]
     pub fn judge(bytes: &[u8]) -> Result<()> {
         let number = archive!(rimonakh_reference_answer([bytes]));
         answered(number, ())
     }
 
     /// Reads the fixed fields of a reference.
+    #[inline]
     pub fn read(bytes: &[u8]) -> Result<Reference> {
         let r = archive!(rimonakh_reference_read([bytes]));
         answered(r.answer, r.reference)
     }
 
     /// The binding list (of a custom reference the object data) of a reference.
+    #[inline]
     pub fn tail(bytes: &[u8]) -> Result<&[u8]> {
         let place = archive!(rimonakh_reference_tail([bytes]));
         Ok(&bytes[place.range()?])
     }
 
     /// Where binding `k` of a part of a reference's list stands, from its first word through its zero word.
+    #[inline]
     pub fn locate(bytes: &[u8], part: Part, k: usize) -> Result<Range<usize>> {
         let place = match part {
             Part::Strings => archive!(rimonakh_reference_string_binding([bytes], k)),
@@ -169,6 +173,7 @@ impl Reference {
     }
 
     /// Where the data of element `k` of an extended reference stands, without its padding.
+    #[inline]
     pub fn locate_element(bytes: &[u8], k: usize) -> Result<Range<usize>> {
         let place = archive!(rimonakh_reference_element([bytes], k));
         place.range()
@@ -180,6 +185,7 @@ impl Reference {
     }
 
     /// Where the data of property `k` of the context in a custom reference stands.
+    #[inline]
     pub fn locate_property(bytes: &[u8], k: usize) -> Result<Range<usize>> {
         let place = archive!(rimonakh_reference_property([bytes], k));
         place.range()
@@ -192,6 +198,7 @@ impl Reference {
 
     /// Writes the reference with its list or object data, and the data of its element, at the front of `buffer` and keeps the
     /// rest. Answers the length.
+    #[inline]
     pub fn write(&self, tail: &[u8], content: &[u8], buffer: &mut [u8]) -> Result<usize> {
         let Block {
             flags,
@@ -230,6 +237,7 @@ impl Context {
     pub const MARSHALER: Guid = Guid([0x3B, 3, 0, 0, 0, 0, 0, 0, 0xC0, 0, 0, 0, 0, 0, 0, 0x46]);
 
     /// Reads the fields of a context.
+    #[inline]
     pub fn read(bytes: &[u8]) -> Result<Context> {
         let r = archive!(rimonakh_context_read([bytes]));
         answered(r.answer, r.context)
@@ -237,6 +245,7 @@ impl Context {
 
     /// Writes the context with the bytes of its properties, one after the other, at the front of `buffer` and keeps the rest.
     /// Answers the length.
+    #[inline]
     pub fn write(&self, properties: &[u8], buffer: &mut [u8]) -> Result<usize> {
         let r = archive!(rimonakh_context_write(
             {self.id}, self.reserved, self.marshal, self.count, self.frozen, [properties], [mut buffer]
@@ -266,12 +275,14 @@ impl Property {
     pub const ENVOY: u32 = 4;
 
     /// Reads the fields of property `k` of a context.
+    #[inline]
     pub fn read(bytes: &[u8], k: usize) -> Result<Property> {
         let r = archive!(rimonakh_context_property([bytes], k));
         answered(r.answer, r.property)
     }
 
     /// The properties of a context in one pass: the fields of each, and where its data stands.
+    #[inline]
     pub fn all(bytes: &[u8]) -> Result<impl Iterator<Item = (Property, Range<usize>)> + '_> {
         let start = archive!(rimonakh_context_properties([bytes]));
         let (mut at, mut left) = answered(start.answer, (start.at, start.left))?;
@@ -284,6 +295,7 @@ impl Property {
     }
 
     /// Writes the property with its data at the front of `buffer` and keeps the rest. Answers the length.
+    #[inline]
     pub fn write(&self, content: &[u8], buffer: &mut [u8]) -> Result<usize> {
         let r = archive!(rimonakh_property_write(
             {self.clsid}, {self.policy}, self.flags, [content], [mut buffer]
