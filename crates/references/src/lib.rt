@@ -227,10 +227,11 @@ impl Reference {
         Reference::zero()
     }
 
-    // Reads a reference: its fields, or 13, 14, 21 or 22 with zeros.
+    // Reads a reference: its fields, or 13, 14, 21 or 22 with zeros. The fields are read first: what is copied from memory just written waits.
     pub fn read(s: &[u8]) -> ReadReference
         ensures { λ r. ⌜ r ≡ readReference (now (s .entry)) ⌝ }
     {
+        let reference = Reference::fields(s);
         let number = reference_answer(s);
         if number != answer::DONE {
             return ReadReference {
@@ -240,7 +241,7 @@ impl Reference {
         }
         ReadReference {
             answer: answer::DONE,
-            reference: Reference::fields(s),
+            reference: reference,
         }
     }
 }

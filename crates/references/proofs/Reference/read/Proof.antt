@@ -15,9 +15,9 @@ returns c =
 returns-2 : tie.Need-returns-2
 unfolding readReference
 returns-2 c =
-    let number = c .before .before .reference-answer .ensures in
-    simp (eq-eqb _ _ (sym number ∙ c .before .if1 .left)) (λ u. record { answer = 0; reference = c .fields .ensures u })
+    let number = c .before .reference-answer .ensures in
+    simp (eq-eqb _ _ (sym number ∙ c .if1 .left)) (λ u. record { answer = 0; reference = c .before .before .fields .ensures u })
 
 pub read-spec : {M : Type 1} → statement M
 read-spec =
-    tie.close (tie.spec (λ c κs. search needs) (λ c κs. search needs) returns (λ c κs. search needs) returns-2)
+    tie.close (tie.spec (λ c κs. search needs) (λ c κs. search needs) (λ c κs. search needs) returns returns-2)
