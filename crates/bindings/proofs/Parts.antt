@@ -3,6 +3,7 @@ use Prim.Native.Nat.{ℕ, suc, zero, _+_, _-_, _*_, _<_, _≤_}
 use mathlib.Core.Path.{_≡_, refl, sym, ap, _∙_}
 use mathlib.Core.Bool.{false, cond}
 use mathlib.Core.List.{List, [], _∷_, _++_, append-assoc, append-nil}
+use mathlib.Core.Logic.{⊎-elim}
 use native.Mathlib.Omega.{arith}
 use borrow.Author.Tests.{ne-eqb, eq-eqb, eqb-true}
 use lib.Dec.{eqb, eqb·suc-zero}
@@ -10,6 +11,7 @@ use lib.ListN.{length, take, drop, length-append, length-drop, drop-of-length-le
 use lib.Seq.{take-all, length-take-le}
 use Rattle.fields.specs.Fields.{field}
 use Rattle.kinds.proofs.Refusing.{by-test, same-test}
+use Rattle.lists.proofs.Tests.{below-or-not}
 use Rattle.bindings.specs.Bindings.{words, throughZero, NoZero, headWords, firstBinding, bindingsUpTo, bindingsOf, joined, sameWords, isPart, refusal, place}
 use Rattle.bindings.specs.declared.Part.{Part}
 use Rattle.bindings.specs.declared.Part.the-variants.{Strings, Security}
@@ -58,7 +60,18 @@ pub text-more : (s : List ℕ) (at to n m : ℕ) → to ≡ at + 2 → n ≡ suc
 unfolding throughZero
 text-more s at to n m d e z = rw (words-more s at n m e, ne-eqb _ 0 z, d)
 
--- words before the first zero word, and the text that they leave
+-- words before the first zero word, and others behind them
+pub no-zero-more : (s : List ℕ) (at n i k : ℕ) → (i ≤ n) × NoZero s at i → (k ≤ n - i) × NoZero s (at + 2 * i) k → (i + k ≤ n) × NoZero s at (i + k)
+no-zero-more s at n i k front rest = (
+  omega (arith, front .0, rest .0),
+  λ j l.
+      ⊎-elim
+      (λ (h : j < i). front .1 j h)
+      (λ (h : i ≤ j). let q : at + 2 * i + 2 * (j - i) ≡ at + 2 * j = omega arith in rw q at (rest .1 (j - i) (omega arith)))
+      (below-or-not j i),
+)
+
+-- and the text that they leave
 pub text-passed : (s : List ℕ) (k at n : ℕ) → k ≤ n → NoZero s at k → k + length (throughZero (words s (at + 2 * k) (n - k))) ≡ length (throughZero (words s at n))
 text-passed s zero at n h z =
     let a : at + 2 * 0 ≡ at = omega arith in

@@ -36,14 +36,14 @@ impl Place {
     }
 }
 
-// Whether none of the eight words from at is zero. All are looked at, so that they can be tested side by side.
-fn is_text_block(s: &[u8], at: usize) -> bool
-    requires { ⌜ at + 16 ≤ length (now s) ⌝ }
-    ensures { λ r. ⌜ (r ≡ true → NoZero (now (s .entry)) at 8) ⌝ }
+// Whether none of the w words from at is zero. All are looked at, so that they can be tested side by side.
+fn is_text_block(s: &[u8], at: usize, w: usize) -> bool
+    requires { ⌜ at + 2 * w ≤ length (now s) ⌝ }
+    ensures { λ r. ⌜ (r ≡ true → NoZero (now (s .entry)) at w) ⌝ }
 {
     let mut all = true;
     let mut j = 0;
-    while j < 8 {
+    while j < w {
         if fields::word(s, at + 2 * j) == 0 {
             all = false;
         }
@@ -52,19 +52,46 @@ fn is_text_block(s: &[u8], at: usize) -> bool
     all
 }
 
+// How many of the n words from at are in blocks of w words before the first zero word.
+fn whole_blocks(s: &[u8], at: usize, n: usize, w: usize) -> usize
+    requires { ⌜ (at + 2 * n ≤ length (now s)) × (0 < w) ⌝ }
+    ensures { λ r. ⌜ (r ≤ n) × NoZero (now (s .entry)) at r ⌝ }
+{
+    let mut i = 0;
+    while w <= n - i {
+        if !is_text_block(s, at + 2 * i, w) {
+            return i;
+        }
+        i += w;
+    }
+    i
+}
+
+// The same by large blocks, then by small ones.
+fn far_words(s: &[u8], at: usize, n: usize) -> usize
+    requires { ⌜ at + 2 * n ≤ length (now s) ⌝ }
+    ensures { λ r. ⌜ (r ≤ n) × NoZero (now (s .entry)) at r ⌝ }
+{
+    let i = whole_blocks(s, at, n, 32);
+    i + whole_blocks(s, at + 2 * i, n - i, 8)
+}
+
+// Where a text is longer than this, large blocks are tried.
+const NEAR: usize = 24;
+
 // How many of the n words from at are in blocks before the first zero word.
 pub fn block_words(s: &[u8], at: usize, n: usize) -> usize
     requires { ⌜ at + 2 * n ≤ length (now s) ⌝ }
     ensures { λ r. ⌜ (r ≤ n) × NoZero (now (s .entry)) at r ⌝ }
 {
-    let mut i = 0;
-    while 8 <= n - i {
-        if !is_text_block(s, at + 2 * i) {
-            return i;
-        }
-        i += 8;
+    if n < NEAR {
+        return whole_blocks(s, at, n, 8);
     }
-    i
+    let i = whole_blocks(s, at, NEAR, 8);
+    if i < NEAR {
+        return i;
+    }
+    i + far_words(s, at + 2 * i, n - i)
 }
 
 // How many of the n words from at go up to and with the first zero word, by blocks first.

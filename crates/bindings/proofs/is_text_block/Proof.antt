@@ -11,10 +11,10 @@ use Rattle.bindings.proofs.is_text_block.Statement.{statement}
 use Rattle.bindings.proofs.is_text_block.Tie as tie
 
 abbrev Inv-loop : tie.InvT-loop
-Inv-loop s at all₀ j₀ all j = (j ≤ 8) × (all ≡ true → NoZero s at j)
+Inv-loop s at w all₀ j₀ all j = (j ≤ w) × (all ≡ true → NoZero s at j)
 
 abbrev μ-loop : tie.MeasureT-loop
-μ-loop s at all₀ j₀ all j = 8 - j
+μ-loop s at w all₀ j₀ all j = w - j
 
 loop-again : tie.Need-loop-again Inv-loop μ-loop
 loop-again c =
@@ -31,7 +31,7 @@ loop-again c =
 returns : tie.Need-returns Inv-loop μ-loop
 returns c =
     let l = c .before .loop in
-    let e : l .j ≡ 8 = omega arith in
+    let e : l .j ≡ c .before .before .before .args .w = omega arith in
     λ h. rw e at (l .inv .1 h)
 
 pub is-text-block-spec : {M : Type 1} → statement M
