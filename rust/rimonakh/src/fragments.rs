@@ -31,6 +31,7 @@ pub struct FragmentReader {
 
 impl FragmentReader {
     /// A reader before its first fragment, with room for a list or object data of so many bytes.
+    #[inline]
     pub fn new(room: usize) -> FragmentReader {
         FragmentReader {
             state: archive!(rimonakh_fragments_none()),
@@ -39,6 +40,7 @@ impl FragmentReader {
     }
 
     /// Takes a fragment, which may be of one byte or none. Nothing is refused before the end.
+    #[inline]
     pub fn push(&mut self, fragment: &[u8]) {
         self.state = archive!(rimonakh_fragments_push(
             self.state, [mut &mut self.waiting], [fragment]
@@ -47,6 +49,7 @@ impl FragmentReader {
 
     /// Declares the end: the fields, and the length of the list or object data, which is then at the front of `last`; the rest of
     /// `last` is kept.
+    #[inline]
     pub fn finish(&self, last: &mut [u8]) -> Result<(Reference, usize)> {
         let r = archive!(rimonakh_fragments_finish(
             self.state, [&self.waiting], [mut last]
@@ -55,6 +58,7 @@ impl FragmentReader {
     }
 
     /// Stands before the first fragment of the next reference.
+    #[inline]
     pub fn restart(&mut self) {
         self.state = archive!(rimonakh_fragments_none());
     }

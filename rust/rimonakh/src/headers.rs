@@ -69,6 +69,7 @@ impl ffi::Extension {
 
 impl ffi::ExtensionCursor {
     /// The extensions from here on.
+    #[inline]
     fn walk(self, bytes: &[u8]) -> Result<impl Iterator<Item = Extension<'_>>> {
         let start = (self.pointer, self.at, self.left);
         let (mut pointer, mut at, mut left) = answered(self.answer, start)?;
@@ -122,18 +123,21 @@ impl OrpcThis {
     }
 
     /// Extension `k` of the header at the front of `bytes`.
+    #[inline]
     pub fn extension(bytes: &[u8], k: usize) -> Result<Extension<'_>> {
         let r = archive!(rimonakh_this_extension([bytes], k));
         r.shown(bytes)
     }
 
     /// The extensions of the header at the front of `bytes`, in one pass.
+    #[inline]
     pub fn extensions(bytes: &[u8]) -> Result<impl Iterator<Item = Extension<'_>>> {
         let start = archive!(rimonakh_this_extensions([bytes]));
         start.walk(bytes)
     }
 
     /// Writes the header without extensions at the front of `buffer` and keeps the rest.
+    #[inline]
     pub fn write(&self, buffer: &mut [u8]) -> Result<()> {
         let number = archive!(rimonakh_this_write(
             self.minor, self.flags, {self.causality}, [mut buffer]
@@ -143,6 +147,7 @@ impl OrpcThis {
 
     /// Writes the header with extensions at the front of `buffer` and keeps the rest: the header's pointer, the array's, and at most
     /// 32 extensions. Answers the length.
+    #[inline]
     pub fn write_with(
         &self,
         pointer: u32,
@@ -182,18 +187,21 @@ impl OrpcThat {
     }
 
     /// Extension `k` of the header at the front of `bytes`.
+    #[inline]
     pub fn extension(bytes: &[u8], k: usize) -> Result<Extension<'_>> {
         let r = archive!(rimonakh_that_extension([bytes], k));
         r.shown(bytes)
     }
 
     /// The extensions of the header at the front of `bytes`, in one pass.
+    #[inline]
     pub fn extensions(bytes: &[u8]) -> Result<impl Iterator<Item = Extension<'_>>> {
         let start = archive!(rimonakh_that_extensions([bytes]));
         start.walk(bytes)
     }
 
     /// Writes the header without extensions at the front of `buffer` and keeps the rest.
+    #[inline]
     pub fn write(&self, buffer: &mut [u8]) -> Result<()> {
         let number = archive!(rimonakh_that_write(self.flags, [mut buffer]));
         answered(number, ())
@@ -201,6 +209,7 @@ impl OrpcThat {
 
     /// Writes the header with extensions at the front of `buffer` and keeps the rest: the header's pointer, the array's, and at most
     /// 32 extensions. Answers the length.
+    #[inline]
     pub fn write_with(
         &self,
         pointer: u32,

@@ -62,6 +62,7 @@ impl<'a> Text<'a> {
     }
 
     /// Its characters.
+    #[inline]
     fn chars(self) -> impl Iterator<Item = char> + 'a {
         let characters = char::decode_utf16(self.units());
         characters.map(|c| c.unwrap_or(char::REPLACEMENT_CHARACTER))
@@ -106,12 +107,14 @@ fn text(binding: &[u8], behind: usize) -> Text<'_> {
 }
 
 /// Whether the bytes are one whole list.
+#[inline]
 pub fn judge(bytes: &[u8]) -> Result<()> {
     let number = archive!(rimonakh_list_answer([bytes]));
     answered(number, ())
 }
 
 /// The list at the front of the bytes; those after it are not judged.
+#[inline]
 pub fn front(bytes: &[u8]) -> Result<&[u8]> {
     let number = archive!(rimonakh_list_front_answer([bytes]));
     let length = archive!(rimonakh_list_front_length([bytes]));
@@ -119,6 +122,7 @@ pub fn front(bytes: &[u8]) -> Result<&[u8]> {
 }
 
 /// Where binding `k` of a part of a whole list stands, from its first word through its zero word.
+#[inline]
 pub fn locate(bytes: &[u8], part: Part, k: usize) -> Result<Range<usize>> {
     let place = match part {
         Part::Strings => archive!(rimonakh_list_string_binding([bytes], k)),
@@ -133,6 +137,7 @@ pub fn binding(bytes: &[u8], part: Part, k: usize) -> Result<&[u8]> {
 }
 
 /// Where the bindings of a part of a whole list stand, in one pass.
+#[inline]
 pub fn places(bytes: &[u8], part: Part) -> Result<impl Iterator<Item = Range<usize>> + '_> {
     let start = match part {
         Part::Strings => archive!(rimonakh_list_strings([bytes])),
@@ -160,11 +165,13 @@ pub fn places(bytes: &[u8], part: Part) -> Result<impl Iterator<Item = Range<usi
 /// assert_eq!(found, [[7, 0, 97, 0, 0, 0], [8, 0, 98, 0, 0, 0]]);
 /// # Ok::<(), rimonakh::Error>(())
 /// ```
+#[inline]
 pub fn bindings(bytes: &[u8], part: Part) -> Result<impl Iterator<Item = &[u8]>> {
     Ok(places(bytes, part)?.map(|place| &bytes[place]))
 }
 
 /// The string bindings of a whole list, decoded, in one pass.
+#[inline]
 pub fn strings(bytes: &[u8]) -> Result<impl Iterator<Item = StringBinding<'_>>> {
     Ok(bindings(bytes, Part::Strings)?.map(|b| StringBinding {
         tower: word(b, 0),
@@ -173,6 +180,7 @@ pub fn strings(bytes: &[u8]) -> Result<impl Iterator<Item = StringBinding<'_>>> 
 }
 
 /// The security bindings of a whole list, decoded, in one pass.
+#[inline]
 pub fn securities(bytes: &[u8]) -> Result<impl Iterator<Item = SecurityBinding<'_>>> {
     Ok(bindings(bytes, Part::Security)?.map(|b| SecurityBinding {
         service: word(b, 0),
@@ -183,6 +191,7 @@ pub fn securities(bytes: &[u8]) -> Result<impl Iterator<Item = SecurityBinding<'
 
 /// Writes the list of string and security bindings at the front of `buffer` and keeps the rest. Answers the length. Each binding is
 /// its words with its zero word; the words that end the parts are not given.
+#[inline]
 pub fn write(strings: &[u16], security: &[u16], buffer: &mut [u8]) -> Result<usize> {
     let r = archive!(rimonakh_list_write([strings], [security], [mut buffer]));
     answered(r.answer, r.length)

@@ -155,18 +155,21 @@ impl Reference {
     }
 
     /// The bindings of a part of a reference's list, in one pass. A custom reference has none.
+    #[inline]
     pub fn bindings(bytes: &[u8], part: Part) -> Result<impl Iterator<Item = &[u8]>> {
         let of = Reference::list(bytes)?.map(|list| list::bindings(list, part));
         Ok(of.transpose()?.into_iter().flatten())
     }
 
     /// The string bindings of a reference, decoded, in one pass. A custom reference has none.
+    #[inline]
     pub fn strings(bytes: &[u8]) -> Result<impl Iterator<Item = StringBinding<'_>>> {
         let of = Reference::list(bytes)?.map(list::strings);
         Ok(of.transpose()?.into_iter().flatten())
     }
 
     /// The security bindings of a reference, decoded, in one pass. A custom reference has none.
+    #[inline]
     pub fn securities(bytes: &[u8]) -> Result<impl Iterator<Item = SecurityBinding<'_>>> {
         let of = Reference::list(bytes)?.map(list::securities);
         Ok(of.transpose()?.into_iter().flatten())
