@@ -208,13 +208,13 @@ pub fn rich_table(clients: std::ops::Range<u32>) -> State {
     table
 }
 
-/// Identifiers that all fall into one bucket of the library's, and are spread otherwise: in its product the bits that it takes buckets
-/// from, and some more, are zero.
+/// Identifiers that share both buckets of the library's indexes (`table_columns/specs/Buckets.antt`), so that each is searched for:
+/// in the product the bits that the first is taken from are zero, and so are the lowest twelve, which are the second.
 pub fn one_bucket() -> impl Fn(u64) -> u64 {
-    let in_it = |x: &u64| (x * 1_013_904_223) >> 20 & 0xFFFF == 0;
+    let bucket = |x: u64| (x % (1 << 32) * 961_217_543 + (x >> 32) * 699_039_225) >> 20 & 0xFFF;
     let found: Vec<u64> = (0..)
-        .map(|n| spread(n) >> 33)
-        .filter(in_it)
+        .map(|n| spread(n) >> 12 << 12)
+        .filter(|&x| bucket(x) == 0)
         .take(1400)
         .collect();
     move |n| found.get(n as usize).copied().unwrap_or(0)

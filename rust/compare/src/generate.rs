@@ -9,6 +9,7 @@ use model::entries::{Entries, Way, EXPORTERS, INTERFACES, LONGEST_LIST, OBJECTS,
 use model::snapshot::{sections, sorted};
 use model::Guid;
 use std::ops::Range;
+use std::sync::OnceLock;
 
 // ---- bytes
 
@@ -243,6 +244,17 @@ fn alter(random: &mut Random, e: &mut Entries) {
     }
 }
 
+/// The words that share both buckets of the library's indexes (`table_columns/specs/Buckets.antt`), by number: each is searched for.
+fn crowded(i: u64) -> u64 {
+    static FOUND: OnceLock<Vec<u64>> = OnceLock::new();
+    let bucket = |x: u64| (x % (1 << 32) * 961_217_543 + (x >> 32) * 699_039_225) >> 20 & 0xFFF;
+    let found = || {
+        let second = (1..).map(|n: u64| n << 12);
+        second.filter(|&x| bucket(x) == 0).take(512).collect()
+    };
+    FOUND.get_or_init(found)[i as usize]
+}
+
 /// Counts of references.
 const COUNTS: [u32; 10] = [0, 1, 1, 2, 2, 3, 5, u32::MAX, u32::MAX - 1, 1 << 31];
 
@@ -273,7 +285,7 @@ impl Pools {
             exporters,
             objects,
             ipids,
-            style: random.below(3),
+            style: random.below(4),
             calm,
             long: random.once_in(3),
             pokes,
@@ -288,7 +300,8 @@ impl Pools {
         match self.style {
             0 => i,
             1 => i << 40,
-            _ => u64::MAX - i,
+            2 => u64::MAX - i,
+            _ => crowded(i),
         }
     }
 
@@ -319,7 +332,8 @@ impl Pools {
         let number = match self.style {
             0 => i,
             1 => i << 64,
-            _ => (i % 5) | (i / 5 + 1) << 90,
+            2 => (i % 5) | (i / 5 + 1) << 90,
+            _ => crowded(i as u64) as u128,
         };
         number.to_le_bytes()
     }
