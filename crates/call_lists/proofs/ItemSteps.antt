@@ -2,15 +2,16 @@
 use Prim.Native.Nat.{ℕ, _+_, _-_, _*_, _<_, _≤_}
 use mathlib.Core.Path.{_≡_, refl, sym, subst, ap, _∙_}
 use mathlib.Core.Bool.{Bool, true, false, cond, not, _||_, true≢false}
-use mathlib.Core.List.{List, [], _∷_}
+use mathlib.Core.List.{List}
 use mathlib.Core.Logic.{⊎-elim}
 use native.Mathlib.Omega.{arith}
 use native.Mathlib.Nat.{add-zero}
 use borrow.Author.Tests.{eq-eqb, ne-eqb}
 use lib.ListN.{length, take, drop, length-drop}
-use lib.Seq.{drop-drop, length-take-le}
+use lib.Seq.{length-take-le}
 use Rattle.kinds.specs.Refusals.{order}
-use Rattle.fields.specs.Fields.{bytesNumber, field}
+use Rattle.kinds.specs.declared.Guid.{Guid}
+use Rattle.fields.specs.Fields.{bytesNumber, field, guidAt}
 use Rattle.fields.proofs.Fields.{field-in, part-of}
 use Rattle.lists.proofs.Tests.{same-or-not}
 use Rattle.rules.specs.Entries.{Entries, publicOf, privateOf}
@@ -75,27 +76,14 @@ part-field s at n k w h l =
     ∙ ap bytesNumber (sym (part-of s (take n (drop at s)) at n k w refl h))
     ∙ sym (field-in s (at + k) w (omega arith))
 
--- a number of eight bytes is two of four
-halves : (l : List ℕ) → bytesNumber (take 8 l) ≡ bytesNumber (take 4 l) + 4294967296 * bytesNumber (take 4 (drop 4 l))
-unfolding bytesNumber
-halves [] = refl
-halves (a ∷ []) = omega arith
-halves (a ∷ b ∷ []) = omega arith
-halves (a ∷ b ∷ c ∷ []) = omega arith
-halves (a ∷ b ∷ c ∷ d ∷ l) = omega arith
-
-pub field-halves : (s : List ℕ) (at : ℕ) {p q : ℕ} → at + 8 ≤ length s → p ≡ field s at 4 → q ≡ field s (at + 4) 4 → p + 4294967296 * q ≡ field s at 8
-field-halves s at h e f =
-    rw (e, f, field-in s at 8 h, field-in s at 4 (omega arith), field-in s (at + 4) 4 (omega arith), ← drop-drop 4 at s) (sym (halves (drop at s)))
-
 -- the fields of item k, in its part of the bytes
 module _ (s : List ℕ) (k : ℕ) (l : k < itemCount s) where
   abbrev itemPart : List ℕ
   itemPart = take (24 * k + 24 - 24 * k) (drop (24 * k) s)
 
-  pub part-item : {x y p q : ℕ} → x ≡ field itemPart 0 8 → y ≡ field itemPart 8 8 → p ≡ field itemPart 16 4 → q ≡ field itemPart 20 4
-      → record { ipid = record { low = x; high = y }; public = p; private = q } ≡ itemAt s k
-  part-item a b c d =
+  pub part-item : {i : Guid} {p q : ℕ} → i ≡ guidAt itemPart 0 → p ≡ field itemPart 16 4 → q ≡ field itemPart 20 4
+      → record { ipid = i; public = p; private = q } ≡ itemAt s k
+  part-item a b c =
       let z : 24 * k + 24 - 24 * k ≡ 24 = omega arith in
       let f : (j w : ℕ) → j + w ≤ 24 → field itemPart j w ≡ field s (24 * k + j) w = λ j w h. rw z (part-field s (24 * k) 24 j w h (omega arith)) in
-      rw (a, b, c, d, f 0 8 (omega arith), f 8 8 (omega arith), f 16 4 (omega arith), f 20 4 (omega arith), add-zero (24 * k))
+      rw (a, b, c, f 0 8 (omega arith), f 8 8 (omega arith), f 16 4 (omega arith), f 20 4 (omega arith), add-zero (24 * k))
