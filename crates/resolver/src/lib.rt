@@ -14,6 +14,7 @@ use kinds::Oxid;
 use kinds::SetId;
 use kinds::answer;
 pub use replaying::Outcome;
+use table_columns::buckets;
 ghost use mathlib.Core.Path.{_≡_};
 ghost use Rattle.kinds.specs.declared.Guid.{Guid};
 ghost use Rattle.rules.specs.Calls.{Call, Edit, Look, Start, adding, numbered, releasing};
@@ -184,10 +185,11 @@ pub fn add_list<'a>(
         Performed (Call.countList adding client (now (items .entry)) (now (buffer .entry))) (memory (now (words .entry)) (now (store .entry)))
         (listReply r (now (buffer .exit))) (memory (now (words .exit)) (now (store .entry))) ⌝ }
 {
-    if !table_judge::sound(words, store) {
+    let mut rows = [0u8; buckets::BUCKETS];
+    if !table_judge::sound_indexed(words, store, &mut rows) {
         return answer::UNSOUND;
     }
-    call_lists::list_step(words, store, false, client, items, buffer)
+    call_lists::list_step(words, store, false, client, items, buffer, &mut rows)
 }
 
 // Gives references back by a list of items, likewise.
@@ -202,10 +204,11 @@ pub fn release_list<'a>(
         Performed (Call.countList releasing client (now (items .entry)) (now (buffer .entry))) (memory (now (words .entry)) (now (store .entry)))
         (listReply r (now (buffer .exit))) (memory (now (words .exit)) (now (store .entry))) ⌝ }
 {
-    if !table_judge::sound(words, store) {
+    let mut rows = [0u8; buckets::BUCKETS];
+    if !table_judge::sound_indexed(words, store, &mut rows) {
         return answer::UNSOUND;
     }
-    call_lists::list_step(words, store, true, client, items, buffer)
+    call_lists::list_step(words, store, true, client, items, buffer, &mut rows)
 }
 
 // Pings a set: 0, or 1; 11.
