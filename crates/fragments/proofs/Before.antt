@@ -5,15 +5,15 @@ use mathlib.Core.Logic.{_⊎_, inl, inr}
 use mathlib.Core.Bool.{false, and-false, or-false}
 use mathlib.Core.List.{List, [], _∷_, _++_}
 use native.Mathlib.Omega.{arith}
-use native.Mathlib.Nat.{add-zero, sub-zero}
+use native.Mathlib.Nat.{add-zero}
 use borrow.Author.Tests.{lt-ltb, le-ltb, ltb-true, ltb-false, le-leb, lt-leb}
 use lib.Dec.{ltb}
-use lib.ListN.{length, take, drop, set, length-set, take-append-drop}
-use lib.Seq.{set-split, length-take-le}
+use lib.ListN.{length, take, drop, set, length-set, length-drop, take-append-drop}
+use lib.Seq.{set-split, length-take-le, drop-drop}
 use Rattle.kinds.specs.Refusals.{differ}
 use Rattle.kinds.proofs.Refusing.{by-test}
 use Rattle.fields.specs.Fields.{field}
-use Rattle.fields.proofs.Fields.{field-front, written-more, written-none}
+use Rattle.fields.proofs.Fields.{field-front, written-more, written-none, take-rest}
 use Rattle.bindings.proofs.ListBytes.{by-bool}
 use Rattle.references.specs.References.{fixedSize}
 use Rattle.references.proofs.Forms.{size-most}
@@ -21,7 +21,7 @@ use Rattle.list_walk.specs.Walk.{limit}
 use Rattle.fragments.specs.Fragments.{Reading, formOf, inTail, step, stepIn, stepHead, pushed}
 use Rattle.fragments.specs.declared.Fragments.{Fragments}
 use Rattle.fragments.specs.Rest.{quietEnd, Quiet, quietAfter}
-use Rattle.fragments.proofs.Rest.{low-more, push-then}
+use Rattle.fragments.proofs.Rest.{low-more, push-parts}
 
 -- a byte behind a field leaves it
 field-set : (l : List ℕ) (i b at w : ℕ) → i < length l → at + w ≤ i → field (set l i b) at w ≡ field l at w
@@ -109,13 +109,34 @@ quiet-pushed (b ∷ bs) r size q =
     (quiet-pushed bs (quietStep r b) (length-set h seen b ∙ size) (quiet-next h seen (length bs) q b size)
     ∙ (rw (head, count, low-more (r .state .low) b bs)))
 
--- for the code: such bytes, and the others
-pub quiet-then : (f g h : Fragments) (w w′ bs : List ℕ) (m : ℕ) → length (f .head) ≡ 84 → (m ≤ length bs) × Quiet (f .head) (f .seen) m → g ≡ quietAfter f (take (m - 0) bs)
-    → (h ≡ (pushed (record { state = g; waiting = w }) (take (length bs - m) (drop m bs))) .state)
-    × (w′ ≡ (pushed (record { state = g; waiting = w }) (take (length bs - m) (drop m bs))) .waiting)
-    → (h ≡ (pushed (record { state = f; waiting = w }) bs) .state) × (w′ ≡ (pushed (record { state = f; waiting = w }) bs) .waiting)
-quiet-then f g h w w′ bs m size q e late =
-    let r : Reading = record { state = f; waiting = w } in
-    let n : Quiet (f .head) (f .seen) (length (take (m - 0) bs)) = rw (sub-zero m, length-take-le m bs (q .0)) (q .1) in
-    let p = sym (quiet-pushed (take (m - 0) bs) r size n) in
-    push-then r g h w w′ bs m (e ∙ ap (λ (x : Reading). x .state) p, ap (λ (x : Reading). x .waiting) p) late
+-- ---- for the code: f is the state after the bytes before at
+pub record Left (r : Reading) (bs : List ℕ) (f : Fragments) (at : ℕ) : Type 0 where
+  pub within : at ≤ length bs
+  pub size : length (f .head) ≡ 84
+  pub same : pushed (record { state = f; waiting = r .waiting }) (drop at bs) ≡ pushed r bs
+
+module _ (r : Reading) (bs : List ℕ) (f : Fragments) (at : ℕ) (l : Left r bs f at) where
+  -- such bytes
+  module _ (m : ℕ) (q : (m ≤ length bs - at) × Quiet (f .head) (f .seen) m) where
+    abbrev part : List ℕ
+    part = take (at + m - at) (drop at bs)
+
+    pub left-room : Quiet (f .head) (f .seen) (length part)
+    left-room =
+        let k : at + m - at ≡ m = omega arith in
+        rw (k, length-take-le m (drop at bs) (rw (length-drop at bs) (q .0))) (q .1)
+
+    pub left-quiet : (g : Fragments) → length (g .head) ≡ 84 → g ≡ quietAfter f part → Left r bs g (at + m)
+    left-quiet g size e =
+        let within = l .within in
+        let k : at + m - at ≡ m = omega arith in
+        let p = sym (quiet-pushed part (record { state = f; waiting = r .waiting }) (l .size) left-room) in
+        let t = push-parts (record { state = f; waiting = r .waiting }) (drop at bs) (at + m - at) g (r .waiting) (e ∙ ap (λ (x : Reading). x .state) p) (ap (λ (x : Reading). x .waiting) p) in
+        record { within = omega (arith, q .0); size = size; same = (rw (k, drop-drop m at bs) at t) ∙ l .same }
+
+  -- the others
+  pub left-last : (h : Fragments) (w : List ℕ)
+      → (h ≡ (pushed (record { state = f; waiting = r .waiting }) (take (length bs - at) (drop at bs))) .state)
+      × (w ≡ (pushed (record { state = f; waiting = r .waiting }) (take (length bs - at) (drop at bs))) .waiting)
+      → (h ≡ (pushed r bs) .state) × (w ≡ (pushed r bs) .waiting)
+  left-last h w late = rw (take-rest bs at, l .same) at late

@@ -264,7 +264,7 @@ take-least k bs =
     let n : length bs ≤ length bs = omega arith in
     rw m (take-all (length bs) bs n ∙ sym (take-all k bs l)))
 
-push-parts : (r : Reading) (bs : List ℕ) (m : ℕ) (st : Fragments) (w : List ℕ) → st ≡ (pushed r (take m bs)) .state → w ≡ (pushed r (take m bs)) .waiting
+pub push-parts : (r : Reading) (bs : List ℕ) (m : ℕ) (st : Fragments) (w : List ℕ) → st ≡ (pushed r (take m bs)) .state → w ≡ (pushed r (take m bs)) .waiting
     → pushed (record { state = st; waiting = w }) (drop m bs) ≡ pushed r bs
 push-parts r bs m st w p q = rw (p, q) (sym (pushed-append r (take m bs) (drop m bs)) ∙ ap (pushed r) (take-append-drop m bs))
 

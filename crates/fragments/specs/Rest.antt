@@ -1,5 +1,5 @@
 -- A fragment at once: where the first 84 bytes have come, each part of the state by itself; before the list or the object data, the head. The
--- code goes by it; it does what `pushed` does (`rest-pushed`, `quiet-then`).
+-- code goes by it; it does what `pushed` does (`rest-pushed`, `quiet-pushed`).
 use Prim.Native.Nat.{ℕ, _+_, _-_, _<_, _≤_, min}
 use mathlib.Core.Bool.{Bool, cond, not, _&&_, _||_}
 use mathlib.Core.List.{List}

@@ -372,28 +372,24 @@ impl Fragments {
         state.push_late(waiting, &bytes[m..])
     }
 
-    // The fixed fields behind the header, where it has come, and what follows.
-    fn push_fields(self, waiting: &mut [u8], bytes: &[u8]) -> Fragments
-        ensures { λ r. ⌜
-            (r ≡ (pushed (record { state = self; waiting = now (waiting .entry) }) (now (bytes .entry))) .state)
-            × (now (waiting .exit) ≡ (pushed (record { state = self; waiting = now (waiting .entry) }) (now (bytes .entry))) .waiting) ⌝ }
-    {
-        let head = self.head;
-        let m = quiet(&head, self.seen, bytes.len());
-        let state = self.push_quiet(&bytes[0..m]);
-        state.push_tail(waiting, &bytes[m..])
-    }
-
-    // The header, and what follows.
+    // The header, the fixed fields behind it, whose form is known once it has come, and what follows.
     fn push_first(self, waiting: &mut [u8], bytes: &[u8]) -> Fragments
         ensures { λ r. ⌜
             (r ≡ (pushed (record { state = self; waiting = now (waiting .entry) }) (now (bytes .entry))) .state)
             × (now (waiting .exit) ≡ (pushed (record { state = self; waiting = now (waiting .entry) }) (now (bytes .entry))) .waiting) ⌝ }
     {
-        let head = self.head;
-        let m = quiet(&head, self.seen, bytes.len());
-        let state = self.push_quiet(&bytes[0..m]);
-        state.push_fields(waiting, &bytes[m..])
+        let mut state = self;
+        let mut at = 0;
+        let mut round: usize = 0;
+        while round < 2 {
+            let head = state.head;
+            let m = quiet(&head, state.seen, bytes.len() - at);
+            let end = at + m;
+            state = state.push_quiet(&bytes[at..end]);
+            at = end;
+            round += 1;
+        }
+        state.push_tail(waiting, &bytes[at..])
     }
 
     // A fragment more. What belongs to the list or the object data is kept in the waiting buffer as far as there is room.

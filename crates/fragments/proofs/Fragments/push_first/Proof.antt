@@ -1,35 +1,53 @@
--- `Fragments::push_first`: bytes before the list or the object data at once, and the others.
-use mathlib.Core.Path.{_≡_}
-use native.Mathlib.Nat.{sub-zero}
-use lib.ListN.{length}
-use lib.Seq.{length-take-le}
-use Rattle.fragments.proofs.Before.{quiet-then}
+-- `Fragments::push_first`: after each round the bytes that are left, pushed on, give what all of them give.
+use Prim.Native.Nat.{_-_}
+use mathlib.Core.Path.{refl}
+use native.Mathlib.Omega.{arith}
+use Rattle.fragments.proofs.Before.{Left, left-room, left-quiet, left-last}
 use borrow.Author.Needs.{needs}
 use Rattle.fragments.proofs.Fragments.push_first.Statement.{statement}
 use Rattle.fragments.proofs.Fragments.push_first.Tie as tie
 
-push-quiet-requires : tie.Need-push-quiet-requires
-push-quiet-requires c κs = let q = c .before .quiet .ensures in rw (sub-zero, length-take-le _ _ (q .0)) (q .1)
+abbrev Inv-loop : tie.InvT-loop
+Inv-loop waiting bytes state₀ at₀ round₀ state at round = Left (record { state = state₀; waiting = waiting }) bytes state at
 
-size : (c : tie.After-head2) → length (c .before .before .before .before .args .self .head) ≡ 84
-size c = search needs
+abbrev μ-loop : tie.MeasureT-loop
+μ-loop waiting bytes state₀ at₀ round₀ state at round = 2 - round
 
-returns : tie.Need-returns
-returns c =
-    let first = c .before .before .before .before .before in
-    let l = first .before .before in
-    quiet-then _ _ _ _ _ _ _ (size (l .before)) (l .quiet .ensures) (first .push-quiet .ensures) (c .before .before .push-fields .ensures)
+loop-holds : tie.Need-loop-holds Inv-loop μ-loop
+loop-holds c = record { within = omega arith; size = search needs; same = refl }
+
+push-quiet-requires : tie.Need-push-quiet-requires Inv-loop μ-loop
+push-quiet-requires c κs =
+    let q = c .before .quiet .ensures in
+    let l = c .before .before .before .before .before .loop in
+    left-room _ _ _ _ (l .inv) _ q
+
+loop-again : tie.Need-loop-again Inv-loop μ-loop
+loop-again c =
+    let l = c .before .before .before .before .before .before .loop in
+    left-quiet _ _ _ _ (l .inv) _ (c .before .before .quiet .ensures) _ (search needs) (c .push-quiet .ensures)
+
+returns : tie.Need-returns Inv-loop μ-loop
+returns c = left-last _ _ _ _ (search needs) _ _ (c .before .before .push-tail .ensures)
 
 pub push-first-spec : {M : Type 1} → statement M
 push-first-spec =
     tie.close
     (tie.spec
+    Inv-loop
+    μ-loop
+    loop-holds
+    (λ c. search needs)
     (λ c. search needs)
     (λ c κs. search needs)
     (λ c. search needs)
     (λ c. search needs)
     (λ c. search needs)
+    (λ c. search needs)
     push-quiet-requires
+    (λ c. search needs)
+    (λ c. search needs)
+    loop-again
     (λ c. search needs)
     (λ c. search needs)
     (λ c. search needs)
