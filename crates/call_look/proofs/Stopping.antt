@@ -5,12 +5,11 @@ use mathlib.Core.Bool.{Bool, true, false, cond}
 use mathlib.Core.List.{List, [], _∷_}
 use native.Mathlib.Omega.{arith}
 use native.Mathlib.Nat.{add-sub-cancel-left}
-use borrow.Author.Tests.{eqb-true, eqb-false, ne-eqb}
-use lib.Dec.{eqb}
+use borrow.Author.Tests.{eqb-true, eqb-false, eq-eqb, ne-eqb, lt-ltb, le-ltb}
+use lib.Dec.{eqb, ltb}
 use lib.ListN.{length, take, getD}
 use Rattle.kinds.specs.Refusals.{order, _gives_, differ}
 use Rattle.kinds.proofs.Refusing.{eq-differ, ne-differ}
-use Rattle.fields.specs.Fields.{field}
 use Rattle.bindings.specs.Bindings.{listLength}
 use Rattle.bindings.specs.declared.Place.{Place}
 use Rattle.references.specs.References.{isCustom, referenceAt, referenceAnswer, tailPlace}
@@ -21,16 +20,17 @@ use Rattle.rules.specs.Entries.{Entries, oxids, exporterRow}
 use Rattle.rules.specs.Calls.{Call, Look, Reply}
 use Rattle.rules.specs.Sound.{listsKept}
 use Rattle.rules.specs.Rules.{isLiveExporter, noExporter, oxidOf, refusals, number, next, results, refusedReply, acceptedReply}
-use Rattle.rules.specs.Contract.{Memory, replyTo}
+use Rattle.rules.specs.Contract.{Memory, Whole, replyTo}
 use Rattle.rules.proofs.Performing.{unsound}
 use Rattle.rules.proofs.SoundLaws.{table-fields}
-use Rattle.table_view.specs.View.{exporterCount, listStart, listFrom, exportersOf, memory, view, soundMemory, Performed}
+use Rattle.table_view.specs.View.{exporterCount, listStart, listFrom, exportersOf, memory, view, Holds, soundMemory, SoundTable, Performed}
 use Rattle.table_view.proofs.StoredLists.{start-next}
 use Rattle.table_view.proofs.KeptLists.{list-size, list-ends}
 use Rattle.table_view.proofs.LiveRows.{exporter-at}
 use Rattle.call_look.specs.NextStop.{refusedStop, stopInStore, stopInReference, stopPlace, stopStart, stopReply, placeReply, StopFound, StopPart, OneCall}
 use Rattle.call_look.specs.declared.routing.StopPlace.{StopPlace}
-use Rattle.table_view.proofs.Steps.{refused-step, accepted-step, step-call, row-gives, row-passes, exporter-in-row}
+use Rattle.call_look.proofs.Taking.{lists-kept}
+use Rattle.table_view.proofs.Steps.{refused-step, accepted-step, step-call, row-gives, row-passes, rows-end, exporter-tested, exporter-in-row}
 
 -- ---- the reference, by the place of its list
 
@@ -39,7 +39,7 @@ module _ (reference : List ℕ) {x : Place} (own : x ≡ tailPlace reference) wh
   own-number = ap (λ (p : Place). p .answer) own ∙ tail-number reference
 
   -- its refusal is passed on
-  pub reference-refused : (e : Entries) → (x .answer ≡ 0 → ⊥) → x .answer ≡ number (Call.looking (Look.nextStop reference)) e
+  reference-refused : (e : Entries) → (x .answer ≡ 0 → ⊥) → x .answer ≡ number (Call.looking (Look.nextStop reference)) e
   unfolding number refusals
   reference-refused e bad =
       let n : ℕ = referenceAnswer reference in
@@ -47,17 +47,16 @@ module _ (reference : List ℕ) {x : Place} (own : x ≡ tailPlace reference) wh
 
   module _ (good : x .answer ≡ 0) where
     -- it is accepted
-    pub good-reference : referenceAnswer reference ≡ 0
+    good-reference : referenceAnswer reference ≡ 0
     good-reference = sym own-number ∙ good
 
-    -- the row of the custom form is left
-    pub form-left : (e : Entries) → number (Call.looking (Look.nextStop reference)) e ≡ order (isCustom (field reference 4 4) gives 14 ∷ [])
+    -- the row of the form that is read is left
+    form-left : (e : Entries) {r : Reference} → r ≡ referenceAt reference → number (Call.looking (Look.nextStop reference)) e ≡ order (isCustom (r .flags) gives 14 ∷ [])
     unfolding number refusals
-    form-left e = row-passes (differ (referenceAnswer reference) 0) (referenceAnswer reference) _ refl (eq-differ (referenceAnswer reference) 0 good-reference)
-
-    -- the form that is read is the one that the bytes name
-    pub same-form : {r : Reference} → r ≡ referenceAt reference → r .flags ≡ field reference 4 4
-    same-form e = ap (λ (r : Reference). r .flags) e ∙ flags-at reference (accepted reference good-reference .form)
+    form-left e {r} read =
+        let n : ℕ = referenceAnswer reference in
+        row-passes (differ n 0) n _ refl (eq-differ n 0 good-reference)
+        ∙ rw (ap (λ (r : Reference). r .flags) read ∙ flags-at reference (accepted reference good-reference .form))
 
 -- ---- the list of a live exporter, in the store
 
@@ -68,6 +67,12 @@ module _ (ws s : List ℕ) (i : ℕ) (live : i < exporterCount ws) (kept : lists
   -- it lies in the store
   list-within : listStart s i + length (getD (exportersOf ws s) i noExporter .bindings) ≤ length s
   list-within = rw (bindings-size, ← start-next s i) (list-ends ws s kept i live)
+
+  pub start-within : listStart s i ≤ length s
+  start-within = let l = list-within in omega arith
+
+  pub end-fits : Whole s → (from : ℕ) (list : List ℕ) → from ≡ listStart s i → list ≡ getD (exportersOf ws s) i noExporter .bindings → from + length list < 18446744073709551616
+  end-fits whole from list starts held = let l = list-within in rw (starts, held) (omega arith)
 
   list-bytes : take (listStart s i + length (getD (exportersOf ws s) i noExporter .bindings) - listStart s i) (listFrom s i) ≡ getD (exportersOf ws s) i noExporter .bindings
   list-bytes = rw (add-sub-cancel-left, bindings-size, exporter-at ws s i noExporter live)
@@ -90,7 +95,7 @@ module _ (ws s reference : List ℕ) where
     accepted-number = sym (ap (λ (r : Reply). r .number) (h .answered))
 
     -- the OXID is live: its exporter's list
-    pub store-stop : {i : ℕ} → i ≡ exporterRow (view (memory ws s)) (oxidOf reference) → isLiveExporter (view (memory ws s)) (oxidOf reference) ≡ true
+    store-stop : {i : ℕ} → i ≡ exporterRow (view (memory ws s)) (oxidOf reference) → isLiveExporter (view (memory ws s)) (oxidOf reference) ≡ true
         → i < exporterCount ws → listsKept (view (memory ws s)) ≡ true → StopFound (memory ws s) reference (stopInStore (memory ws s) i)
     unfolding acceptedReply results stopPlace
     store-stop {i} row live l kept =
@@ -101,7 +106,7 @@ module _ (ws s reference : List ℕ) where
         }
 
     -- it is not: the reference's own list
-    pub reference-stop : referenceAnswer reference ≡ 0 → isLiveExporter (view (memory ws s)) (oxidOf reference) ≡ false
+    reference-stop : referenceAnswer reference ≡ 0 → isLiveExporter (view (memory ws s)) (oxidOf reference) ≡ false
         → StopFound (memory ws s) reference (stopInReference (tailPlace reference))
     unfolding acceptedReply results stopPlace
     reference-stop good gone =
@@ -110,6 +115,36 @@ module _ (ws s reference : List ℕ) where
           place = rw (accepted-number, gone);
           within = tail-within reference;
         }
+
+-- ---- the step, by what was read and found
+
+module _ (ws s reference : List ℕ) (t : SoundTable (memory ws s)) (x : Place) (own : x ≡ tailPlace reference) where
+  pub bad-reference : (x .answer ≡ 0 → ⊥) → StopFound (memory ws s) reference (refusedStop (x .answer))
+  bad-reference bad = refused-stop ws s reference _ bad (step-call refl t (refused-step _ (reference-refused reference own _ bad) bad))
+
+  module _ (good : x .answer ≡ 0) (r : Reference) (read : r ≡ referenceAt reference) where
+    pub custom-form : r .flags ≡ 4 → StopFound (memory ws s) reference (refusedStop 14)
+    custom-form h =
+        refused-stop ws s reference 14 (λ z. omega arith)
+        (step-call refl t (refused-step 14 (row-gives _ _ _ (form-left reference own good _ read) (eq-eqb _ _ h)) (λ z. omega arith)))
+
+    module _ (other : r .flags ≡ 4 → ⊥) (n i : ℕ) (counted : n ≡ exporterCount ws) where
+      done : Performed (Call.looking (Look.nextStop reference)) (memory ws s) (acceptedReply (Call.looking (Look.nextStop reference)) (view (memory ws s))) (memory ws s)
+      unfolding next
+      done = step-call refl t (accepted-step 0 (rows-end (row-passes _ _ _ (form-left reference own good _ read) (ne-eqb _ _ other))) refl _ refl)
+
+      module _ (row : Holds (λ e. i ≡ exporterRow e (r .block .oxid .0)) ws) where
+        found : i ≡ exporterRow (view (memory ws s)) (oxidOf reference)
+        found = row s ∙ ap (λ (r : Reference). exporterRow (view (memory ws s)) (r .block .oxid .0)) read
+
+        tested : isLiveExporter (view (memory ws s)) (oxidOf reference) ≡ ltb i n
+        tested = exporter-tested ws s _ found counted
+
+      pub live-exporter : i < n → Holds (λ e. i ≡ exporterRow e (r .block .oxid .0)) ws → StopFound (memory ws s) reference (stopInStore (memory ws s) i)
+      live-exporter l row = store-stop ws s reference done (found row) (tested row ∙ lt-ltb _ _ l) (omega arith) (lists-kept ws s t)
+
+      pub no-exporter : n ≤ i → Holds (λ e. i ≡ exporterRow e (r .block .oxid .0)) ws → StopFound (memory ws s) reference (stopInReference x)
+      no-exporter l row = rw own (reference-stop ws s reference done (good-reference reference own good) (tested row ∙ le-ltb _ _ l))
 
 -- the part of a place that is answered
 pub found-part : {m : Memory} {reference : List ℕ} {p : StopPlace} → StopFound m reference p → (store bytes : ℕ × ℕ)
