@@ -1,2 +1,3 @@
--- What the proofs of a resolve with requested protocols use.
+-- What the proofs of a resolve use.
 pub mod FilteredReplies
+pub mod Resolving
