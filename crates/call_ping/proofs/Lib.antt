@@ -1,3 +1,4 @@
 pub mod Hearing
 pub mod Memberships
 pub mod Pings
+pub mod Taking

@@ -1,15 +1,15 @@
 -- `call_ping::early_answer`: the rows in turn, for set 0 and for another set.
 use mathlib.Core.Path.{_≡_, refl, ap, _∙_}
-use mathlib.Core.Bool.{Bool, cond}
+use mathlib.Core.Bool.{Bool, true, false, cond}
 use mathlib.Core.List.{List, []}
-use Prim.Native.Nat.{ℕ}
+use Prim.Native.Nat.{ℕ, _<_, _≤_}
 use borrow.Author.Tests.{eq-eqb, ne-eqb, lt-ltb, le-ltb}
-use lib.Dec.{ltb}
-use lib.ListN.{drop}
+use lib.Dec.{eqb}
+use lib.ListN.{getD, drop}
 use Rattle.kinds.specs.Refusals.{order}
-use Rattle.rules.specs.Entries.{Entries}
-use Rattle.rules.specs.Rules.{isLiveSet, setOf, staleSequence}
-use Rattle.table_view.specs.View.{memory, view}
+use Rattle.rules.specs.Entries.{setRow}
+use Rattle.rules.specs.Rules.{noSet, staleSequence}
+use Rattle.table_view.specs.View.{setCount, setsOf, memory, view, Holds}
 use Rattle.table_view.proofs.Steps.{row-gives, row-passes, gone-gives, live-passes, rows-end, set-tested}
 use Rattle.call_ping.specs.Pinging.{earlyRows}
 use Rattle.call_ping.proofs.Pings.{liveRows, short-rows, stale-tested}
@@ -17,75 +17,53 @@ use borrow.Author.Needs.{needs}
 use Rattle.call_ping.proofs.early_answer.Statement.{statement}
 use Rattle.call_ping.proofs.early_answer.Tie as tie
 
--- the live entries, with any store
-abbrev At : tie.Start → List ℕ → Entries
-At st s = view (memory (st .args .words .now) s)
+module _ (ws st : List ℕ) (s n adds dels : ℕ) where
+  abbrev early : ℕ
+  early = order (earlyRows s n adds dels (view (memory ws st)))
 
-abbrev Number : tie.Start → List ℕ → ℕ
-Number st s = order (earlyRows (st .args .set .0) (st .args .sequence) (st .args .adds) (st .args .deletes) (At st s))
+  -- the rows of a set other than 0 that are left after the first k
+  abbrev Left : ℕ → Type 0
+  Left k = early ≡ order (drop k (liveRows s n adds dels (view (memory ws st))))
 
-abbrev Live : tie.Start → List ℕ → ℕ → ℕ
-Live st s k = order (drop k (liveRows (st .args .set .0) (st .args .sequence) (st .args .adds) (st .args .deletes) (At st s)))
+  many-adds : 65535 < adds → 10 ≡ early
+  many-adds h = row-gives _ _ _ refl (lt-ltb 65535 _ h)
 
-returns : tie.Need-returns
-returns c s = row-gives _ _ _ refl (lt-ltb 65535 _ (c .if1 .taken))
+  module _ (a : adds ≤ 65535) where
+    many-dels : 65535 < dels → 10 ≡ early
+    many-dels h = row-gives _ _ _ (row-passes _ _ _ refl (le-ltb 65535 _ a)) (lt-ltb 65535 _ h)
 
-returns-2 : tie.Need-returns-2
-returns-2 c s = row-gives _ _ _ (row-passes _ _ _ refl (le-ltb 65535 _ (c .before .if1 .left))) (lt-ltb 65535 _ (c .if2 .taken))
+    module _ (d : dels ≤ 65535) where
+      tested : {b : Bool} → eqb s 0 ≡ b → early ≡ order (cond b [] (liveRows s n adds dels (view (memory ws st))))
+      tested e = short-rows s n adds dels (view (memory ws st)) a d ∙ rw e
 
-returns-3 : tie.Need-returns-3
-returns-3 c s =
-    let st = c .before .before .before .before .before in
-    let a = st .args in
-    rows-end
-    (short-rows (a .set .0) (a .sequence) (a .adds) (a .deletes) (At st s) (c .before .before .before .if1 .left) (c .before .before .if2 .left)
-    ∙ ap (λ (t : Bool). order (cond t [] (liveRows (a .set .0) (a .sequence) (a .adds) (a .deletes) (At st s)))) (eq-eqb (a .set .0) 0 (c .if3 .taken)))
+      new-set : s ≡ 0 → 0 ≡ early
+      new-set z = rows-end (tested (eq-eqb s 0 z))
 
--- the rows of a set other than 0
-live-left : (c : tie.Else3) (s : List ℕ) → Number (c .before .before .before .before .before) s ≡ Live (c .before .before .before .before .before) s 0
-live-left c s =
-    let st = c .before .before .before .before .before in
-    let a = st .args in
-    short-rows (a .set .0) (a .sequence) (a .adds) (a .deletes) (At st s) (c .before .before .before .if1 .left) (c .before .before .if2 .left)
-    ∙ ap (λ (t : Bool). order (cond t [] (liveRows (a .set .0) (a .sequence) (a .adds) (a .deletes) (At st s)))) (ne-eqb (a .set .0) 0 (c .if3 .left))
+      module _ (z : s ≡ 0 → ⊥) (k r : ℕ) (counted : k ≡ setCount ws) where
+        gone : k ≤ r → Holds (λ e. r ≡ setRow e s) ws → 11 ≡ early
+        gone h row = gone-gives (set-tested ws st s (row st) counted) _ _ (tested (ne-eqb s 0 z)) h
 
--- tests of the rows
-set-judged : (c : tie.After-set-count) (s : List ℕ) → let st = c .before .before .before .before .before .before .before in
-    isLiveSet (At st s) (st .args .set .0) ≡ ltb (c .before .set-row .result) (c .set-count .result)
-set-judged c s =
-    let a = c .before .before .before .before .before .before .before .args in
-    set-tested (a .words .now) s (a .set .0) (c .before .set-row .ensures s) (c .set-count .ensures .0)
+        module _ (live : r < k) (row : Holds (λ e. r ≡ setRow e s) ws) (q : ℕ) (held : q ≡ getD (setsOf ws) r noSet .sequence) (b : Bool) (judged : b ≡ staleSequence q n) where
+          left-1 : Left 1
+          left-1 = live-passes (set-tested ws st s (row st) counted) _ _ (tested (ne-eqb s 0 z)) live
 
-stale-judged : (c : tie.After-is-stale) (s : List ℕ) → let st = c .before .before .before .before .before .before .before .before .before .before in
-    staleSequence (setOf (At st s) (st .args .set .0) .sequence) (st .args .sequence) ≡ c .is-stale .result
-stale-judged c s =
-    let a = c .before .before .before .before .before .before .before .before .before .before .args in
-    stale-tested (a .words .now) s (a .set .0) (a .sequence) (c .before .before .before .before .set-row .ensures s) (c .before .sequence .ensures) (c .is-stale .ensures)
+          stale : b ≡ true → 12 ≡ early
+          stale h = row-gives _ _ _ left-1 (stale-tested ws st s n (row st) held judged ∙ h)
 
-returns-4 : tie.Need-returns-4
-returns-4 c s = gone-gives (set-judged (c .before) s) _ _ (live-left (c .before .before .before) s) (c .if4 .taken)
-
--- the set is live
-live-passed : (c : tie.Else4) (s : List ℕ) → Number (c .before .before .before .before .before .before .before .before) s ≡ Live (c .before .before .before .before .before .before .before .before) s 1
-live-passed c s = live-passes (set-judged (c .before) s) _ _ (live-left (c .before .before .before) s) (c .if4 .left)
-
-returns-5 : tie.Need-returns-5
-returns-5 c s = row-gives _ _ _ (live-passed (c .before .before .before) s) (stale-judged (c .before) s ∙ c .if5 .taken)
-
-returns-6 : tie.Need-returns-6
-returns-6 c s = rows-end (row-passes _ _ _ (live-passed (c .before .before .before) s) (stale-judged (c .before) s ∙ c .if5 .left))
+          done : b ≡ false → 0 ≡ early
+          done h = rows-end (row-passes _ _ _ left-1 (stale-tested ws st s n (row st) held judged ∙ h))
 
 pub early-answer-spec : {M : Type 1} → statement M
 early-answer-spec =
     tie.close
     (tie.spec
-    returns
-    returns-2
-    returns-3
+    (λ c s. search many-adds)
+    (λ c s. search many-dels)
+    (λ c s. search new-set)
     (λ c κs. search needs)
     (λ c κs. search needs)
-    returns-4
+    (λ c s. search gone)
     (λ c κs. search needs)
     (λ c κs. search needs)
-    returns-5
-    returns-6)
+    (λ c s. search stale)
+    (λ c s. search done))
