@@ -5,7 +5,7 @@ use mathlib.Core.Bool.{Bool, true, false, cond, not, _&&_, _||_}
 use mathlib.Core.List.{List, [], _∷_, map}
 use mathlib.Core.Logic.{⊎-elim}
 use native.Mathlib.Omega.{arith}
-use borrow.Author.Tests.{eqb-false, eq-eqb, ne-eqb, ltb-true, le-ltb, leb-false, not-false}
+use borrow.Author.Tests.{eqb-false, eq-eqb, ne-eqb, ltb-true, le-ltb, leb-false, not-true, not-false}
 use lib.Dec.{eqb, leb}
 use lib.ListN.{length, getD, set, length-append, length-set}
 use lib.Seq.{getD-append-seam, getD-set-same, set-set}
@@ -21,19 +21,21 @@ use Rattle.table_columns.proofs.members.Making.{zero-member}
 use Rattle.rules.specs.Entries.{PingSet, Entries, oids, withSets, withSequence, withMembers, setRow, setPlaces}
 use Rattle.rules.specs.Calls.{Call, Edit}
 use Rattle.rules.specs.Sound.{proper, sound}
-use Rattle.rules.specs.Rules.{noSet, setOf, isLiveSet, isLiveObject, tooMany, staleSequence, newMembers, refusals, number, next, heardNow}
+use Rattle.rules.specs.Rules.{noSet, setOf, isLiveSet, isLiveObject, tooMany, staleSequence, newMembers, refusals, number, next, results, refusedReply, heardNow}
 use Rattle.rules.proofs.SoundLaws.{sound-fields}
 use Rattle.rules.proofs.PingingKeeps.{newSet}
 use Rattle.rules.proofs.ByRow.{set-live, set-row}
 use Rattle.rules.proofs.PingRows.{complex-ping-row, complex-ping-new}
 use Rattle.rules.specs.PingRows.{changeSet, pingedRow, updatedRow}
-use Rattle.table_view.specs.View.{objectCount, setCount, setsOf, memory, view, oidsOf, memberValues, membersAt, membersBelow}
+use Rattle.table_view.specs.View.{objectCount, setCount, setsOf, memory, view, Holds, SoundTable, Stepped, oidsOf, memberValues, membersAt, membersBelow}
 use Rattle.table_edit.specs.Edits.{Became}
 use Rattle.table_view.proofs.LiveRows.{sets-length}
 use Rattle.table_view.proofs.MemberRows.{oids-length, below-at, row-members}
 use Rattle.call_ping.specs.Pinging.{withPingSet, pingSetRow, isPingSet, earlyRows, lateRows, oidsIn, pingMembers, AllListed, MembersBefore, updatedTo, Reduced}
 use Rattle.call_ping.specs.declared.Listed.{Listed}
-use Rattle.table_view.proofs.Steps.{row-gives, row-passes, two-rows, set-tested}
+use Rattle.call_ping.specs.declared.Pinged.{Pinged}
+use Rattle.call_ping.specs.Replies.{pingReply}
+use Rattle.table_view.proofs.Steps.{refused-step, row-gives, row-passes, two-rows, set-tested}
 use Rattle.call_ping.proofs.Memberships.{new-members}
 
 -- ---- refusals
@@ -94,10 +96,6 @@ module _ (s n adds dels : ℕ) (e : Entries) where
       (λ (t : eqb s 0 ≡ true). rw t refl)
       (λ (f : eqb s 0 ≡ false). rw f (let rows : order liveRows ≡ 0 = rw f at left in not-false _ (passed _ 11 _ (omega arith) rows .0)))
       (true-or-false (eqb s 0))
-
--- by the lengths of lists in bytes
-pub early-bytes : (s n : ℕ) (adds dels : List ℕ) (e : Entries) → order (earlyRows s n (length adds / 8) (length dels / 8) e) ≡ order (earlyRows s n (length (oidsIn adds)) (length (oidsIn dels)) e)
-early-bytes s n adds dels e = rw (length-tabulate (length adds / 8) (λ k. field adds (8 * k) 8), length-tabulate (length dels / 8) (λ k. field dels (8 * k) 8))
 
 -- no other row refuses it: for set 0 there is a place, and a number
 pub late-fits : (s : ℕ) (e : Entries) → order (lateRows s e) ≡ 0 → s ≡ 0 → (length (e .sets) < setPlaces) × (e .next ≡ 2 ^ 64 - 1 → ⊥)
@@ -182,6 +180,55 @@ reduced s n adds dels e {m} {a} {d} p l early before joins live leaves =
           new-members (oids e) p adds dels m (a .members) (d .members) l (before .past) (joins .members live) (leaves .members (leaves .live))
           ∙ ap (newMembers e adds dels) (before .values);
     }
+
+-- ---- a complex ping by its early number and its lists
+
+abbrev pub none : ℕ → Pinged
+none k = record { answer = k; set = record { 0 = 0 }; backoff = 0 }
+
+-- no row before the ids refuses it, on a sound table
+pub record Passed (ws s : List ℕ) (x n : ℕ) (adds dels : List ℕ) : Type 0 where
+  pub table : SoundTable (memory ws s)
+  pub early : Holds (λ e. order (earlyRows x n (length adds) (length dels) e) ≡ 0) ws
+
+module _ (ws s : List ℕ) (x n : ℕ) (adds dels : List ℕ) (r : ℕ) where
+  pub passed-early : SoundTable (memory ws s) → r ≡ 0 → Holds (λ e. r ≡ order (earlyRows x n (length adds) (length dels) e)) ws → Passed ws s x n adds dels
+  passed-early t z early = record { table = t; early = λ st. sym (early st) ∙ z }
+
+  pub early-refused : (r ≡ 0 → ⊥) → Holds (λ e. r ≡ order (earlyRows x n (length adds) (length dels) e)) ws
+      → Stepped (Call.editing (Edit.complexPing x n adds dels)) (memory ws s) (pingReply (none r)) (memory ws s)
+  unfolding refusedReply results
+  early-refused bad early = refused-step r (early s ∙ early-gives x n adds dels (view (memory ws s)) (λ z. bad (early s ∙ z))) bad
+
+-- by the lengths of lists in bytes
+module _ (ws s : List ℕ) (x n : ℕ) (adds dels : List ℕ) (r : ℕ) where
+  early-bytes : Holds (λ e. r ≡ order (earlyRows x n (length adds / 8) (length dels / 8) e)) ws → Holds (λ e. r ≡ order (earlyRows x n (length (oidsIn adds)) (length (oidsIn dels)) e)) ws
+  early-bytes early st = early st ∙ rw (length-tabulate (length adds / 8) (λ k. field adds (8 * k) 8), length-tabulate (length dels / 8) (λ k. field dels (8 * k) 8))
+
+  pub passed-bytes : SoundTable (memory ws s) → r ≡ 0 → Holds (λ e. r ≡ order (earlyRows x n (length adds / 8) (length dels / 8) e)) ws → Passed ws s x n (oidsIn adds) (oidsIn dels)
+  passed-bytes t z early = passed-early ws s x n (oidsIn adds) (oidsIn dels) r t z (early-bytes early)
+
+  pub bytes-refused : (r ≡ 0 → ⊥) → Holds (λ e. r ≡ order (earlyRows x n (length adds / 8) (length dels / 8) e)) ws
+      → Stepped (Call.editing (Edit.complexPing x n (oidsIn adds) (oidsIn dels))) (memory ws s) (pingReply (none r)) (memory ws s)
+  bytes-refused bad early = early-refused ws s x n (oidsIn adds) (oidsIn dels) r bad (early-bytes early)
+
+module _ (ws s : List ℕ) (x n : ℕ) (adds dels : List ℕ) (passed : Passed ws s x n adds dels) where
+  pub named-set : (st : List ℕ) → isPingSet x (view (memory ws st)) ≡ true
+  named-set st = early-named x n (length adds) (length dels) (view (memory ws st)) (passed .early st)
+
+  module _ (b : Members) (l : Listed) where
+    -- an id to be added is not live
+    pub not-live : AllListed true (oids (view (memory ws s))) adds b l → not (l .live) ≡ true
+        → Stepped (Call.editing (Edit.complexPing x n adds dels)) (memory ws s) (pingReply (none 5)) (memory ws s)
+    unfolding refusedReply results
+    not-live joins dead = refused-step 5 (dead-gives x n adds dels (view (memory ws s)) (passed .early s) (sym (joins .live) ∙ not-true _ dead)) (λ z. omega arith)
+
+    -- what is left of both lists
+    pub both-listed : Holds (λ e. MembersBefore x e b) ws → Holds (λ e. AllListed true (oids e) adds b l) ws → not (l .live) ≡ false
+        → (d : Listed) → Holds (λ e. AllListed false (oids e) dels (l .members) d) ws → Reduced x n adds dels (view (memory ws s)) (d .members)
+    both-listed before joins live d leaves =
+        let k = oids-length ws in
+        reduced x n adds dels (view (memory ws s)) (sound-fields _ (passed .table .entries) .objectsProper) (omega arith) (passed .early s) (before s) (joins s) (not-false _ live) (leaves s)
 
 -- ---- a complex ping that is accepted
 

@@ -1,10 +1,9 @@
 -- `call_ping::late_answer`: the rows of a set that is made.
-use mathlib.Core.Path.{_≡_, sym, ap, _∙_}
+use mathlib.Core.Path.{_≡_, _∙_}
 use mathlib.Core.List.{List, [], _∷_}
 use Prim.Native.Nat.{ℕ, _-_, _^_, _<_, _≤_}
 use borrow.Author.Tests.{eq-eqb, ne-eqb, le-leb, lt-leb}
 use lib.Dec.{eqb, leb}
-use lib.ListN.{length}
 use Rattle.kinds.specs.Refusals.{order, _gives_}
 use Rattle.rules.specs.Entries.{setPlaces}
 use Rattle.table_view.specs.View.{setCount, setsOf, nextOf, memory, view}
