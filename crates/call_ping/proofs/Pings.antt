@@ -21,13 +21,13 @@ use Rattle.table_columns.proofs.members.Making.{zero-member}
 use Rattle.rules.specs.Entries.{PingSet, Entries, oids, withSets, withSequence, withMembers, setRow, setPlaces}
 use Rattle.rules.specs.Calls.{Call, Edit}
 use Rattle.rules.specs.Sound.{proper, sound}
-use Rattle.rules.specs.Rules.{noSet, setOf, isLiveSet, isLiveObject, tooMany, staleSequence, newMembers, refusals, number, next, results, refusedReply, heardNow}
+use Rattle.rules.specs.Rules.{noSet, setOf, isLiveSet, isLiveObject, tooMany, staleSequence, newMembers, refusals, number, next, results, refusedReply, acceptedReply, pingSetNumber, heardNow}
 use Rattle.rules.proofs.SoundLaws.{sound-fields}
 use Rattle.rules.proofs.PingingKeeps.{newSet}
 use Rattle.rules.proofs.ByRow.{set-live, set-row}
 use Rattle.rules.proofs.PingRows.{complex-ping-row, complex-ping-new}
 use Rattle.rules.specs.PingRows.{changeSet, pingedRow, updatedRow}
-use Rattle.table_view.specs.View.{objectCount, setCount, setsOf, memory, view, Holds, SoundTable, Stepped, oidsOf, memberValues, membersAt, membersBelow}
+use Rattle.table_view.specs.View.{objectCount, setCount, setsOf, memory, view, Holds, SoundTable, Stepped, oidsOf, nextOf, memberValues, membersAt, membersBelow}
 use Rattle.table_edit.specs.Edits.{Became}
 use Rattle.table_view.proofs.LiveRows.{sets-length}
 use Rattle.table_view.proofs.MemberRows.{oids-length, below-at, row-members}
@@ -35,7 +35,7 @@ use Rattle.call_ping.specs.Pinging.{withPingSet, pingSetRow, isPingSet, 
 use Rattle.call_ping.specs.declared.Listed.{Listed}
 use Rattle.call_ping.specs.declared.Pinged.{Pinged}
 use Rattle.call_ping.specs.Replies.{pingReply}
-use Rattle.table_view.proofs.Steps.{refused-step, row-gives, row-passes, two-rows, set-tested}
+use Rattle.table_view.proofs.Steps.{refused-step, accepted-step, row-gives, row-passes, two-rows, set-tested}
 use Rattle.call_ping.proofs.Memberships.{new-members}
 
 -- ---- refusals
@@ -277,32 +277,71 @@ module _ (s : ℕ) (e : Entries) (sd : sound e ≡ true) (named : isPingSet s e 
         ∙ left
         ∙ (λ u. keep (λ (o : ℕ). (among (meant-members u) o || among adds o) && not (among dels o)) (sym meant-oids u)))
 
-  -- the arrays that the steps leave: the set's row is found or made, the set updated, then pinged
-  module _ (st ws₁ : List ℕ) (i : ℕ) (row : i ≡ pingSetRow s e) (meant : view (memory ws₁ st) ≡ withPingSet s e) where
-    -- what the update asks
-    pub update-asked : i < setCount ws₁
-    update-asked =
+-- by the late number
+module _ (ws s : List ℕ) (x : ℕ) where
+  module _ (r n : ℕ) (adds dels : List ℕ) (m : Members) (left : Reduced x n adds dels (view (memory ws s)) m) (late : Holds (λ e. r ≡ order (lateRows x e)) ws) where
+    late-number : r ≡ number (Call.editing (Edit.complexPing x n adds dels)) (view (memory ws s))
+    late-number = late s ∙ sym (late-left x n adds dels (view (memory ws s)) (left .early) (left .alive))
+
+    pub late-refused : (r ≡ 0 → ⊥) → Stepped (Call.editing (Edit.complexPing x n adds dels)) (memory ws s) (pingReply (none r)) (memory ws s)
+    unfolding refusedReply results
+    late-refused bad = refused-step r late-number bad
+
+-- for set 0 there is a place, and a number
+pub set-fits : (ws : List ℕ) (x : ℕ) {r : ℕ} → Holds (λ e. r ≡ order (lateRows x e)) ws → r ≡ 0 → x ≡ 0 → nextOf ws < 2 ^ 64 → (setCount ws < setPlaces) × (nextOf ws < 2 ^ 64 - 1)
+set-fits ws x late z h known =
+    let l = sets-length ws in
+    let f = late-fits x (view (memory ws ws)) (sym (late ws) ∙ z) h in
+    (omega arith, omega arith)
+
+-- the set's row is found or made
+pub record RowMade (ws s : List ℕ) (x : ℕ) (ws₁ : List ℕ) (i : ℕ) : Type 0 where
+  pub table : SoundTable (memory ws s)
+  pub named : isPingSet x (view (memory ws s)) ≡ true
+  pub row : Holds (λ e. i ≡ pingSetRow x e) ws
+  pub meant : Became (withPingSet x) ws ws₁
+
+module _ {ws s ws₁ : List ℕ} {x i : ℕ} (made : RowMade ws s x ws₁ i) where
+  abbrev before : Entries
+  before = view (memory ws s)
+
+  -- what the update asks
+  pub update-asked : i < setCount ws₁
+  update-asked =
+      let l = sets-length ws₁ in
+      let sets = ap (λ (f : Entries). length (f .sets)) (made .meant s) in
+      let b = row-below x before (made .table .entries) (made .named) in
+      let found = made .row s in
+      omega arith
+
+  -- the set is updated
+  module _ (n : ℕ) (m : Members) (ws₂ : List ℕ) (updates : Became (updatedTo i n m) ws₁ ws₂) where
+    -- what the ping asks
+    pub still-row : i < setCount ws₂
+    still-row =
         let l = sets-length ws₁ in
-        let sets = ap (λ (f : Entries). length (f .sets)) meant in
-        let b = row-below in
+        let k = sets-length ws₂ in
+        let sets : length (setsOf ws₂) ≡ length (setsOf ws₁) = ap (λ (f : Entries). length (f .sets)) (updates s) ∙ length-set (setsOf ws₁) i _ in
+        let a = update-asked in
         omega arith
 
-    module _ (n : ℕ) (m : Members) (ws₂ : List ℕ) (updates : Became (updatedTo i n m) ws₁ ws₂) where
-      -- what the ping asks
-      pub ping-asked : (i < setCount ws₂) × (proper (oids (view (memory ws₂ ws₂))) ≡ true)
-      ping-asked =
-          let l = sets-length ws₁ in
-          let k = sets-length ws₂ in
-          let sets : length (setsOf ws₂) ≡ length (setsOf ws₁) = ap (λ (f : Entries). length (f .sets)) (updates st) ∙ length-set (setsOf ws₁) i _ in
-          let a = update-asked in
-          (omega arith, ap (λ (f : Entries). proper (oids f)) (updates st) ∙ ap (λ (f : Entries). proper (oids f)) meant ∙ ap proper meant-oids ∙ sound-fields e sd .objectsProper)
+    pub still-proper : proper (oidsOf ws₂) ≡ true
+    still-proper =
+        let sd = made .table .entries in
+        ap (λ (f : Entries). proper (oids f)) (updates s ∙ ap (updatedTo i n m) (made .meant s)) ∙ ap proper (meant-oids x before sd (made .named)) ∙ sound-fields before sd .objectsProper
 
-      -- the entries are those of the rules
-      pub pinged-next : (adds dels : List ℕ) → memberValues (oids e) m ≡ newMembers e adds dels (pingMembers s e) → (ws₃ : List ℕ) → Became (pingedRow i) ws₂ ws₃
-          → view (memory ws₃ st) ≡ next (Call.editing (Edit.complexPing s n adds dels)) e
-      pinged-next adds dels left ws₃ pings =
-          pings st
-          ∙ ap (pingedRow i) (updates st ∙ ap (updatedTo i n m) meant)
-          ∙ ap (λ (k : ℕ). pingedRow k (updatedTo k n m (withPingSet s e))) row
-          ∙ ap (pingedRow (pingSetRow s e)) (meant-update n adds dels m left)
-          ∙ meant-next n adds dels
+    -- and pinged: the entries are those of the rules
+    pub pinged-done : (ws₃ : List ℕ) → Became (pingedRow i) ws₂ ws₃ → (adds dels : List ℕ) → Reduced x n adds dels before m
+        → (r k : ℕ) → r ≡ 0 → Holds (λ e. r ≡ order (lateRows x e)) ws → k ≡ pingSetNumber x (nextOf ws)
+        → Stepped (Call.editing (Edit.complexPing x n adds dels)) (memory ws s) (pingReply (record { answer = 0; set = record { 0 = k }; backoff = 0 })) (memory ws₃ s)
+    unfolding acceptedReply results
+    pinged-done ws₃ pings adds dels lists r k z late meant =
+        let named = made .named in
+        let sd = made .table .entries in
+        rw meant
+        (accepted-step 0 (sym z ∙ late-number ws s x r n adds dels m lists late) refl _
+        (pings s
+        ∙ ap (pingedRow i) (updates s ∙ ap (updatedTo i n m) (made .meant s))
+        ∙ ap (λ (k : ℕ). pingedRow k (updatedTo k n m (withPingSet x before))) (made .row s)
+        ∙ ap (pingedRow (pingSetRow x before)) (meant-update x before sd named n adds dels m (lists .members))
+        ∙ meant-next x before sd named n adds dels))
