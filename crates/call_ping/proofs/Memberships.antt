@@ -1,12 +1,12 @@
 -- The members of a set by the rows of the objects, and how they change in a complex ping.
-use Prim.Native.Nat.{ℕ, _+_, _<_, _≤_}
+use Prim.Native.Nat.{ℕ, _+_, _*_, _/_, _<_, _≤_}
 use mathlib.Core.Path.{_≡_, refl, sym, ap, _∙_}
 use mathlib.Core.Bool.{Bool, true, false, cond, not, _&&_, _||_, and-false, or-true}
 use mathlib.Core.List.{List, [], _∷_, _++_}
 use mathlib.Core.Logic.{⊎-elim}
 use native.Mathlib.Omega.{arith}
 use native.Mathlib.Numerals.{add-one}
-use borrow.Author.Tests.{eqb-true, eq-eqb, ne-eqb, lt-ltb, le-ltb}
+use borrow.Author.Tests.{eqb-true, eq-eqb, ne-eqb, lt-ltb, le-ltb, not-true, not-false}
 use lib.Dec.{eqb, ltb}
 use lib.ListN.{length, getD, take, drop, take-append-drop}
 use lib.Seq.{take-suc, take-length}
@@ -15,13 +15,15 @@ use Rattle.lists.specs.Lists.{keep, some, every, firstIndex, among}
 use Rattle.table_columns.specs.Members.{hasMember, InWords, MemberPut}
 use Rattle.table_columns.specs.declared.members.Members.{Members}
 use Rattle.lists.proofs.Tests.{true-or-false, below-or-not}
-use Rattle.lists.proofs.Lists.{every-append, every-nil, every-snoc, some-one, some-append}
+use Rattle.lists.proofs.Lists.{every-append, every-nil, every-snoc, some-one, some-append, length-tabulate, getD-tabulate}
 use Rattle.lists.proofs.First.{first-at}
 use Rattle.lists.proofs.Distinct.{eqb-decides, first-same}
 use Rattle.rules.specs.Sound.{proper}
-use Rattle.call_ping.specs.Pinging.{MembersUpdated, OneListed, AllListed}
+use Rattle.fields.specs.Fields.{field}
+use Rattle.call_ping.specs.Pinging.{oidsIn, MembersUpdated, OneListed, AllListed}
 use Rattle.call_ping.specs.declared.Listed.{Listed}
-use Rattle.table_view.specs.View.{memberValues}
+use Rattle.rules.specs.Entries.{oids}
+use Rattle.table_view.specs.View.{oidsOf, memberValues, Holds}
 use Rattle.table_view.proofs.MemberLaws.{ids-distinct, member-among, members-kept}
 
 module _ (ids : List ℕ) (p : proper ids ≡ true) where
@@ -110,13 +112,13 @@ module _ (ids : List ℕ) (p : proper ids ≡ true) where
 
   module _ (member : Bool) (m : Members) where
     -- none
-    pub listed-none : InWords m → AllListed member ids [] m (record { members = m; live = true })
+    listed-none : InWords m → AllListed member ids [] m (record { members = m; live = true })
     listed-none w = record { members = λ t. put-nil member m w; live = sym (rw (every-nil (among ids), or-true (not member))) }
 
     module _ (listed : List ℕ) (k : ℕ) {r r′ : Listed} {oid : ℕ} (before : AllListed member ids (take k listed) m r) (live : r .live ≡ true) (h : k < length listed)
         (e : oid ≡ getD listed k 0) (one : OneListed member ids oid r r′) where
       -- one more
-      pub listed-next : AllListed member ids (take (k + 1) listed) m r′
+      listed-next : AllListed member ids (take (k + 1) listed) m r′
       listed-next =
           rw (add-one k, take-suc listed k 0 h, ← e)
           (record {
@@ -133,7 +135,7 @@ module _ (ids : List ℕ) (p : proper ids ≡ true) where
           both true false b e = absurd (true-false e)
 
       -- one that is to be added and not live: the others do not matter
-      pub listed-dead : r′ .live ≡ false → AllListed member ids listed m r′
+      listed-dead : r′ .live ≡ false → AllListed member ids listed m r′
       listed-dead d =
           record {
             members = λ t. absurd (true-false (sym t ∙ d));
@@ -150,7 +152,7 @@ module _ (ids : List ℕ) (p : proper ids ≡ true) where
           past true false b e = refl
 
     -- all
-    pub listed-all : (listed : List ℕ) (k : ℕ) {r : Listed} → AllListed member ids (take k listed) m r → k ≡ length listed → AllListed member ids listed m r
+    listed-all : (listed : List ℕ) (k : ℕ) {r : Listed} → AllListed member ids (take k listed) m r → k ≡ length listed → AllListed member ids listed m r
     listed-all listed k before e = rw (e, take-length listed) at before
 
   -- adds, then deletes: the OIDs that stay or join, and are not deleted
@@ -170,3 +172,44 @@ module _ (ids : List ℕ) (p : proper ids ≡ true) where
       chosen w true false = sym (rw (or-true w))
       chosen true false false = refl
       chosen false false false = refl
+
+-- ---- the loop over a list: the OIDs before k
+
+pub record Listing (ws : List ℕ) (member : Bool) (listed : List ℕ) (m : Members) (k : ℕ) (l : Listed) : Type 0 where
+  pub below : k ≤ length listed
+  pub live : l .live ≡ true
+  pub each : AllListed member (oidsOf ws) (take k listed) m l
+
+module _ (ws : List ℕ) (member : Bool) (listed : List ℕ) (m : Members) (p : proper (oidsOf ws) ≡ true) where
+  pub listing-begin : InWords m → Listing ws member listed m 0 (record { members = m; live = true })
+  listing-begin w = record { below = omega arith; live = refl; each = listed-none (oidsOf ws) p member m w }
+
+  module _ (k : ℕ) (l : Listed) (before : Listing ws member listed m k l) where
+    pub listing-end : length listed ≤ k → AllListed member (oidsOf ws) listed m l
+    listing-end h = let b = before .below in listed-all (oidsOf ws) p member m listed k (before .each) (omega arith)
+
+    module _ (h : k < length listed) (oid : ℕ) (e : oid ≡ getD listed k 0) (l′ : Listed) (one : Holds (λ e. OneListed member (oids e) oid l l′) ws) where
+      pub listing-next : not (l′ .live) ≡ false → Listing ws member listed m (k + 1) l′
+      listing-next t =
+          record { below = omega arith; live = not-false _ t; each = listed-next (oidsOf ws) p member m listed k (before .each) (before .live) h e (one ws) }
+
+      pub listing-dead : not (l′ .live) ≡ true → AllListed member (oidsOf ws) listed m l′
+      listing-dead t = listed-dead (oidsOf ws) p member m listed k (before .each) (before .live) h e (one ws) (not-true _ t)
+
+-- the same of a list in bytes, eight for each
+module _ (ws : List ℕ) (member : Bool) (bytes : List ℕ) (m : Members) (p : proper (oidsOf ws) ≡ true) (k : ℕ) (l : Listed) (before : Listing ws member (oidsIn bytes) m k l) where
+  size : length (oidsIn bytes) ≡ length bytes / 8
+  size = length-tabulate (length bytes / 8) (λ k. field bytes (8 * k) 8)
+
+  pub bytes-end : length bytes / 8 ≤ k → AllListed member (oidsOf ws) (oidsIn bytes) m l
+  bytes-end h = listing-end ws member (oidsIn bytes) m p k l before (rw size h)
+
+  module _ (h : k < length bytes / 8) (oid : ℕ) (e : oid ≡ field bytes (8 * k) 8) (l′ : Listed) (one : Holds (λ e. OneListed member (oids e) oid l l′) ws) where
+    id : oid ≡ getD (oidsIn bytes) k 0
+    id = e ∙ sym (getD-tabulate (length bytes / 8) (λ k. field bytes (8 * k) 8) 0 k h)
+
+    pub bytes-next : not (l′ .live) ≡ false → Listing ws member (oidsIn bytes) m (k + 1) l′
+    bytes-next = listing-next ws member (oidsIn bytes) m p k l before (rw size h) oid id l′ one
+
+    pub bytes-dead : not (l′ .live) ≡ true → AllListed member (oidsOf ws) (oidsIn bytes) m l′
+    bytes-dead = listing-dead ws member (oidsIn bytes) m p k l before (rw size h) oid id l′ one
