@@ -5,7 +5,7 @@ use mathlib.Core.Bool.{Bool, true}
 use mathlib.Core.List.{List, [], _∷_, _++_, map}
 use native.Mathlib.Omega.{arith}
 use lib.Dec.{ltb}
-use lib.ListN.{length, getD, length-map}
+use lib.ListN.{length, drop, getD, length-map}
 use Rattle.fields.specs.Fields.{encode, written}
 use Rattle.bindings.specs.Bindings.{joined}
 use Rattle.lists.specs.Lists.{every}
@@ -13,7 +13,7 @@ use Rattle.lists.specs.Order.{rising}
 use Rattle.lists.proofs.Order.{length-rising, rising-map}
 use Rattle.rules.specs.Entries.{Entries}
 use Rattle.rules.specs.Snapshot.{setBefore, membersInOrder, sorted, inRow, section, exporterBytes, objectBytes, interfaceBytes, setBytes, sections, snapshotBytes}
-use Rattle.table_view.specs.View.{setsOf, memory, view}
+use Rattle.table_view.specs.View.{clockOf, nextOf, setsOf, memory, view}
 use Rattle.table_view.proofs.LiveRows.{exporters-length, objects-length, interfaces-length, sets-length}
 use Rattle.snapshot_rows.specs.declared.Section.{Section}
 use Rattle.snapshot_rows.specs.declared.Section.the-variants.{Exporters, Objects, Interfaces, Sets}
@@ -99,23 +99,66 @@ parts e =
     ∷ sectionOf Sets (sorted e)
     ∷ []
 
--- nothing is written yet
-pub parts-all : (b : List ℕ) (e : Entries) → Left b 0 (snapshotBytes e) b 0 (joined (parts e))
-unfolding sections sorted
-parts-all b e = left-all b 0 (snapshotBytes e)
-
 -- the next of them
-module _ {b₀ : List ℕ} {at₀ : ℕ} {x₀ b : List ℕ} {at : ℕ} where
-  module _ (x : List ℕ) (xs : List (List ℕ)) (room : Room b₀ at₀ x₀) (l : Left b₀ at₀ x₀ b at (joined (x ∷ xs))) where
-    pub part-room : Room b at x
-    unfolding joined
-    part-room = left-room x (joined xs) room l
-
-    pub part-put : {b′ : List ℕ} {at′ : ℕ} → Wrote b at x b′ at′ → Left b₀ at₀ x₀ b′ at′ (joined xs)
-    unfolding joined
-    part-put w = left-step x (joined xs) room l w
-
-  -- none is left
-  pub parts-end : Left b₀ at₀ x₀ b at (joined []) → Wrote b₀ at₀ x₀ b at
+module _ {b₀ : List ℕ} {at₀ : ℕ} {x₀ b : List ℕ} {at : ℕ} (x : List ℕ) (xs : List (List ℕ)) (room : Room b₀ at₀ x₀) (l : Left b₀ at₀ x₀ b at (joined (x ∷ xs))) where
+  part-room : Room b at x
   unfolding joined
-  parts-end l = left-none refl l
+  part-room = left-room x (joined xs) room l
+
+  part-put : {b′ : List ℕ} {at′ : ℕ} → Wrote b at x b′ at′ → Left b₀ at₀ x₀ b′ at′ (joined xs)
+  unfolding joined
+  part-put w = left-step x (joined xs) room l w
+
+-- none is left
+parts-end : {b₀ : List ℕ} {at₀ : ℕ} {x₀ b : List ℕ} {at : ℕ} → Left b₀ at₀ x₀ b at (joined []) → Wrote b₀ at₀ x₀ b at
+unfolding joined
+parts-end l = left-none refl l
+
+-- in a buffer with room for all of them, those from the k-th on are left
+pub record PartsLeft (k : ℕ) (ws s b₀ b : List ℕ) (at : ℕ) : Type 0 where
+  pub room : Room b₀ 0 (snapshotBytes (view (memory ws s)))
+  pub left : Left b₀ 0 (snapshotBytes (view (memory ws s))) b at (joined (drop k (parts (view (memory ws s)))))
+
+module _ (ws s b₀ : List ℕ) where
+  abbrev e : Entries
+  e = view (memory ws s)
+
+  module _ (room : Room b₀ 0 (snapshotBytes e)) where
+    left-0 : PartsLeft 0 ws s b₀ b₀ 0
+    unfolding sections sorted
+    left-0 = record { room = room; left = left-all b₀ 0 (snapshotBytes e) }
+
+    pub room-numbers : Room b₀ 0 (section (encode 8) (clockOf ws ∷ nextOf ws ∷ []))
+    room-numbers = part-room _ _ room (left-0 .left)
+
+    module _ (b₁ : List ℕ) (at₁ : ℕ) (w₁ : Wrote b₀ 0 (section (encode 8) (clockOf ws ∷ nextOf ws ∷ [])) b₁ at₁) where
+      left-1 : PartsLeft 1 ws s b₀ b₁ at₁
+      left-1 = record { room = room; left = part-put _ _ room (left-0 .left) w₁ }
+
+      pub room-exporters : Room b₁ at₁ (sectionOf Exporters (sorted e))
+      room-exporters = part-room _ _ room (left-1 .left)
+
+      module _ (b₂ : List ℕ) (at₂ : ℕ) (w₂ : Wrote b₁ at₁ (sectionOf Exporters (sorted e)) b₂ at₂) where
+        pub left-2 : PartsLeft 2 ws s b₀ b₂ at₂
+        left-2 = record { room = room; left = part-put _ _ room (left-1 .left) w₂ }
+
+  module _ (b₂ : List ℕ) (at₂ : ℕ) (k : PartsLeft 2 ws s b₀ b₂ at₂) where
+    pub room-objects : Room b₂ at₂ (sectionOf Objects (sorted e))
+    room-objects = part-room _ _ (k .room) (k .left)
+
+    module _ (b₃ : List ℕ) (at₃ : ℕ) (w₃ : Wrote b₂ at₂ (sectionOf Objects (sorted e)) b₃ at₃) where
+      left-3 : PartsLeft 3 ws s b₀ b₃ at₃
+      left-3 = record { room = k .room; left = part-put _ _ (k .room) (k .left) w₃ }
+
+      pub room-interfaces : Room b₃ at₃ (sectionOf Interfaces (sorted e))
+      room-interfaces = part-room _ _ (k .room) (left-3 .left)
+
+      pub left-4 : (b₄ : List ℕ) (at₄ : ℕ) → Wrote b₃ at₃ (sectionOf Interfaces (sorted e)) b₄ at₄ → PartsLeft 4 ws s b₀ b₄ at₄
+      left-4 b₄ at₄ w₄ = record { room = k .room; left = part-put _ _ (k .room) (left-3 .left) w₄ }
+
+  module _ (b₄ : List ℕ) (at₄ : ℕ) (k : PartsLeft 4 ws s b₀ b₄ at₄) where
+    pub room-sets : Room b₄ at₄ (sectionOf Sets (sorted e))
+    room-sets = part-room _ _ (k .room) (k .left)
+
+    pub all-put : (b₅ : List ℕ) (at₅ : ℕ) → Wrote b₄ at₄ (sectionOf Sets (sorted e)) b₅ at₅ → Wrote b₀ 0 (snapshotBytes e) b₅ at₅
+    all-put b₅ at₅ w₅ = parts-end (part-put _ [] (k .room) (k .left) w₅)

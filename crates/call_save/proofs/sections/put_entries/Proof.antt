@@ -1,81 +1,29 @@
 -- `sections::put_entries`: one section after the other.
-use Rattle.table_view.specs.View.{memory, view}
-use Rattle.call_save.proofs.sections.SectionRows.{parts-all, part-room, part-put, parts-end}
+use Rattle.call_save.proofs.sections.SectionRows.{PartsLeft, left-2, left-4, room-numbers, room-exporters, room-objects, room-interfaces, room-sets, all-put}
 use borrow.Author.Needs.{needs}
 use Rattle.call_save.proofs.sections.put_entries.Statement.{statement}
 use Rattle.call_save.proofs.sections.put_entries.Tie as tie
 
-put-numbers-requires : tie.Need-put-numbers-requires
-put-numbers-requires c κs =
-    let start = c .before .before .before .before .before in
-    let room = start .pre .2 in
-    let l₀ = parts-all (start .args .buffer .now) (view (memory (start .args .words .now) (start .args .store .now))) in
-    (start .pre .0 .words, part-room _ _ room l₀)
+-- once the exporters are written
+two : (c : tie.After-put-sorted) → let a = c .before .before .before .before .before .before .before .before .before .before .args in
+    PartsLeft 2 (a .words .now) (a .store .now) (a .buffer .now) (c .put-sorted .last .1 .1 .1 .1 .0) (c .put-sorted .result)
+two c = search left-2
 
-put-sorted-requires : tie.Need-put-sorted-requires
-put-sorted-requires c κs =
-    let start = c .before .before .before .before .before .before .before .before .before in
-    let room = start .pre .2 in
-    let l₀ = parts-all (start .args .buffer .now) (view (memory (start .args .words .now) (start .args .store .now))) in
-    let l₁ = part-put _ _ room l₀ (c .before .before .before .put-numbers .ensures) in
-    (start .pre .0, start .pre .1, part-room _ _ room l₁)
-
-put-section-requires : tie.Need-put-section-requires
-put-section-requires c κs =
-    let numbers = c .before .before .before .before .before .before .before in
-    let start = numbers .before .before .before .before .before .before in
-    let room = start .pre .2 in
-    let l₀ = parts-all (start .args .buffer .now) (view (memory (start .args .words .now) (start .args .store .now))) in
-    let l₁ = part-put _ _ room l₀ (numbers .put-numbers .ensures) in
-    let l₂ = part-put _ _ room l₁ (c .before .before .before .put-sorted .ensures) in
-    (start .pre .0, start .pre .1, start .pre .1 .order, part-room _ _ room l₂)
-
-put-sorted-requires-2 : tie.Need-put-sorted-requires-2
-put-sorted-requires-2 c κs =
-    let numbers = c .before .before .before .before .before .before .before .before .before .before .before in
-    let start = numbers .before .before .before .before .before .before in
-    let room = start .pre .2 in
-    let l₀ = parts-all (start .args .buffer .now) (view (memory (start .args .words .now) (start .args .store .now))) in
-    let l₁ = part-put _ _ room l₀ (numbers .put-numbers .ensures) in
-    let l₂ = part-put _ _ room l₁ (c .before .before .before .before .before .before .before .put-sorted .ensures) in
-    let l₃ = part-put _ _ room l₂ (c .before .before .before .put-section .ensures) in
-    (start .pre .0, start .pre .1, part-room _ _ room l₃)
-
-put-sorted-requires-3 : tie.Need-put-sorted-requires-3
-put-sorted-requires-3 c κs =
-    let section = c .before .before .before .before .before .before .before in
-    let numbers = section .before .before .before .before .before .before .before .before in
-    let start = numbers .before .before .before .before .before .before in
-    let room = start .pre .2 in
-    let l₀ = parts-all (start .args .buffer .now) (view (memory (start .args .words .now) (start .args .store .now))) in
-    let l₁ = part-put _ _ room l₀ (numbers .put-numbers .ensures) in
-    let l₂ = part-put _ _ room l₁ (section .before .before .before .before .put-sorted .ensures) in
-    let l₃ = part-put _ _ room l₂ (section .put-section .ensures) in
-    let l₄ = part-put _ _ room l₃ (c .before .before .before .put-sorted2 .ensures) in
-    (start .pre .0, start .pre .1, part-room _ _ room l₄)
-
-returns : tie.Need-returns
-returns c =
-    let section = c .before .before .before .before .before .before .before .before .before .before in
-    let numbers = section .before .before .before .before .before .before .before .before in
-    let start = numbers .before .before .before .before .before .before in
-    let room = start .pre .2 in
-    let l₀ = parts-all (start .args .buffer .now) (view (memory (start .args .words .now) (start .args .store .now))) in
-    let l₁ = part-put _ _ room l₀ (numbers .put-numbers .ensures) in
-    let l₂ = part-put _ _ room l₁ (section .before .before .before .before .put-sorted .ensures) in
-    let l₃ = part-put _ _ room l₂ (section .put-section .ensures) in
-    let l₄ = part-put _ _ room l₃ (c .before .before .before .before .before .before .put-sorted2 .ensures) in
-    let l₅ = part-put _ _ room l₄ (c .before .before .put-sorted3 .ensures) in
-    parts-end l₅
+-- and the interfaces
+four : (c : tie.After-put-sorted2) → let st = c .before .before .before .before .before .before .before .before in
+    let a = st .before .before .before .before .before .before .before .before .before .before .args in
+    PartsLeft 4 (a .words .now) (a .store .now) (a .buffer .now) (c .put-sorted2 .last .1 .1 .1 .1 .0) (c .put-sorted2 .result)
+four c =
+    left-4 _ _ _ _ _ (two (c .before .before .before .before .before .before .before .before)) _ _ (c .before .before .before .before .put-section .ensures) _ _ (c .put-sorted2 .ensures)
 
 pub put-entries-spec : {M : Type 1} → statement M
 put-entries-spec =
     tie.close
     (tie.spec
-    put-numbers-requires
-    put-sorted-requires
-    put-section-requires
-    put-sorted-requires-2
-    put-sorted-requires-3
+    (λ c κs. search room-numbers)
+    (λ c κs. search room-exporters)
+    (λ c κs. let k = two (c .before .before .before) in search room-objects)
+    (λ c κs. let k = two (c .before .before .before .before .before .before .before) in search room-interfaces)
+    (λ c κs. let k = four (c .before .before .before) in search room-sets)
     (λ c. search needs)
-    returns)
+    (λ c. let k = four (c .before .before .before .before .before .before) in search all-put))
