@@ -76,16 +76,16 @@ module _ (ws store rows : List ℕ) where
 
 -- ---- the two numbers
 
-pub numbers-put : (t n : ℕ) {b b₁ b₂ b₃ : List ℕ} {at : ℕ} → Room b at (section (encode 8) (t ∷ n ∷ []))
-    → b₁ ≡ written b at (encode 2 2) → b₂ ≡ written b₁ (at + 2) (encode 8 t) → b₃ ≡ written b₂ (at + 10) (encode 8 n)
-    → Wrote b at (section (encode 8) (t ∷ n ∷ [])) b₃ (at + 18)
+pub numbers-put : (ws b b₁ b₂ b₃ : List ℕ) (at t n : ℕ) → Room b at (section (encode 8) (clockOf ws ∷ nextOf ws ∷ []))
+    → b₁ ≡ written b at (encode 2 2) → t ≡ clockOf ws → b₂ ≡ written b₁ (at + 2) (encode 8 t) → n ≡ nextOf ws → b₃ ≡ written b₂ (at + 10) (encode 8 n)
+    → Wrote b at (section (encode 8) (clockOf ws ∷ nextOf ws ∷ [])) b₃ (at + 18)
 unfolding inRow
-numbers-put t n {b} {at = at} room e₁ e₂ e₃ =
+numbers-put ws b b₁ b₂ b₃ at t n room e₁ clock e₂ next e₃ =
     let a₂ : at + 10 ≡ at + 2 + 8 = omega arith in
     let a₃ : at + 18 ≡ at + 10 + 8 = omega arith in
-    let l₁ = left-step (encode 2 2) _ room (left-all b at (section (encode 8) (t ∷ n ∷ []))) (wrote-number 2 refl e₁ refl) in
-    let l₂ = left-step (encode 8 t) _ room l₁ (wrote-number 8 refl e₂ a₂) in
-    left-none refl (left-step (encode 8 n) _ room l₂ (wrote-number 8 refl e₃ a₃))
+    let l₁ = left-step (encode 2 2) _ room (left-all b at (section (encode 8) (clockOf ws ∷ nextOf ws ∷ []))) (wrote-number 2 refl e₁ refl) in
+    let l₂ = left-step (encode 8 (clockOf ws)) _ room l₁ (wrote-number 8 refl (rw clock at e₂) a₂) in
+    left-none refl (left-step (encode 8 (nextOf ws)) _ room l₂ (wrote-number 8 refl (rw next at e₃) a₃))
 
 -- ---- all sections
 

@@ -48,16 +48,19 @@ members-end ws i h =
 
 module _ (ws store : List ℕ) (t : SoundTable (memory ws store)) where
   -- the lists lie in the store
-  pub lists-inside : {n : ℕ} → n ≡ exporterCount ws → listStart store n ≤ 8192
-  lists-inside {n} e =
-      let h = list-starts ws store (sound-fields _ (t .entries) .listsKept) n (omega arith) in
+  pub lists-inside : (n : ℕ) → n ≡ exporterCount ws → listStart store n ≤ length store
+  lists-inside n e = list-starts ws store (sound-fields _ (t .entries) .listsKept) n (omega arith)
+
+  pub lists-few : (n k : ℕ) → n ≡ exporterCount ws → k ≡ listStart store n → k ≤ 8192
+  lists-few n k e q =
+      let h = lists-inside n e in
       let l = t .store in
       omega arith
 
   -- its length
-  pub by-counts : {x l o i s m : ℕ} → x ≡ exporterCount ws → l ≡ listStart store x → o ≡ objectCount ws → i ≡ interfaceCount ws → s ≡ setCount ws → m ≡ length (membersFrom ws 0)
+  pub by-counts : (x l o i s m : ℕ) → x ≡ exporterCount ws → l ≡ listStart store x → o ≡ objectCount ws → i ≡ interfaceCount ws → s ≡ setCount ws → m ≡ length (membersFrom ws 0)
       → 26 + 26 * x + l + 25 * o + 76 * i + (20 * s + 8 * m) ≡ length (snapshotBytes (view (memory ws store)))
-  by-counts p q r u v w =
+  by-counts x l o i s m p q r u v w =
       let whole = snapshot-length (view (memory ws store)) (nine-each ws) in
       let lists = bytes-live ws store (sound-fields _ (t .entries) .listsKept) in
       let start = q ∙ ap (listStart store) p in
