@@ -1,5 +1,5 @@
 -- A section is its count and its rows; rows in rising order are the section's entries.
-use Prim.Native.Nat.{ℕ, _+_, _≤_}
+use Prim.Native.Nat.{ℕ, _+_, _<_, _≤_}
 use mathlib.Core.Path.{_≡_, refl, sym, ap, _∙_}
 use mathlib.Core.Bool.{Bool, true}
 use mathlib.Core.List.{List, [], _∷_, _++_, map}
@@ -20,7 +20,7 @@ use Rattle.snapshot_rows.specs.declared.Section.the-variants.{Exporters, Object
 use Rattle.snapshot_rows.specs.Writing.{Room, Wrote}
 use Rattle.snapshot_rows.specs.Keys.{InOrder, RowsInOrder}
 use Rattle.snapshot_rows.specs.Rows.{risingOids, rowCount, rowBytes}
-use Rattle.snapshot_rows.proofs.Writing.{Left, left-all, left-same, left-step, left-none, left-room, row-map}
+use Rattle.snapshot_rows.proofs.Writing.{Left, left-all, left-same, left-fits, left-then, left-step, left-none, left-room, row-map, row-end, next-live, next-room, next-put}
 use Rattle.snapshot_rows.proofs.rows.FieldByField.{wrote-number}
 use Rattle.call_save.specs.Sections.{sectionOf}
 
@@ -43,14 +43,14 @@ module _ {A : Type 0} {before : A → A → Bool} {d : A} {xs : List A} {rows : 
 
 module _ (ws store rows : List ℕ) where
   -- each is the row of an entry
-  pub rows-live : (k : Section) → RowsInOrder k ws store rows → every (λ i. ltb i (rowCount k ws)) rows ≡ true
+  rows-live : (k : Section) → RowsInOrder k ws store rows → every (λ i. ltb i (rowCount k ws)) rows ≡ true
   rows-live Exporters o = rw (exporters-length ws store) at (o .live)
   rows-live Objects o = rw (objects-length ws) at (o .live)
   rows-live Interfaces o = rw (interfaces-length ws) at (o .live)
   rows-live Sets o = rw (sets-length ws) at (o .live)
 
   -- two bytes hold their number
-  pub rows-few : (k : Section) → RowsInOrder k ws store rows → length rows ≤ 256
+  pub rows-few : (k : Section) → RowsInOrder k ws store rows → length rows < 65536
   rows-few Exporters o = let n = ordered-count o in let m = exporters-length ws store in omega arith
   rows-few Objects o = let n = ordered-count o in let m = objects-length ws in omega arith
   rows-few Interfaces o = let n = ordered-count o in let m = interfaces-length ws in omega arith
@@ -68,11 +68,37 @@ module _ (ws store rows : List ℕ) where
       ∙ section-map setBytes ordered (rising setBefore (setsOf ws))
       ∙ ordered-section o (λ s. setBytes (ordered s))
 
-  -- once the count is written, the rows are left
-  pub rows-left : (k : Section) → RowsInOrder k ws store rows → {b b₁ : List ℕ} {at : ℕ} → Room b at (sectionOf k (sorted (view (memory ws store)))) → b₁ ≡ written b at (encode 2 (length rows))
-      → Left b at (sectionOf k (sorted (view (memory ws store)))) b₁ (at + 2) (inRow (rowBytes k ws store) rows)
-  rows-left k o room e =
-      left-step (encode 2 (length rows)) (inRow (rowBytes k ws store) rows) room (left-same (section-rows k o) (left-all _ _ _)) (wrote-number 2 refl e refl)
+-- once the count is written, the rows are left
+pub record Counted (k : Section) (ws store rows b : List ℕ) (at : ℕ) (b₁ : List ℕ) : Type 0 where
+  pub live : every (λ i. ltb i (rowCount k ws)) rows ≡ true
+  pub left : Left b at (sectionOf k (sorted (view (memory ws store)))) b₁ (at + 2) (inRow (rowBytes k ws store) rows)
+  pub room : Room b₁ (at + 2) (inRow (rowBytes k ws store) rows)
+
+pub count-put : (ws store rows : List ℕ) (k : Section) (b b₁ : List ℕ) (at : ℕ) → RowsInOrder k ws store rows → Room b at (sectionOf k (sorted (view (memory ws store))))
+    → b₁ ≡ written b at (encode 2 (length rows)) → Counted k ws store rows b at b₁
+count-put ws store rows k b b₁ at o room e =
+    let l =
+    left-step (encode 2 (length rows)) (inRow (rowBytes k ws store) rows) room (left-same (section-rows ws store rows k o) (left-all _ _ _)) (wrote-number 2 refl e refl) in
+    record { live = rows-live ws store rows k o; left = l; room = left-fits room l }
+
+module _ {k : Section} {ws store rows b : List ℕ} {at : ℕ} {b₁ : List ℕ} (c : Counted k ws store rows b at b₁) where
+  pub count-inside : at + 2 ≤ length b
+  count-inside =
+      let r = c .room in
+      let s = c .left .size in
+      omega arith
+
+  -- row by row
+  module _ (i : ℕ) {b′ : List ℕ} {at′ : ℕ} (l : Left b₁ (at + 2) (inRow (rowBytes k ws store) rows) b′ at′ (inRow (rowBytes k ws store) (drop i rows))) where
+    pub row-room : i < length rows → (getD rows i 0 < rowCount k ws) × Room b′ at′ (rowBytes k ws store (getD rows i 0))
+    row-room h = (next-live (rowBytes k ws store) rows (rowCount k ws) (c .live) i h, next-room (rowBytes k ws store) rows (rowCount k ws) (c .live) i h (c .room) l)
+
+    pub row-put : i < length rows → {b″ : List ℕ} {at″ : ℕ} → Wrote b′ at′ (rowBytes k ws store (getD rows i 0)) b″ at″
+        → Left b₁ (at + 2) (inRow (rowBytes k ws store) rows) b″ at″ (inRow (rowBytes k ws store) (drop (i + 1) rows))
+    row-put h w = next-put (rowBytes k ws store) rows (rowCount k ws) (c .live) i h (c .room) l w
+
+    pub rows-put : length rows ≤ i → Wrote b at (sectionOf k (sorted (view (memory ws store)))) b′ at′
+    rows-put h = left-none (row-end (rowBytes k ws store) rows i h) (left-then (c .left) l)
 
 -- ---- the two numbers
 
