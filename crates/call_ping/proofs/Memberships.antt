@@ -1,7 +1,7 @@
 -- The members of a set by the rows of the objects, and how they change in a complex ping.
 use Prim.Native.Nat.{ℕ, _+_, _*_, _/_, _<_, _≤_}
 use mathlib.Core.Path.{_≡_, refl, sym, ap, _∙_}
-use mathlib.Core.Bool.{Bool, true, false, cond, not, _&&_, _||_, and-false, or-true}
+use mathlib.Core.Bool.{Bool, true, false, cond, not, _&&_, _||_, and-false, or-true, or-false}
 use mathlib.Core.List.{List, [], _∷_, _++_}
 use mathlib.Core.Logic.{⊎-elim}
 use native.Mathlib.Omega.{arith}
@@ -22,8 +22,10 @@ use Rattle.rules.specs.Sound.{proper}
 use Rattle.fields.specs.Fields.{field}
 use Rattle.call_ping.specs.Pinging.{oidsIn, MembersUpdated, OneListed, AllListed}
 use Rattle.call_ping.specs.declared.Listed.{Listed}
-use Rattle.rules.specs.Entries.{oids}
-use Rattle.table_view.specs.View.{oidsOf, memberValues, Holds}
+use Rattle.rules.specs.Entries.{oids, objectRow}
+use Rattle.table_view.specs.View.{objectCount, oidsOf, memory, view, memberValues, Holds}
+use Rattle.table_view.proofs.MemberRows.{oids-length}
+use Rattle.table_view.proofs.Steps.{object-tested}
 use Rattle.table_view.proofs.MemberLaws.{ids-distinct, member-among, members-kept}
 
 module _ (ids : List ℕ) (p : proper ids ≡ true) where
@@ -56,7 +58,7 @@ module _ (ids : List ℕ) (p : proper ids ≡ true) where
     row = firstIndex (eqb oid) ids
 
     -- an OID that is not live changes nothing
-    pub put-none : (member : Bool) → InWords m → length ids ≤ row → MembersUpdated member ids (oid ∷ []) m m
+    put-none : (member : Bool) → InWords m → length ids ≤ row → MembersUpdated member ids (oid ∷ []) m m
     put-none member w h =
         record {
           words = w;
@@ -78,7 +80,7 @@ module _ (ids : List ℕ) (p : proper ids ≡ true) where
           (λ (f : eqb j row ≡ false). rw f (and-false (ltb j (length ids))))
           (true-or-false (eqb j row))
 
-      pub put-one : {member : Bool} → length ids ≤ 128 → MemberPut row member m r → MembersUpdated member ids (oid ∷ []) m r
+      put-one : {member : Bool} → length ids ≤ 128 → MemberPut row member m r → MembersUpdated member ids (oid ∷ []) m r
       put-one l p = record { words = p .words; rows = λ j. p .rows j ∙ rw (here-test j, lt-ltb row 128 (omega arith)) }
 
   module _ (member : Bool) where
@@ -213,3 +215,25 @@ module _ (ws : List ℕ) (member : Bool) (bytes : List ℕ) (m : Members) (p : p
 
     pub bytes-dead : not (l′ .live) ≡ true → AllListed member (oidsOf ws) (oidsIn bytes) m l′
     bytes-dead = listing-dead ws member (oidsIn bytes) m p k l before (rw size h) oid id l′ one
+
+-- ---- one OID, by the row that was found for it, of as many as were counted
+
+module _ (ws s : List ℕ) (member : Bool) (oid : ℕ) (l : Listed) (p : proper (oidsOf ws) ≡ true) (n r : ℕ) (counted : n ≡ objectCount ws) where
+  pub one-gone : n ≤ r → Holds (λ e. r ≡ objectRow e oid) ws → InWords (l .members) → OneListed member (oids (view (memory ws s))) oid l (record { members = l .members; live = not member })
+  one-gone h row w =
+      let k = oids-length ws in
+      let found = row s in
+      record {
+        members = put-none (oidsOf ws) p oid (l .members) member w (omega arith);
+        live = λ t. sym (ap (_||_ (not member)) (object-tested ws s oid found counted ∙ le-ltb _ _ h) ∙ or-false (not member));
+      }
+
+  pub one-live : r < n → Holds (λ e. r ≡ objectRow e oid) ws → (m : Members) → MemberPut r member (l .members) m
+      → OneListed member (oids (view (memory ws s))) oid l (record { members = m; live = l .live })
+  one-live h row m put =
+      let k = oids-length ws in
+      let found = row s in
+      record {
+        members = put-one (oidsOf ws) p oid (l .members) m (omega arith) (omega arith) (rw found at put);
+        live = λ t. t ∙ sym (ap (_||_ (not member)) (object-tested ws s oid found counted ∙ lt-ltb _ _ h) ∙ or-true (not member));
+      }
