@@ -2,7 +2,7 @@
 use Rattle.table_view.proofs.Steps.{sound-below}
 use Rattle.call_ping.specs.Pinging.{oidsIn}
 use Rattle.call_ping.proofs.Taking.{whole, oids-proper}
-use Rattle.call_ping.proofs.Pings.{Passed, passed-bytes, bytes-refused, named-set, not-live, both-listed}
+use Rattle.call_ping.proofs.ComplexPings.{Passed, passed-bytes, bytes-refused, named-set, not-live, both-listed}
 use borrow.Author.Needs.{needs}
 use Rattle.call_ping.proofs.complex_ping_bytes_step.Statement.{statement}
 use Rattle.call_ping.proofs.complex_ping_bytes_step.Tie as tie

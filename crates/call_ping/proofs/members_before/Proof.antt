@@ -1,6 +1,6 @@
 -- `call_ping::members_before`: the test of set 0; another set is live.
 use borrow.Author.Needs.{needs}
-use Rattle.call_ping.proofs.Pings.{named-row, before-none, before-row}
+use Rattle.call_ping.proofs.SetRows.{named-row, before-none, before-row}
 use Rattle.call_ping.proofs.members_before.Statement.{statement}
 use Rattle.call_ping.proofs.members_before.Tie as tie
 

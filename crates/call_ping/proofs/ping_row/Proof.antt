@@ -1,6 +1,6 @@
 -- `call_ping::ping_row`: the members are heard, then the ping time is set.
 use borrow.Author.Needs.{needs}
-use Rattle.call_ping.proofs.Pings.{heard-row, row-pinged}
+use Rattle.call_ping.proofs.SetRows.{heard-row, row-pinged}
 use Rattle.call_ping.proofs.ping_row.Statement.{statement}
 use Rattle.call_ping.proofs.ping_row.Tie as tie
 

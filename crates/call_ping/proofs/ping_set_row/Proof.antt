@@ -1,6 +1,6 @@
 -- `call_ping::ping_set_row`: the test of set 0.
 use borrow.Author.Needs.{needs}
-use Rattle.call_ping.proofs.Pings.{made-row, made-set, named-here, named-same}
+use Rattle.call_ping.proofs.SetRows.{made-row, made-set, named-here, named-same}
 use Rattle.call_ping.proofs.ping_set_row.Statement.{statement}
 use Rattle.call_ping.proofs.ping_set_row.Tie as tie
 

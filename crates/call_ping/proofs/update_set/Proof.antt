@@ -1,6 +1,6 @@
 -- `call_ping::update_set`: the words of the members, then the sequence number.
 use borrow.Author.Needs.{needs}
-use Rattle.call_ping.proofs.Pings.{put-row, row-updated}
+use Rattle.call_ping.proofs.SetRows.{put-row, row-updated}
 use Rattle.call_ping.proofs.update_set.Statement.{statement}
 use Rattle.call_ping.proofs.update_set.Tie as tie
 
