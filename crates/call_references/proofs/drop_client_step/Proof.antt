@@ -1,14 +1,19 @@
 -- `call_references::drop_client_step`: a client that is none is refused; else its counts are cleared, and what has no reference then goes, where anything has none.
-use mathlib.Core.Path.{_≡_, refl, sym, ap, _∙_}
-use native.Mathlib.Omega.{arith}
 use Prim.Native.Nat.{ℕ, _<_, _≤_}
+use mathlib.Core.Path.{_≡_, refl, sym, ap, _∙_}
+use mathlib.Core.Bool.{true}
+use mathlib.Core.List.{List}
+use native.Mathlib.Omega.{arith}
+use lib.Dec.{eqb}
+use Rattle.lists.specs.Lists.{distinct}
 use Rattle.rules.specs.Entries.{Entries, oids}
-use Rattle.rules.specs.Calls.{Call, Edit}
+use Rattle.rules.specs.Calls.{Call, Edit, numbered}
 use Rattle.rules.specs.Sound.{proper, interfaceObjectsLive, setMembersLive}
-use Rattle.rules.specs.Rules.{refusals, number, results, refusedReply, acceptedReply}
+use Rattle.rules.specs.Rules.{refusals, number, next, results, refusedReply, acceptedReply}
 use Rattle.rules.proofs.SoundLaws.{sound-fields}
-use Rattle.table_view.specs.View.{memory, view}
-use Rattle.table_settle.specs.Leaving.{withoutLeaving, heldLeft}
+use Rattle.table_view.specs.View.{interfaceCount, memory, view, Holds, SoundTable, Stepped, oidsOf, membersBelow}
+use Rattle.table_edit.specs.Edits.{Became}
+use Rattle.table_settle.specs.Leaving.{withoutLeaving, cleared, heldLeft}
 use Rattle.table_settle.specs.declared.Leaving.the-variants.{NoInterface}
 use Rattle.table_settle.proofs.Settling.{asked}
 use Rattle.table_settle.proofs.ClientDrop.{drop-steps}
@@ -20,65 +25,57 @@ use borrow.Author.Needs.{needs}
 use Rattle.call_references.proofs.drop_client_step.Statement.{statement}
 use Rattle.call_references.proofs.drop_client_step.Tie as tie
 
-module _ (e : Entries) (c : ℕ) where
-  missing : 7 < c → 20 ≡ number (Call.editing (Edit.dropClient c)) e
-  unfolding number refusals
-  missing h = row-gives _ _ _ refl (client-missing c h)
+-- what objects without an interface can go from
+record Settled (ws : List ℕ) : Type 0 where
+  below : membersBelow ws ≡ true
+  apart : distinct eqb (oidsOf ws) ≡ true
+  named : Holds (λ e. interfaceObjectsLive e ≡ true) ws
 
-  here : c ≤ 7 → 0 ≡ number (Call.editing (Edit.dropClient c)) e
-  unfolding number refusals
-  here h = rows-end (row-passes _ _ _ refl (client-here c h))
+module _ (ws s : List ℕ) (c : ℕ) where
+  abbrev call : Call
+  call = Call.editing (Edit.dropClient c)
 
-returns : tie.Need-returns
-unfolding refusedReply results
-returns c =
-    let a = c .before .before .before .args in
-    refused-step 20 (missing (view (memory (a .words .now) (a .store .now))) (a .client) (c .if1 .taken)) (λ z. omega arith)
+  no-client : 7 < c → Stepped call (memory ws s) (numbered 20) (memory ws s)
+  unfolding refusedReply results number refusals
+  no-client h = refused-step 20 (row-gives _ _ _ refl (client-missing c h)) (λ z. omega arith)
 
-returns-2 : tie.Need-returns-2
-unfolding acceptedReply results
-returns-2 c =
-    let u = c .before .before .before .before .before in
-    let start = u .before .before .before .before .before .before .before .before .before .before .before in
-    let a = start .args in
-    let e : Entries = view (memory (a .words .now) (a .store .now)) in
-    let left = u .drop-unheld .ensures (a .store .now) ∙ ap heldLeft (u .before .before .before .before .clear-counts .ensures (a .store .now)) in
-    let n = u .before .before .before .before .before .before .interface-count .ensures .0 in
-    let same = interfaces-length _ ∙ sym (c .before .interface-count2 .ensures .0) ∙ c .if2 .taken ∙ n ∙ sym (interfaces-length (a .words .now)) in
-    accepted-step 0 (here e (a .client) (u .before .before .before .before .before .before .before .before .if1 .left)) refl _
-    (all-held (a .client) e (start .pre .entries) _ left same)
+  accepted : c ≤ 7 → (ws′ : List ℕ) → view (memory ws′ s) ≡ next call (view (memory ws s)) → Stepped call (memory ws s) (numbered 0) (memory ws′ s)
+  unfolding acceptedReply results number refusals
+  accepted h ws′ v = accepted-step 0 (rows-end (row-passes _ _ _ refl (client-here c h))) refl _ v
 
-remove-unserved-requires : tie.Need-remove-unserved-requires
-remove-unserved-requires c κs =
-    let u = c .before .before .before .before .before .before in
-    let start = u .before .before .before .before .before .before .before .before .before .before .before in
-    let s = start .args .store .now in
-    let f = sound-fields _ (start .pre .entries) in
-    let e = u .drop-unheld .ensures s ∙ ap heldLeft (u .before .before .before .before .clear-counts .ensures s) in
-    let a = asked _ s (ap (λ (x : Entries). proper (oids x)) e ∙ f .objectsProper) (ap setMembersLive e ∙ f .setMembersLive) in
-    (search needs, a .0, a .1, λ _. ap interfaceObjectsLive e ∙ held-named (start .args .client) _ (start .pre .entries))
+  -- the client's counts are cleared, then the interfaces without references are gone
+  module _ (t : SoundTable (memory ws s)) (ws₁ : List ℕ) (clear : Became (cleared c) ws ws₁) (ws₂ : List ℕ) (held : Became heldLeft ws₁ ws₂) where
+    left : view (memory ws₂ s) ≡ heldLeft (cleared c (view (memory ws s)))
+    left = held s ∙ ap heldLeft (clear s)
 
-returns-3 : tie.Need-returns-3
-unfolding acceptedReply results
-returns-3 c =
-    let u = c .before .before .before .before .before .before .before .before .before in
-    let a = u .before .before .before .before .before .before .before .before .before .before .before .args in
-    let e : Entries = view (memory (a .words .now) (a .store .now)) in
-    let left = u .drop-unheld .ensures (a .store .now) ∙ ap heldLeft (u .before .before .before .before .clear-counts .ensures (a .store .now)) in
-    accepted-step 0 (here e (a .client) (u .before .before .before .before .before .before .before .before .if1 .left)) refl _
-    (c .before .before .remove-unserved .ensures (a .store .now) ∙ ap (withoutLeaving NoInterface) left ∙ sym (drop-steps (a .client) e))
+    settled : Settled ws₂
+    settled =
+        let f = sound-fields _ (t .entries) in
+        let a = asked ws₂ s (ap (λ (e : Entries). proper (oids e)) left ∙ f .objectsProper) (ap setMembersLive left ∙ f .setMembersLive) in
+        record { below = a .0; apart = a .1; named = λ _. ap interfaceObjectsLive left ∙ held-named c _ (t .entries) }
+
+    -- none is gone
+    all-kept : c ≤ 7 → (n : ℕ) → n ≡ interfaceCount ws → (m : ℕ) → m ≡ n → m ≡ interfaceCount ws₂ → Stepped call (memory ws s) (numbered 0) (memory ws₂ s)
+    all-kept h n counted m same again = accepted h ws₂ (all-held c _ (t .entries) _ left (cc (interfaces-length ws, interfaces-length ws₂)))
+
+    -- objects that have none go
+    unserved-gone : c ≤ 7 → (ws₃ : List ℕ) → Became (withoutLeaving NoInterface) ws₂ ws₃ → Stepped call (memory ws s) (numbered 0) (memory ws₃ s)
+    unserved-gone h ws₃ gone = accepted h ws₃ (gone s ∙ ap (withoutLeaving NoInterface) left ∙ sym (drop-steps c _))
+
+settled-here : (c : tie.After-drop-unheld) → Settled (c .drop-unheld .last .0)
+settled-here c = search settled
 
 pub drop-client-step-spec : {M : Type 1} → statement M
 drop-client-step-spec =
     tie.close
     (tie.spec
-    returns
+    (λ c. search no-client)
     (λ c κs. search needs)
     (λ c κs. search needs)
     (λ c κs. search needs)
     (λ c κs. search needs)
     (λ c. search needs)
-    returns-2
-    remove-unserved-requires
+    (λ c. search all-kept)
+    (λ c κs. let a = settled-here (c .before .before .before .before .before .before) in (search needs, a .below, a .apart, a .named))
     (λ c. search needs)
-    returns-3)
+    (λ c. search unserved-gone))
