@@ -4,6 +4,7 @@ use mathlib.Core.Path.{_≡_, sym, ap, _∙_}
 use mathlib.Core.Bool.{Bool, true, false, not, and-true, true≢false}
 use mathlib.Core.List.{List, map}
 use mathlib.Core.Logic.{⊎-elim}
+use native.Mathlib.Omega.{arith}
 use borrow.Author.Tests.{eq-eqb, eqb-true, ltb-true}
 use lib.Dec.{eqb}
 use lib.ListN.{length, getD, set}
@@ -13,12 +14,15 @@ use Rattle.lists.proofs.Tests.{true-or-false}
 use Rattle.lists.proofs.Lists.{every-at, every-mono, every-mono-on, every-set, every-delete, some-find, some-none, some-delete, keep-all, keep-ext-on, map-ext-on}
 use Rattle.lists.proofs.Distinct.{eqb-decides, same-comm, some-same-keep-map, entry-here, entry-remove}
 use Rattle.rules.specs.Entries.{Object, Interface, PingSet, Entries, oids, objectRow, withObjects, withInterfaces, withSets, withMembers}
-use Rattle.rules.specs.Sound.{hasInterface, interfaceObjectsLive, setMembersLive}
+use Rattle.rules.specs.Sound.{proper, hasInterface, interfaceObjectsLive, setMembersLive}
 use Rattle.rules.specs.Rules.{noObject, noInterface, isLiveObject, flag}
 use Rattle.rules.proofs.Groups.{serving-objects}
 use Rattle.rules.proofs.ByRow.{object-live}
 use Rattle.rules.proofs.NothingGoes.{nothing-goes}
-use Rattle.table_edit.specs.Edits.{dropObject, dropInterface, changeInterface}
+use Rattle.table_view.specs.View.{objectCount, interfaceCount, memory, view, interfacesOf, objectsOf, Holds, oidsOf, membersLiveIn, membersBelow}
+use Rattle.table_view.proofs.LiveRows.{objects-length, interfaces-length}
+use Rattle.table_edit.specs.Edits.{Became, dropObject, dropInterface, changeInterface}
+use Rattle.table_settle.proofs.Settling.{asked}
 use Rattle.table_settle.specs.Leaving.{withoutLeaving}
 use Rattle.call_references.specs.Dropping.{Serves, InterfaceDropped}
 use Rattle.table_settle.specs.declared.Leaving.the-variants.{NoInterface}
@@ -52,10 +56,10 @@ module _ (i object : ℕ) (e : Entries) (k : Serves i object e) (h : i < length 
   left = dropInterface i e
 
   -- the object is live
-  pub its-live : isLiveObject e object ≡ true
+  its-live : isLiveObject e object ≡ true
   its-live = ap (among (oids e)) (k .its) ∙ every-at (λ (p : Interface). among (oids e) (p .object)) (e .interfaces) noInterface i h (k .named)
 
-  pub its-row : objectRow e object < length (e .objects)
+  its-row : objectRow e object < length (e .objects)
   its-row = ltb-true _ _ (sym (object-live e object) ∙ its-live)
 
   -- another object still has an interface
@@ -134,25 +138,48 @@ module _ (i object : ℕ) (e : Entries) (k : Serves i object e) (h : i < length 
           (λ p a. ap (λ (l : List ℕ). withMembers l p) (members-left (p .members) a)) (e .sets) m)
           ∙ ap (λ (os : List Object). withSets (map without (e .sets)) (withObjects os left)) (entry-remove eqb eqb-decides oidOf noObject object (e .objects) its-row u)
 
-    -- the interface went, and whether its object is still served was asked
-    module _ (b : Bool) (f : Entries) (d : f ≡ left) (a : b ≡ served object (f .interfaces)) where
-      asked-left : served object (left .interfaces) ≡ b
-      asked-left = sym (a ∙ ap (λ (g : Entries). served object (g .interfaces)) d)
+-- ---- over the words
 
-      -- it is
-      pub still-served : b ≡ true → InterfaceDropped i object e 0 f
-      still-served t =
-          record {
-            became = d ∙ sym (none-gone (asked-left ∙ t));
-            gone = sym (ap (λ (x : Bool). flag (not x)) (asked-left ∙ t));
-          }
+-- interface i of object o is live, OIDs are proper, and members live
+module _ (ws : List ℕ) (i o : ℕ) (inside : i < interfaceCount ws) (fine : proper (oidsOf ws) ≡ true) (members : membersLiveIn ws ≡ true) (serves : Holds (Serves i o) ws) where
+  below : i < length (interfacesOf ws)
+  below = let l = interfaces-length ws in omega arith
 
-      -- it is not: its row went too
-      pub not-served : b ≡ false → distinct eqb (oids e) ≡ true → (row : ℕ) (after : Entries) → row ≡ objectRow f object → after ≡ dropObject row f → InterfaceDropped i object e 1 after
-      not-served t u row after r v =
+  module _ (ws′ : List ℕ) (taken : Became (dropInterface i) ws ws′) where
+    pub row-live : (r : ℕ) → Holds (λ e. r ≡ objectRow e o) ws′ → r < objectCount ws′
+    row-live r found =
+        let l : length (objectsOf ws′) ≡ length (objectsOf ws) = ap (λ (e : Entries). length (e .objects)) (taken ws) in
+        let n = objects-length ws′ in
+        let f = found ws ∙ ap (λ (e : Entries). objectRow e o) (taken ws) in
+        let live = its-row i o (view (memory ws ws)) (serves ws) below in
+        omega arith
+
+    fit : (membersBelow ws′ ≡ true) × (distinct eqb (oidsOf ws′) ≡ true)
+    fit = asked ws′ ws (ap (λ (e : Entries). proper (oids e)) (taken ws) ∙ fine) (ap setMembersLive (taken ws) ∙ members)
+
+    pub members-below : membersBelow ws′ ≡ true
+    members-below = fit .0
+
+    pub oids-distinct : distinct eqb (oidsOf ws′) ≡ true
+    oids-distinct = fit .1
+
+    module _ (s : List ℕ) (b : Bool) (tested : Holds (λ e. b ≡ served o (e .interfaces)) ws′) where
+      asked-left : served o (dropInterface i (view (memory ws s)) .interfaces) ≡ b
+      asked-left = sym (tested s ∙ ap (λ (e : Entries). served o (e .interfaces)) (taken s))
+
+      pub object-kept : b ≡ true → InterfaceDropped i o (view (memory ws s)) 0 (view (memory ws′ s))
+      object-kept h =
+          let f = asked-left ∙ h in
+          record { became = taken s ∙ sym (none-gone i o _ (serves s) below members f); gone = rw f }
+
+      pub object-gone : b ≡ false → (r : ℕ) → Holds (λ e. r ≡ objectRow e o) ws′ → (ws″ : List ℕ) → Became (dropObject r) ws′ ws″
+          → InterfaceDropped i o (view (memory ws s)) 1 (view (memory ws″ s))
+      object-gone h r found ws″ left =
+          let f = asked-left ∙ h in
           record {
             became =
-                v ∙ (λ j. dropObject ((r ∙ ap (λ (g : Entries). objectRow g object) d) j) (d j))
-                ∙ sym (one-gone (asked-left ∙ t) u);
-            gone = sym (ap (λ (x : Bool). flag (not x)) (asked-left ∙ t));
+                left s
+                ∙ (λ u. dropObject ((found s ∙ ap (λ (e : Entries). objectRow e o) (taken s)) u) (taken s u))
+                ∙ sym (one-gone i o _ (serves s) below members f (asked ws s fine members .1));
+            gone = rw f;
           }
