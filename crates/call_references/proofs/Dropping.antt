@@ -15,7 +15,7 @@ use Rattle.lists.proofs.Lists.{every-at, every-mono, every-mono-on, every-set, 
 use Rattle.lists.proofs.Distinct.{eqb-decides, same-comm, some-same-keep-map, entry-here, entry-remove}
 use Rattle.rules.specs.Entries.{Object, Interface, PingSet, Entries, oids, objectRow, withObjects, withInterfaces, withSets, withMembers}
 use Rattle.rules.specs.Sound.{proper, hasInterface, interfaceObjectsLive, setMembersLive}
-use Rattle.rules.specs.Rules.{noObject, noInterface, isLiveObject, flag}
+use Rattle.rules.specs.Rules.{noObject, noInterface, isLiveObject}
 use Rattle.rules.proofs.Groups.{serving-objects}
 use Rattle.rules.proofs.ByRow.{object-live}
 use Rattle.rules.proofs.NothingGoes.{nothing-goes}

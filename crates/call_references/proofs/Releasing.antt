@@ -8,15 +8,13 @@ use borrow.Author.Tests.{lt-ltb, le-ltb}
 use lib.Dec.{eqb}
 use lib.ListN.{length, getD, set}
 use lib.Seq.{getD-set-same}
-use Rattle.kinds.specs.Refusals.{order}
 use Rattle.kinds.specs.declared.Guid.{Guid}
 use Rattle.lists.specs.Lists.{some, deleteAt}
 use Rattle.rules.specs.Entries.{Interface, Entries, publicOf, privateOf, withInterfaces, atCounts, interfaceRow, oids}
 use Rattle.rules.specs.Calls.{Call, Edit}
 use Rattle.rules.specs.Sound.{held, proper, setMembersLive}
 use Rattle.rules.proofs.SoundLaws.{sound-fields}
-use Rattle.rules.specs.Rules.{noInterface, flag, noClient, refusals, number, next, results, refusedReply, acceptedReply}
-use Rattle.rules.specs.Contract.{Memory}
+use Rattle.rules.specs.Rules.{noInterface, flag, refusals, number, next, results, refusedReply, acceptedReply}
 use Rattle.rules.proofs.ByRow.{interfaceIn}
 use Rattle.rules.proofs.CountRows.{lessened, release-counted, release-empty, counted-values, empty-values}
 use Rattle.table_view.specs.View.{interfaceCount, interfacesOf, memory, view, Holds, SoundTable, Stepped, oidsOf, membersLiveIn}
@@ -28,16 +26,10 @@ use Rattle.table_settle.specs.Leaving.{withoutLeaving}
 use Rattle.table_settle.specs.declared.Leaving.the-variants.{NoInterface}
 use Rattle.call_references.specs.Dropping.{Serves, InterfaceDropped}
 use Rattle.call_references.specs.Replies.{releaseReply}
+use Rattle.call_references.specs.declared.Released.{Released}
 use Rattle.call_references.proofs.TwoCounts.{counts-as, still-counted}
 use Rattle.call_references.proofs.Dropping.{serves-counted}
-use Rattle.table_view.proofs.Steps.{interface-tested, refused-step, accepted-step}
-
--- clients are 0 to 7
-pub client-missing : (c : ℕ) → 7 < c → noClient c ≡ true
-client-missing c h = lt-ltb 7 c h
-
-pub client-here : (c : ℕ) → c ≤ 7 → noClient c ≡ false
-client-here c h = le-ltb 7 c h
+use Rattle.table_view.proofs.Steps.{refused-step, accepted-step, row-gives, row-passes, gone-gives, live-passes, rows-end, interface-tested}
 
 -- a row that is changed and then taken out
 delete-set : {A : Type 0} (i : ℕ) (xs : List A) (x : A) → deleteAt i (set xs i x) ≡ deleteAt i xs
@@ -46,152 +38,133 @@ delete-set i [] x = refl
 delete-set zero (y ∷ xs) x = refl
 delete-set (suc i) (y ∷ xs) x = ap (λ (l : List _). y ∷ l) (delete-set i xs x)
 
-pub no-client : (ws s : List ℕ) (c : ℕ) (i : Guid) (p q : ℕ) → 7 < c
-    → Stepped (Call.editing (Edit.release c i p q)) (memory ws s) (releaseReply (record { answer = 20; public = 0; private = 0; interfaces = 0; objects = 0 })) (memory ws s)
-unfolding refusedReply results number refusals order
-no-client ws s c i p q h =
-    let e : number (Call.editing (Edit.release c i p q)) (view (memory ws s)) ≡ 20 = rw (client-missing c h) in
-    refused-step 20 (sym e) (λ z. omega arith)
-
 -- what is left of a count
-count-left : (asked count taken left : ℕ) → taken ≡ min asked count → left ≡ count - taken → left ≡ count - asked
-count-left asked count taken left t l = omega arith
+count-left : (asked count taken : ℕ) → taken ≡ min asked count → count - taken ≡ count - asked
+count-left asked count taken t = omega arith
 
--- the row that was found, of as many as were counted, in a sound table
-pub record Row (ws s : List ℕ) (i : Guid) (r n : ℕ) : Type 0 where
-  pub table : SoundTable (memory ws s)
-  pub row : Holds (λ e. r ≡ interfaceRow e i) ws
-  pub count : n ≡ interfaceCount ws
+module _ (ws s : List ℕ) (c : ℕ) (i : Guid) (p q : ℕ) where
+  abbrev call : Call
+  call = Call.editing (Edit.release c i p q)
 
-module _ (ws s : List ℕ) (c : ℕ) (i : Guid) (p q : ℕ) {r n : ℕ} (client : c ≤ 7) (found : Row ws s i r n) where
-  abbrev before : Entries
-  before = view (memory ws s)
+  abbrev e : Entries
+  e = view (memory ws s)
 
-  pub no-interface : n ≤ r → Stepped (Call.editing (Edit.release c i p q)) (memory ws s) (releaseReply (record { answer = 6; public = 0; private = 0; interfaces = 0; objects = 0 })) (memory ws s)
-  unfolding refusedReply results number refusals order
-  no-interface l =
-      let gone = interface-tested ws s i (found .row s) (found .count) ∙ le-ltb r n l in
-      let e : number (Call.editing (Edit.release c i p q)) before ≡ 6 = rw (client-here c client, gone) in
-      refused-step 6 (sym e) (λ z. omega arith)
+  -- what is answered, and the words that are left
+  abbrev Answered : Released → List ℕ → Type 0
+  Answered r ws′ = Stepped call (memory ws s) (releaseReply r) (memory ws′ s)
 
-  -- accepted, with what is answered
-  released : r < n → (m : Memory) (a b o d : ℕ) → view m ≡ next (Call.editing (Edit.release c i p q)) before
-      → results (Call.editing (Edit.release c i p q)) before .values ≡ a ∷ b ∷ o ∷ d ∷ []
-      → Stepped (Call.editing (Edit.release c i p q)) (memory ws s) (releaseReply (record { answer = 0; public = a; private = b; interfaces = o; objects = d })) m
-  unfolding acceptedReply results number refusals order
-  released l m a b o d v e =
-      let live = interface-tested ws s i (found .row s) (found .count) ∙ lt-ltb r n l in
-      let z : number (Call.editing (Edit.release c i p q)) before ≡ 0 = rw (client-here c client, live) in
-      subst (λ (vs : List ℕ). Stepped (Call.editing (Edit.release c i p q)) (memory ws s) (record { number = 0; values = vs; part = []; buffer = [] }) m) e
-      (accepted-step 0 (sym z) refl m v)
+  abbrev refused : ℕ → Released
+  refused n = record { answer = n; public = 0; private = 0; interfaces = 0; objects = 0 }
 
--- the client is there and the row is live; what its counts are, and what is taken of them
-pub record Taking (ws s : List ℕ) (c : ℕ) (i : Guid) (p q r n : ℕ) (h : InterfaceCounts) (taken taken₂ : ℕ) : Type 0 where
-  pub client : c ≤ 7
-  pub found : Row ws s i r n
-  pub live : r < n
-  pub counts : h ≡ countsAt ws r c
-  pub takes : taken ≡ min p (h .public)
-  pub takes₂ : taken₂ ≡ min q (h .private)
+  pub no-client : 7 < c → Answered (refused 20) ws
+  unfolding refusedReply results number refusals
+  no-client h = refused-step 20 (row-gives _ _ _ refl (lt-ltb 7 c h)) (λ z. omega arith)
 
-module _ {ws s : List ℕ} {c : ℕ} {i : Guid} {p q r n : ℕ} {h : InterfaceCounts} {taken taken₂ : ℕ} (k : Taking ws s c i p q r n h taken taken₂) where
-  abbrev entries : Entries
-  entries = view (memory ws s)
+  -- the client, and the row that was found, of as many as were counted
+  module _ (client : c ≤ 7) (n : ℕ) (counted : n ≡ interfaceCount ws) (r : ℕ) where
+    pub no-interface : n ≤ r → Holds (λ f. r ≡ interfaceRow f i) ws → Answered (refused 6) ws
+    unfolding refusedReply results number refusals
+    no-interface h found =
+        refused-step 6 (gone-gives (interface-tested ws s i (found s) counted) _ _ (row-passes _ _ _ refl (le-ltb 7 c client)) h) (λ z. omega arith)
 
-  abbrev stored : Interface → Interface
-  stored = atCounts c (λ (m : ℕ). h .public - taken) (λ (m : ℕ). h .private - taken₂)
+    module _ (live : r < n) (found : Holds (λ f. r ≡ interfaceRow f i) ws) where
+      -- accepted, with what is answered
+      released : (ws′ : List ℕ) (a b o d : ℕ) → view (memory ws′ s) ≡ next call e → results call e .values ≡ a ∷ b ∷ o ∷ d ∷ []
+          → Answered (record { answer = 0; public = a; private = b; interfaces = o; objects = d }) ws′
+      unfolding acceptedReply results number refusals
+      released ws′ a b o d v w =
+          let z = rows-end (live-passes (interface-tested ws s i (found s) counted) _ _ (row-passes _ _ _ refl (le-ltb 7 c client)) live) in
+          subst (λ (vs : List ℕ). Stepped call (memory ws s) (record { number = 0; values = vs; part = []; buffer = [] }) (memory ws′ s)) w (accepted-step 0 z refl _ v)
 
-  below : interfaceRow entries i < length (entries .interfaces)
-  below = let l = interfaces-length ws in let d = k .found .count in let b = k .live in rw (← k .found .row s) (omega arith)
+      below : interfaceRow e i < length (interfacesOf ws)
+      below = let l = interfaces-length ws in let f = found s in omega arith
 
-  here : getD (entries .interfaces) r noInterface ≡ interfaceIn entries i
-  here = ap (λ (j : ℕ). getD (entries .interfaces) j noInterface) (k .found .row s)
+      here : getD (interfacesOf ws) r noInterface ≡ interfaceIn e i
+      here = ap (λ (j : ℕ). getD (interfacesOf ws) j noInterface) (found s)
 
-  public-left : h .public - taken ≡ publicOf (interfaceIn entries i) - p
-  public-left = count-left p _ taken _ (k .takes) refl ∙ (rw (k .counts) (ap (λ (x : Interface). publicOf x - p) here))
+      -- what its counts are, and what is taken of them
+      module _ (h : InterfaceCounts) (counts : h ≡ countsAt ws r c) (taken : ℕ) (takes : taken ≡ min p (h .public)) (taken₂ : ℕ) (takes₂ : taken₂ ≡ min q (h .private)) where
+        abbrev stored : Interface → Interface
+        stored = atCounts c (λ (m : ℕ). h .public - taken) (λ (m : ℕ). h .private - taken₂)
 
-  private-left : h .private - taken₂ ≡ privateOf c (interfaceIn entries i) - q
-  private-left = count-left q _ taken₂ _ (k .takes₂) refl ∙ (rw (k .counts) (ap (λ (x : Interface). privateOf c x - q) here))
+        public-left : h .public - taken ≡ publicOf (interfaceIn e i) - p
+        public-left = count-left p _ taken takes ∙ rw (counts, here)
 
-  -- what is stored in the row is what the rules leave
-  less-here : stored (getD (entries .interfaces) r noInterface) ≡ lessened entries c i p q
-  less-here =
-      ap stored here
-      ∙ counts-as c _ _ (interfaceIn entries i) (λ (m : ℕ). m - p) (λ (m : ℕ). m - q) public-left private-left
+        private-left : h .private - taken₂ ≡ privateOf c (interfaceIn e i) - q
+        private-left = count-left q _ taken₂ takes₂ ∙ rw (counts, here)
 
-  took : (b d : ℕ) → min p (publicOf (interfaceIn entries i)) ∷ min q (privateOf c (interfaceIn entries i)) ∷ b ∷ d ∷ [] ≡ taken ∷ taken₂ ∷ b ∷ d ∷ []
-  took b d =
-      λ u.
-      (ap (λ (x : Interface). min p (publicOf x)) (sym here) ∙ sym (rw (k .counts) at (k .takes))) u
-      ∷ (ap (λ (x : Interface). min q (privateOf c x)) (sym here) ∙ sym (rw (k .counts) at (k .takes₂))) u
-      ∷ b
-      ∷ d
-      ∷ []
+        -- what is stored in the row is what the rules leave
+        less-here : stored (getD (interfacesOf ws) r noInterface) ≡ lessened e c i p q
+        less-here =
+            ap stored here
+            ∙ counts-as c _ _ (interfaceIn e i) (λ (m : ℕ). m - p) (λ (m : ℕ). m - q) public-left private-left
 
-  -- the row is still there once its counts are stored, and objects and members are as they were
-  module _ (ws′ : List ℕ) (b : Became (changeInterface r stored) ws ws′) where
-    pub still-here : r < interfaceCount ws′
-    still-here = let m = still-counted ws ws′ r stored b in let l = k .live in let d = k .found .count in omega arith
+        took : (b d : ℕ) → min p (publicOf (interfaceIn e i)) ∷ min q (privateOf c (interfaceIn e i)) ∷ b ∷ d ∷ [] ≡ taken ∷ taken₂ ∷ b ∷ d ∷ []
+        took b d = rw (takes, takes₂, counts, here)
 
-    pub still-proper : proper (oidsOf ws′) ≡ true
-    still-proper = ap (λ (x : Entries). proper (oids x)) (b s) ∙ sound-fields _ (k .found .table .entries) .objectsProper
+        -- the counts are stored
+        module _ (ws′ : List ℕ) (b : Became (changeInterface r stored) ws ws′) (t : SoundTable (memory ws s)) (x : Bool) where
+          lessened-here : getD (interfacesOf ws′) r noInterface ≡ lessened e c i p q
+          lessened-here =
+              ap (λ (f : Entries). getD (f .interfaces) r noInterface) (b s)
+              ∙ getD-set-same (interfacesOf ws) r _ noInterface (let l = interfaces-length ws in omega arith)
+              ∙ less-here
 
-    pub still-members : membersLiveIn ws′ ≡ true
-    still-members = ap setMembersLive (b s) ∙ sound-fields _ (k .found .table .entries) .setMembersLive
+          -- a count is left
+          pub counted-done : x ≡ true → x ≡ held (getD (interfacesOf ws′) r noInterface)
+              → Answered (record { answer = 0; public = taken; private = taken₂; interfaces = 0; objects = 0 }) ws′
+          counted-done z tested =
+              let l : held (lessened e c i p q) ≡ true = ap held (sym lessened-here) ∙ sym tested ∙ z in
+              released ws′ taken taken₂ 0 0
+              (b s
+              ∙ (λ u. withInterfaces (set (interfacesOf ws) (found s u) (less-here u)) e)
+              ∙ sym (release-counted e i (t .entries) below c p q l))
+              (counted-values e i (t .entries) below c p q l ∙ took 0 0)
 
-    -- and so is who serves whom, whatever the store
-    pub still-serves : Holds (Serves r (h .object .0)) ws′
-    still-serves z =
-        let f = sound-fields _ (k .found .table .entries) in
-        let l = interfaces-length ws in
-        let d = k .found .count in
-        let m = k .live in
-        subst (Serves r (h .object .0)) (sym (b z))
-        (serves-counted r (h .object .0) stored (view (memory ws z)) (λ x. refl) (omega arith)
-        (record { its = ap (λ (x : InterfaceCounts). x .object .0) (k .counts); named = f .interfaceObjectsLive; serving = f .objectsHaveInterfaces }))
+          -- without the row it is as before
+          without-row : dropInterface r (view (memory ws′ s)) ≡ dropInterface r e
+          without-row = ap (dropInterface r) (b s) ∙ ap (λ (l : List Interface). withInterfaces l e) (delete-set r (interfacesOf ws) _)
 
-  -- the counts are stored
-  module _ (ws′ : List ℕ) (b : Became (changeInterface r stored) ws ws′) {x : Bool} (tested : x ≡ held (getD (interfacesOf ws′) r noInterface)) where
-    v : view (memory ws′ s) ≡ changeInterface r stored entries
-    v = b s
+          -- none is left
+          pub empty-done : x ≡ false → x ≡ held (getD (interfacesOf ws′) r noInterface) → (ws″ : List ℕ) (o : ℕ)
+              → ((z : List ℕ) → InterfaceDropped r (h .object .0) (view (memory ws′ z)) o (view (memory ws″ z)))
+              → Answered (record { answer = 0; public = taken; private = taken₂; interfaces = 1; objects = o }) ws″
+          empty-done z tested ws″ o drops =
+              let d = rw counts at (drops s) in
+              let f : held (lessened e c i p q) ≡ false = ap held (sym lessened-here) ∙ sym tested ∙ z in
+              let object : ℕ = getD (interfacesOf ws) r noInterface .object in
+              let left : InterfaceDropped r object e o (view (memory ws″ s)) =
+              record {
+                became = d .became ∙ ap (withoutLeaving NoInterface) without-row;
+                gone = d .gone ∙ ap (λ (f : Entries). flag (not (some (λ (x : Interface). eqb object (x .object)) (f .interfaces)))) without-row;
+              } in
+              let dropped : InterfaceDropped (interfaceRow e i) (interfaceIn e i .object) e o (view (memory ws″ s)) = rw (found s) at left in
+              released ws″ taken taken₂ 1 o
+              (dropped .became ∙ sym (release-empty e i (t .entries) below c p q f))
+              (empty-values e i (t .entries) below c p q f ∙ rw (← dropped .gone) (took 1 o))
 
-    lessened-here : getD (interfacesOf ws′) r noInterface ≡ lessened entries c i p q
-    lessened-here =
-        ap (λ (e : Entries). getD (e .interfaces) r noInterface) v
-        ∙ getD-set-same (entries .interfaces) r _ noInterface (let l = interfaces-length ws in let d = k .found .count in let b = k .live in omega arith)
-        ∙ less-here
+-- what a drop of the interface asks: the row is still there once its counts are stored, and objects, members and who serves whom are as they were
+pub record Still (r o : ℕ) (ws : List ℕ) : Type 0 where
+  pub live : r < interfaceCount ws
+  pub fine : proper (oidsOf ws) ≡ true
+  pub members : membersLiveIn ws ≡ true
+  pub serves : Holds (Serves r o) ws
 
-    -- a count is left
-    pub counted-done : x ≡ true
-        → Stepped (Call.editing (Edit.release c i p q)) (memory ws s) (releaseReply (record { answer = 0; public = taken; private = taken₂; interfaces = 0; objects = 0 })) (memory ws′ s)
-    counted-done h =
-        let t : held (lessened entries c i p q) ≡ true = ap held (sym lessened-here) ∙ sym tested ∙ h in
-        released ws s c i p q (k .client) (k .found) (k .live) (memory ws′ s) taken taken₂ 0 0
-        (v
-        ∙ (λ u. withInterfaces (set (entries .interfaces) (k .found .row s u) (less-here u)) entries)
-        ∙ sym (release-counted entries i (k .found .table .entries) below c p q t))
-        (counted-values entries i (k .found .table .entries) below c p q t ∙ took 0 0)
-
-    -- without the row it is as before
-    without-row : dropInterface r (view (memory ws′ s)) ≡ dropInterface r entries
-    without-row = ap (dropInterface r) v ∙ ap (λ (l : List Interface). withInterfaces l entries) (delete-set r (entries .interfaces) _)
-
-    -- none is left
-    pub empty-done : x ≡ false → {ws″ : List ℕ} {o : ℕ}
-        → ((z : List ℕ) → InterfaceDropped r (h .object .0) (view (memory ws′ z)) o (view (memory ws″ z)))
-        → Stepped (Call.editing (Edit.release c i p q)) (memory ws s) (releaseReply (record { answer = 0; public = taken; private = taken₂; interfaces = 1; objects = o })) (memory ws″ s)
-    empty-done h {ws″} {o} drops =
-        let d = rw (k .counts) at (drops s) in
-        let f : held (lessened entries c i p q) ≡ false = ap held (sym lessened-here) ∙ sym tested ∙ h in
-        let object : ℕ = getD (entries .interfaces) r noInterface .object in
-        let left : InterfaceDropped r object entries o (view (memory ws″ s)) =
-        record {
-          became = d .became ∙ ap (withoutLeaving NoInterface) without-row;
-          gone = d .gone ∙ ap (λ (e : Entries). flag (not (some (λ (x : Interface). eqb object (x .object)) (e .interfaces)))) without-row;
-        } in
-        let dropped : InterfaceDropped (interfaceRow entries i) (interfaceIn entries i .object) entries o (view (memory ws″ s)) = rw (k .found .row s) at left in
-        released ws s c i p q (k .client) (k .found) (k .live) (memory ws″ s) taken taken₂ 1 o
-        (dropped .became ∙ sym (release-empty entries i (k .found .table .entries) below c p q f))
-        (empty-values entries i (k .found .table .entries) below c p q f
-        ∙ ap (λ (x : ℕ). min p (publicOf (interfaceIn entries i)) ∷ min q (privateOf c (interfaceIn entries i)) ∷ 1 ∷ x ∷ []) (sym (dropped .gone))
-        ∙ took 1 o)
+pub still : (ws s : List ℕ) → SoundTable (memory ws s) → (n : ℕ) → n ≡ interfaceCount ws → (r : ℕ) → r < n → (c : ℕ) (h : InterfaceCounts) → h ≡ countsAt ws r c
+    → (p taken : ℕ) → taken ≡ min p (h .public) → (q taken₂ : ℕ) → taken₂ ≡ min q (h .private) → (ws′ : List ℕ)
+    → Became (changeInterface r (atCounts c (λ (m : ℕ). h .public - taken) (λ (m : ℕ). h .private - taken₂))) ws ws′ → Still r (h .object .0) ws′
+still ws s t n counted r live c h counts p taken takes q taken₂ takes₂ ws′ b =
+    let f = sound-fields _ (t .entries) in
+    let l = interfaces-length ws in
+    let g : Interface → Interface = atCounts c (λ (m : ℕ). h .public - taken) (λ (m : ℕ). h .private - taken₂) in
+    let m = still-counted ws ws′ r g b in
+    record {
+      live = omega arith;
+      fine = ap (λ (x : Entries). proper (oids x)) (b s) ∙ f .objectsProper;
+      members = ap setMembersLive (b s) ∙ f .setMembersLive;
+      serves =
+          λ z.
+          subst (Serves r (h .object .0)) (sym (b z))
+          (serves-counted r (h .object .0) g (view (memory ws z)) (λ x. refl) (omega arith)
+          (record { its = ap (λ (x : InterfaceCounts). x .object .0) counts; named = f .interfaceObjectsLive; serving = f .objectsHaveInterfaces }));
+    }

@@ -4,14 +4,14 @@ use mathlib.Core.Path.{_≡_, refl, sym, ap, _∙_}
 use mathlib.Core.Bool.{true, false}
 use mathlib.Core.List.{List, [], _∷_}
 use native.Mathlib.Omega.{arith}
-use borrow.Author.Tests.{le-leb, lt-leb}
+use borrow.Author.Tests.{lt-ltb, le-ltb, le-leb, lt-leb}
 use lib.ListN.{length, getD, set}
 use Rattle.kinds.specs.Refusals.{order, _gives_}
 use Rattle.kinds.specs.declared.Guid.{Guid}
 use Rattle.rules.specs.Entries.{Interface, Entries, publicOf, privateOf, withInterfaces, atCounts, interfaceRow}
 use Rattle.rules.specs.Calls.{Call, Edit, numbered}
 use Rattle.rules.specs.Rules.{noInterface, interfaceOf, passesCount, refusals, number, next, results, refusedReply, acceptedReply}
-use Rattle.rules.proofs.ByRow.{interfaceIn, interface-row}
+use Rattle.rules.proofs.ByRow.{interface-row}
 use Rattle.rules.proofs.CountRows.{add-row}
 use Rattle.table_view.specs.View.{interfaceCount, interfacesOf, memory, view, Holds, SoundTable, Stepped}
 use Rattle.table_view.specs.Counts.{countsAt}
@@ -20,7 +20,6 @@ use Rattle.table_view.specs.declared.find.InterfaceCounts.{InterfaceCounts}
 use Rattle.table_view.proofs.LiveRows.{interfaces-length}
 use Rattle.table_view.proofs.Steps.{refused-step, accepted-step, row-gives, row-passes, gone-gives, live-passes, rows-end, two-rows, interface-tested}
 use Rattle.call_references.proofs.TwoCounts.{counts-as}
-use Rattle.call_references.proofs.Releasing.{client-missing, client-here}
 use borrow.Author.Needs.{needs}
 use Rattle.call_references.proofs.add_at.Statement.{statement}
 use Rattle.call_references.proofs.add_at.Tie as tie
@@ -44,14 +43,14 @@ module _ (ws s : List ℕ) (c : ℕ) (i : Guid) (p q : ℕ) where
 
   no-client : 7 < c → Refused 20
   unfolding refusedReply results number refusals
-  no-client h = refused-step 20 (row-gives _ _ _ refl (client-missing c h)) (λ z. omega arith)
+  no-client h = refused-step 20 (row-gives _ _ _ refl (lt-ltb 7 c h)) (λ z. omega arith)
 
   -- the client, and the row that was found, of as many as were counted
   module _ (client : c ≤ 7) (n : ℕ) (counted : n ≡ interfaceCount ws) (r : ℕ) where
     no-interface : n ≤ r → Holds (λ f. r ≡ interfaceRow f i) ws → Refused 6
     unfolding refusedReply results number refusals
     no-interface h found =
-        refused-step 6 (gone-gives (interface-tested ws s i (found s) counted) _ _ (row-passes _ _ _ refl (client-here c client)) h) (λ z. omega arith)
+        refused-step 6 (gone-gives (interface-tested ws s i (found s) counted) _ _ (row-passes _ _ _ refl (le-ltb 7 c client)) h) (λ z. omega arith)
 
     -- what it holds
     module _ (live : r < n) (found : Holds (λ f. r ≡ interfaceRow f i) ws) (h : InterfaceCounts) (held : h ≡ countsAt ws r c) where
@@ -59,11 +58,9 @@ module _ (ws s : List ℕ) (c : ℕ) (i : Guid) (p q : ℕ) where
       sums : number call e ≡ order (passesCount (h .public + p) gives 8 ∷ passesCount (h .private + q) gives 8 ∷ [])
       unfolding number refusals
       sums =
-          live-passes (interface-tested ws s i (found s) counted) _ _ (row-passes _ _ _ refl (client-here c client)) live
+          live-passes (interface-tested ws s i (found s) counted) _ _ (row-passes _ _ _ refl (le-ltb 7 c client)) live
           ∙ two-rows (passesCount (publicOf (interfaceOf e i) + p)) (passesCount (privateOf c (interfaceOf e i) + q)) 8 []
-          ∙ ap (λ (x : Interface). order (passesCount (publicOf x + p) gives 8 ∷ passesCount (privateOf c x + q) gives 8 ∷ []))
-          (interface-row e i ∙ ap (λ (k : ℕ). getD (interfacesOf ws) k noInterface) (sym (found s)))
-          ∙ rw held
+          ∙ rw (interface-row e i, ← found s, held)
 
       -- the sums in the row are the entries that the rules say
       stored : SoundTable (memory ws s) → changeInterface r (atCounts c (λ (m : ℕ). h .public + p) (λ (m : ℕ). h .private + q)) e ≡ next call e
@@ -71,13 +68,8 @@ module _ (ws s : List ℕ) (c : ℕ) (i : Guid) (p q : ℕ) where
           let l = interfaces-length ws in
           let f = found s in
           let b : interfaceRow e i < length (interfacesOf ws) = omega arith in
-          let x : Interface = getD (interfacesOf ws) r noInterface in
-          let y : x ≡ interfaceIn e i = ap (λ (k : ℕ). getD (interfacesOf ws) k noInterface) f in
-          let public = ap (λ (k : InterfaceCounts). k .public + p) held in
-          let private = ap (λ (k : InterfaceCounts). k .private + q) held in
-          let z = counts-as c (h .public + p) (h .private + q) x (λ (m : ℕ). m + p) (λ (m : ℕ). m + q) public private in
-          (λ u. withInterfaces (set (interfacesOf ws) (f u) ((z ∙ ap (atCounts c (λ (m : ℕ). m + p) (λ (m : ℕ). m + q)) y) u)) e)
-          ∙ sym (add-row e (t .entries) c i p q b)
+          let z = counts-as c (h .public + p) (h .private + q) (getD (interfacesOf ws) r noInterface) (λ (m : ℕ). m + p) (λ (m : ℕ). m + q) (rw held) (rw held) in
+          ap (λ (x : Interface). withInterfaces (set (interfacesOf ws) r x) e) z ∙ rw f (sym (add-row e (t .entries) c i p q b))
 
       public-passes : 4294967295 < h .public + p → Refused 8
       unfolding refusedReply results

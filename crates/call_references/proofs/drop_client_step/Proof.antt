@@ -4,6 +4,7 @@ use mathlib.Core.Path.{_≡_, refl, sym, ap, _∙_}
 use mathlib.Core.Bool.{true}
 use mathlib.Core.List.{List}
 use native.Mathlib.Omega.{arith}
+use borrow.Author.Tests.{lt-ltb, le-ltb}
 use lib.Dec.{eqb}
 use Rattle.lists.specs.Lists.{distinct}
 use Rattle.rules.specs.Entries.{Entries, oids}
@@ -20,7 +21,6 @@ use Rattle.table_settle.proofs.ClientDrop.{drop-steps}
 use Rattle.table_settle.proofs.Staying.{all-held, held-named}
 use Rattle.table_view.proofs.LiveRows.{interfaces-length}
 use Rattle.table_view.proofs.Steps.{refused-step, accepted-step, row-gives, row-passes, rows-end}
-use Rattle.call_references.proofs.Releasing.{client-missing, client-here}
 use borrow.Author.Needs.{needs}
 use Rattle.call_references.proofs.drop_client_step.Statement.{statement}
 use Rattle.call_references.proofs.drop_client_step.Tie as tie
@@ -37,11 +37,11 @@ module _ (ws s : List ℕ) (c : ℕ) where
 
   no-client : 7 < c → Stepped call (memory ws s) (numbered 20) (memory ws s)
   unfolding refusedReply results number refusals
-  no-client h = refused-step 20 (row-gives _ _ _ refl (client-missing c h)) (λ z. omega arith)
+  no-client h = refused-step 20 (row-gives _ _ _ refl (lt-ltb 7 c h)) (λ z. omega arith)
 
   accepted : c ≤ 7 → (ws′ : List ℕ) → view (memory ws′ s) ≡ next call (view (memory ws s)) → Stepped call (memory ws s) (numbered 0) (memory ws′ s)
   unfolding acceptedReply results number refusals
-  accepted h ws′ v = accepted-step 0 (rows-end (row-passes _ _ _ refl (client-here c h))) refl _ v
+  accepted h ws′ v = accepted-step 0 (rows-end (row-passes _ _ _ refl (le-ltb 7 c h))) refl _ v
 
   -- the client's counts are cleared, then the interfaces without references are gone
   module _ (t : SoundTable (memory ws s)) (ws₁ : List ℕ) (clear : Became (cleared c) ws ws₁) (ws₂ : List ℕ) (held : Became heldLeft ws₁ ws₂) where
