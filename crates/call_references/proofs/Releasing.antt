@@ -6,7 +6,7 @@ use mathlib.Core.List.{List, [], _∷_}
 use native.Mathlib.Omega.{arith}
 use borrow.Author.Tests.{lt-ltb, le-ltb}
 use lib.Dec.{eqb}
-use lib.ListN.{length, getD, set}
+use lib.ListN.{length, getD, set, length-set}
 use lib.Seq.{getD-set-same}
 use Rattle.kinds.specs.declared.Guid.{Guid}
 use Rattle.lists.specs.Lists.{some, deleteAt}
@@ -27,7 +27,7 @@ use Rattle.table_settle.specs.declared.Leaving.the-variants.{NoInterface}
 use Rattle.call_references.specs.Dropping.{Serves, InterfaceDropped}
 use Rattle.call_references.specs.Replies.{releaseReply}
 use Rattle.call_references.specs.declared.Released.{Released}
-use Rattle.call_references.proofs.TwoCounts.{counts-as, still-counted}
+use Rattle.call_references.proofs.TwoCounts.{counts-as, row-kept}
 use Rattle.call_references.proofs.Dropping.{serves-counted}
 use Rattle.table_view.proofs.Steps.{refused-step, accepted-step, row-gives, row-passes, gone-gives, live-passes, rows-end, interface-tested}
 
@@ -157,9 +157,8 @@ still ws s t n counted r live c h counts p taken takes q taken₂ takes₂ ws′
     let f = sound-fields _ (t .entries) in
     let l = interfaces-length ws in
     let g : Interface → Interface = atCounts c (λ (m : ℕ). h .public - taken) (λ (m : ℕ). h .private - taken₂) in
-    let m = still-counted ws ws′ r g b in
     record {
-      live = omega arith;
+      live = row-kept (changeInterface r g) r ws ws′ b (λ e. simp length-set) (omega arith);
       fine = ap (λ (x : Entries). proper (oids x)) (b s) ∙ f .objectsProper;
       members = ap setMembersLive (b s) ∙ f .setMembersLive;
       serves =

@@ -1,12 +1,14 @@
 -- Two counts of one interface: the public one, and the private one of a client.
-use Prim.Native.Nat.{ℕ, suc, _<_}
+use Prim.Native.Nat.{ℕ, suc, _+_, _<_}
 use mathlib.Core.Path.{_≡_, refl, sym, ap, _∙_}
 use mathlib.Core.List.{List, [], _∷_}
-use lib.ListN.{length, getD, set, length-set}
+use native.Mathlib.Omega.{arith}
+use native.Mathlib.Numerals.{add-one}
+use lib.ListN.{length, getD, set}
 use lib.Seq.{set-set, getD-set-same}
 use Rattle.rules.specs.Entries.{Interface, Entries, publicOf, privateOf, withInterfaces, withCount, atCounts}
 use Rattle.rules.specs.Rules.{noInterface}
-use Rattle.table_view.specs.View.{interfaceCount, memory, view}
+use Rattle.table_view.specs.View.{interfaceCount, interfacesOf, memory, view}
 use Rattle.table_edit.specs.Edits.{Became, changeInterface}
 use Rattle.table_view.proofs.LiveRows.{interfaces-length}
 
@@ -24,18 +26,21 @@ pub counts-as : (c p q : ℕ) (x : Interface) (f g : ℕ → ℕ) → p ≡ f (p
 counts-as c p q x f g a b u = withCount (suc c) ((b ∙ ap g (sym (apart c (f (publicOf x)) x))) u) (withCount 0 (a u) x)
 
 -- one after the other
-pub both-counts : (e : Entries) (i c p q : ℕ) → i < length (e .interfaces)
-    → changeInterface i (withCount (suc c) q) (changeInterface i (withCount 0 p) e) ≡ changeInterface i (atCounts c (λ (n : ℕ). p) (λ (n : ℕ). q)) e
-both-counts e i c p q h =
-    let xs : List Interface = e .interfaces in
-    let x : Interface = withCount 0 p (getD xs i noInterface) in
-    ap (λ (l : List Interface). withInterfaces l e)
-    (ap (λ (y : Interface). set (set xs i x) i (withCount (suc c) q y)) (getD-set-same xs i x noInterface h) ∙ set-set xs i x (withCount (suc c) q x))
+pub both-counts : (ws : List ℕ) (i : ℕ) → i < interfaceCount ws → (c p q : ℕ) (ws₁ ws₂ : List ℕ) → Became (changeInterface i (withCount 0 p)) ws ws₁
+    → Became (changeInterface i (withCount (c + 1) q)) ws₁ ws₂ → Became (changeInterface i (atCounts c (λ (n : ℕ). p) (λ (n : ℕ). q))) ws ws₂
+both-counts ws i inside c p q ws₁ ws₂ first second s =
+    let e : Entries = view (memory ws s) in
+    let x : Interface = withCount 0 p (getD (interfacesOf ws) i noInterface) in
+    let l = interfaces-length ws in
+    let h : i < length (interfacesOf ws) = omega arith in
+    rw add-one at (second s)
+    ∙ ap (changeInterface i (withCount (suc c) q)) (first s)
+    ∙ ap (λ (l : List Interface). withInterfaces l e)
+    (ap (λ (y : Interface). set (set (interfacesOf ws) i x) i (withCount (suc c) q y)) (getD-set-same (interfacesOf ws) i x noInterface h) ∙ set-set (interfacesOf ws) i x (withCount (suc c) q x))
 
--- an interface changed, and as many as before
-pub still-counted : (ws ws′ : List ℕ) (i : ℕ) (f : Interface → Interface) → Became (changeInterface i f) ws ws′ → interfaceCount ws′ ≡ interfaceCount ws
-still-counted ws ws′ i f b =
-    sym (interfaces-length ws′)
-    ∙ ap (λ (e : Entries). length (e .interfaces)) (b ws)
-    ∙ length-set (view (memory ws ws) .interfaces) i (f (getD (view (memory ws ws) .interfaces) i noInterface))
-    ∙ interfaces-length ws
+-- an edit that leaves as many interfaces leaves a row
+pub row-kept : (g : Entries → Entries) (i : ℕ) (ws ws′ : List ℕ) → Became g ws ws′ → ((e : Entries) → length (g e .interfaces) ≡ length (e .interfaces))
+    → i < interfaceCount ws → i < interfaceCount ws′
+row-kept g i ws ws′ b same h =
+    let n = sym (interfaces-length ws′) ∙ ap (λ (e : Entries). length (e .interfaces)) (b ws) ∙ same (view (memory ws ws)) ∙ interfaces-length ws in
+    omega arith
