@@ -1,46 +1,39 @@
 -- `call_enter::enter_exporter_step`: refused as the number says; else the exporter is entered with its list.
-use mathlib.Core.Path.{sym, _∙_}
-use native.Mathlib.Omega.{arith}
-use Rattle.rules.specs.Rules.{next, results, refusedReply, acceptedReply}
-use Rattle.rules.proofs.SoundLaws.{sound-fields}
-use Rattle.table_view.proofs.LiveRows.{exporters-length}
-use Rattle.table_view.proofs.KeptLists.{bytes-live}
+use Prim.Native.Nat.{ℕ}
+use mathlib.Core.Path.{_≡_}
+use mathlib.Core.List.{List}
+use Rattle.kinds.specs.declared.Guid.{Guid}
+use Rattle.rules.specs.Calls.{Call, Edit, numbered}
+use Rattle.rules.specs.Rules.{number, next, results, refusedReply, acceptedReply}
+use Rattle.table_view.specs.View.{memory, view, Stepped}
 use Rattle.table_view.proofs.Steps.{refused-step, accepted-step}
+use Rattle.table_edit.specs.Edits.{addExporter}
 use Rattle.call_enter.proofs.Places.{exporter-fits}
 use borrow.Author.Needs.{needs}
 use Rattle.call_enter.proofs.enter_exporter_step.Statement.{statement}
 use Rattle.call_enter.proofs.enter_exporter_step.Tie as tie
 
-returns : tie.Need-returns
-unfolding refusedReply results
-returns c = refused-step _ (c .before .exporter-answer .ensures) (c .if1 .taken)
+module _ (ws s list : List ℕ) (x : ℕ) (u : Guid) (n : ℕ) (answer : n ≡ number (Call.editing (Edit.enterExporter x u list)) (view (memory ws s))) where
+  refused : (n ≡ 0 → ⊥) → Stepped (Call.editing (Edit.enterExporter x u list)) (memory ws s) (numbered n) (memory ws s)
+  unfolding refusedReply results
+  refused h = refused-step n answer h
 
-append-exporter-requires : tie.Need-append-exporter-requires
-append-exporter-requires c κs =
-    let a = c .before .before .before .before .before .before .before .before .before .args in
-    let t = c .before .before .before .before .before .before .before .before .before .pre in
-    let fits = exporter-fits _ (a .list .now) (a .oxid .0) (a .unknown) (sym (c .before .before .before .exporter-answer .ensures) ∙ c .before .before .if1 .left) in
-    let l = exporters-length (a .words .now) (a .store .now) in
-    let p = fits .2 in
-    let b = bytes-live (a .words .now) (a .store .now) (sound-fields _ (t .entries) .listsKept) in
-    (t .words, t .store, omega arith, fits .0, rw (← b) (fits .3))
-
-returns-2 : tie.Need-returns-2
-unfolding acceptedReply results next
-returns-2 c =
-    let test = c .before .before .before .before .before .before .before in
-    let t = test .before .before .before .before .before .before .before .pre in
-    accepted-step _ (test .before .exporter-answer .ensures) (test .if1 .left) _ (c .before .before .before .before .append-exporter .ensures)
+  entered : n ≡ 0 → (ws′ s′ : List ℕ) → view (memory ws′ s′) ≡ addExporter (record { oxid = x; unknown = u; bindings = list }) (view (memory ws s))
+      → Stepped (Call.editing (Edit.enterExporter x u list)) (memory ws s) (numbered 0) (memory ws′ s′)
+  unfolding acceptedReply results next
+  entered z ws′ s′ v = accepted-step n answer z _ v
 
 pub enter-exporter-step-spec : {M : Type 1} → statement M
 enter-exporter-step-spec =
     tie.close
     (tie.spec
-    (λ c κs. c .before .before .before .before .before .pre)
+    (λ c κs. search needs)
     (λ c. search needs)
     (λ c. search needs)
-    returns
-    append-exporter-requires
+    (λ c. search refused)
+    (λ c κs.
+    let d = c .before .before .before in
+    exporter-fits _ _ (d .before .before .before .before .before .before .pre) _ _ _ _ (d .exporter-answer .ensures) (c .before .before .if1 .left))
     (λ c. search needs)
     (λ c. search needs)
-    returns-2)
+    (λ c. search entered))

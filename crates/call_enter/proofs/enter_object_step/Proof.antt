@@ -1,72 +1,56 @@
 -- `call_enter::enter_object_step`: refused as the number says; else the object is entered, and then its first interface.
-use Prim.Native.Nat.{_<_}
+use Prim.Native.Nat.{ℕ, _<_}
 use mathlib.Core.Path.{_≡_, sym, ap, _∙_}
+use mathlib.Core.Bool.{Bool}
+use mathlib.Core.List.{List}
 use native.Mathlib.Omega.{arith}
 use lib.ListN.{length}
-use Rattle.rules.specs.Entries.{Entries, objectPlaces, interfacePlaces}
-use Rattle.rules.specs.Rules.{next, results, refusedReply, acceptedReply}
-use Rattle.table_view.specs.View.{memory, view}
-use Rattle.table_edit.specs.Edits.{addInterface}
-use Rattle.table_view.proofs.LiveRows.{objects-length, interfaces-length}
+use Rattle.kinds.specs.declared.Guid.{Guid}
+use Rattle.rules.specs.Entries.{Object, Entries, objectPlaces, interfacePlaces}
+use Rattle.rules.specs.Calls.{Call, Edit, numbered}
+use Rattle.rules.specs.Rules.{next, results, refusedReply, acceptedReply, enteredCounts}
+use Rattle.table_view.specs.View.{clockOf, objectCount, interfaceCount, memory, Stepped}
+use Rattle.table_view.proofs.LiveRows.{interfaces-length}
 use Rattle.table_view.proofs.Steps.{sound-below, refused-step, accepted-step}
-use Rattle.call_enter.proofs.Places.{object-fits}
+use Rattle.table_edit.specs.Edits.{Became, addObject, addInterface}
+use Rattle.call_enter.proofs.Places.{ObjectAnswer, object-fits}
 use borrow.Author.Needs.{needs}
 use Rattle.call_enter.proofs.enter_object_step.Statement.{statement}
 use Rattle.call_enter.proofs.enter_object_step.Tie as tie
 
-returns : tie.Need-returns
-unfolding refusedReply results
-returns c =
-    let a = c .before .before .before .before .before .args in
-    refused-step _ (c .before .object-answer .ensures (a .store .now) (a .iid) (a .no-ping)) (c .if1 .taken)
+-- an object more leaves as many interfaces
+place-left : (ws : List ℕ) → interfaceCount ws < interfacePlaces → (ws′ : List ℕ) (o : Object) → Became (addObject o) ws ws′ → interfaceCount ws′ < interfacePlaces
+place-left ws h ws′ o b =
+    let l = sym (interfaces-length ws′) ∙ ap (λ (e : Entries). length (e .interfaces)) (b ws) ∙ interfaces-length ws in omega arith
+
+module _ (ws s : List ℕ) (o x : ℕ) (i iid : Guid) (p : ℕ) (np : Bool) (n : ℕ) where
+  abbrev call : Call
+  call = Call.editing (Edit.enterObject o x i iid p np)
+
+  refused : (n ≡ 0 → ⊥) → ObjectAnswer ws o x i p n → Stepped call (memory ws s) (numbered n) (memory ws s)
+  unfolding refusedReply results
+  refused h a = refused-step n (a s iid np) h
+
+  entered : n ≡ 0 → ObjectAnswer ws o x i p n → (ws₁ ws₂ : List ℕ) → Became (addObject (record { oid = o; exporter = x; noping = np; heard = clockOf ws })) ws ws₁
+      → Became (addInterface (record { ipid = i; iid = iid; object = o; counts = enteredCounts p })) ws₁ ws₂ → Stepped call (memory ws s) (numbered 0) (memory ws₂ s)
+  unfolding acceptedReply results next
+  entered z a ws₁ ws₂ b d = accepted-step n (a s iid np) z _ (d s ∙ ap (addInterface _) (b s))
 
 -- there is a place for the object and its interface
-fits-objects : (c : tie.After-object-answer) → c .object-answer .result ≡ 0
-    → (length (view (memory (c .before .before .before .before .args .words .now) (c .before .before .before .before .args .store .now)) .objects) < objectPlaces)
-    × (length (view (memory (c .before .before .before .before .args .words .now) (c .before .before .before .before .args .store .now)) .interfaces) < interfacePlaces)
-fits-objects c z =
-    let a = c .before .before .before .before .args in
-    object-fits (view (memory (a .words .now) (a .store .now))) (a .oid .0) (a .oxid .0) (a .ipid) (a .iid) (a .public) (a .no-ping)
-    (sym (c .object-answer .ensures (a .store .now) (a .iid) (a .no-ping)) ∙ z)
-
-append-object-requires : tie.Need-append-object-requires
-append-object-requires c κs =
-    let a = c .before .before .before .before .before .before .args in
-    let t = c .before .before .before .before .before .before .pre in
-    let fits = fits-objects (c .before .before) (c .before .if1 .left) in
-    let l = objects-length (a .words .now) in
-    (t .words, omega arith, sound-below (a .words .now) (a .store .now) t)
-
-append-interface-requires : tie.Need-append-interface-requires
-append-interface-requires c κs =
-    let a = c .before .before .before .before .before .before .before .before .before .before .args in
-    let t = c .before .before .before .before .before .before .before .before .before .before .pre in
-    let fits = fits-objects (c .before .before .before .before .before .before) (c .before .before .before .before .before .if1 .left) in
-    let ws = c .before .before .before .append-object .last .0 in
-    let kept = ap (λ (e : Entries). length (e .interfaces)) (c .before .before .before .append-object .ensures (a .store .now)) in
-    let l = interfaces-length (a .words .now) in
-    let l′ = interfaces-length ws in
-    let size : length ws ≡ 8192 = omega arith in
-    (size, omega arith)
-
-returns-2 : tie.Need-returns-2
-unfolding acceptedReply results next
-returns-2 c =
-    let test = c .before .before .before .before .before .before .before .before in
-    let st = test .before .before .before .before .before in
-    let s = st .args .store .now in
-    let t = st .pre in
-    accepted-step _ (test .before .object-answer .ensures s (st .args .iid) (st .args .no-ping)) (test .if1 .left) _
-    (c .before .before .append-interface .ensures s ∙ ap (addInterface _) (c .before .before .before .before .before .before .append-object .ensures s))
+fits : (c : tie.After-object-answer) → c .object-answer .result ≡ 0 → let ws = c .before .before .before .before .args .words .now in
+    (objectCount ws < objectPlaces) × (interfaceCount ws < interfacePlaces)
+fits c z = object-fits (c .before .before .before .before .args .words .now) _ _ _ _ _ z (c .object-answer .ensures)
 
 pub enter-object-step-spec : {M : Type 1} → statement M
 enter-object-step-spec =
     tie.close
     (tie.spec
-    (λ c κs. c .before .before .before .pre .words)
+    (λ c κs. search needs)
     (λ c. search needs)
-    returns
-    append-object-requires
-    append-interface-requires
+    (λ c. search refused)
+    (λ c κs. (search needs, fits (c .before .before) (c .before .if1 .left) .0, search sound-below))
+    (λ c κs.
+    let d = c .before .before .before in
+    (search needs, place-left _ (fits (d .before .before .before) (d .before .before .if1 .left) .1) _ _ (d .append-object .ensures)))
     (λ c. search needs)
-    returns-2)
+    (λ c. search entered))

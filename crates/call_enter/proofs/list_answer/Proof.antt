@@ -6,12 +6,15 @@ use mathlib.Core.List.{List, [], _∷_}
 use native.Mathlib.Omega.{arith}
 use borrow.Author.Tests.{lt-ltb, le-ltb, le-leb, lt-leb}
 use lib.Dec.{ltb, leb}
+use mir.Syntax.{w64}
+use mir.Val.{Fits}
 use lib.ListN.{length, drop}
 use Rattle.kinds.specs.Refusals.{order, _gives_}
 use Rattle.kinds.proofs.Refusing.{ne-differ, eq-differ}
 use Rattle.bindings.specs.Bindings.{listAnswer}
 use Rattle.rules.specs.Entries.{exporterPlaces, listsLength}
 use Rattle.rules.specs.Rules.{listRefusals, passesStore}
+use Rattle.rules.specs.Contract.{Whole}
 use Rattle.rules.specs.Sound.{longestList, storeBytes, listsKept}
 use Rattle.table_view.specs.View.{exporterCount, listStart, exportersOf, memory, view}
 use Rattle.table_view.proofs.LiveRows.{exporters-length}
@@ -57,14 +60,9 @@ module _ (ws s list : List ℕ) (n : ℕ) (judged : n ≡ listAnswer list) where
 begins : (ws s : List ℕ) → listsKept (view (memory ws s)) ≡ true → (k : ℕ) → k ≡ exporterCount ws → listStart s k ≤ length s
 begins ws s kept k e = list-starts ws s kept k (omega arith)
 
-add-if4 : tie.Need-add-if4
-add-if4 c =
-    let st = c .before .before .before .before .before .before .before .before .before in
-    let h = begins _ _ (st .pre .2) _ (c .before .before .exporter-count .ensures .0) in
-    let e = c .list-start .ensures in
-    let l = c .before .before .before .if2 .left in
-    let w = st .pre .1 in
-    omega arith
+sum-fits : (ws s list : List ℕ) (b : ℕ) → length list ≤ longestList → listsKept (view (memory ws s)) ≡ true → Whole s → (k : ℕ) → k ≡ exporterCount ws → b ≡ listStart s k
+    → Fits w64 (b + length list)
+sum-fits ws s list b short kept w k e start = let h = begins ws s kept k e in omega arith
 
 pub list-answer-spec : {M : Type 1} → statement M
 list-answer-spec =
@@ -76,6 +74,6 @@ list-answer-spec =
     (λ c κs. search needs)
     (λ c. search full)
     (λ c κs. (search needs, search begins))
-    add-if4
+    (λ c. search sum-fits)
     (λ c. search no-room)
     (λ c. search done))
