@@ -4,10 +4,10 @@ use kinds::Guid;
 use kinds::Oid;
 use kinds::Oxid;
 use kinds::SetId;
+use replaying::Outcome;
 use resolver::Expired;
 use resolver::LiveCounts;
 use resolver::MemberCount;
-use resolver::Outcome;
 use resolver::Pinged;
 use resolver::Released;
 use resolver::Resolved;
@@ -363,5 +363,5 @@ pub extern "C" fn rimonakh_replay<'a>(
     ensures { λ r. ⌜
         Replayed (memory (now (words .entry)) (now (store .entry))) (now (recording .entry)) r (memory (now (words .exit)) (now (store .exit))) ⌝ }
 {
-    resolver::replay(words, store, recording)
+    replaying::replay(words, store, recording)
 }

@@ -43,7 +43,7 @@ fn report(s: &mut [u8]) {
 fn replayed(out: &mut Buffer, s: &mut [u8]) {
     let mut words = [0u64; limits::WORDS];
     let mut store = [0u8; limits::BYTES];
-    let r = resolver::replay(&mut words, &mut store, s);
+    let r = replaying::replay(&mut words, &mut store, s);
     if r.answer != answer::DONE {
         refused(out, r.answer);
         return;

@@ -16,7 +16,7 @@ pub fn differing<'a>(
     print::pattern::filled(out, b"record # differs\n", &[k as u64]);
     fields::write_u64(s, 0, left as u64);
     let end = fields::within(s, at);
-    resolver::replay(words, store, &s[0..end]);
+    replaying::replay(words, store, &s[0..end]);
     compared(out, words, store, s, at);
 }
 

@@ -32,9 +32,9 @@ use Rattle.rules.specs.Contract.{Memory}
 use Rattle.table_view.specs.View.{view, SoundTable}
 use Rattle.table_view.specs.Fitting.{Lent}
 use Rattle.table_view.proofs.Fitting.{view-fits}
-use Rattle.replay_calls.specs.declared.Step.{Step}
-use Rattle.replay_calls.specs.Steps.{CallDone}
-use Rattle.replay_calls.proofs.Alike.{Alike}
+use Rattle.replay_step.specs.declared.Step.{Step}
+use Rattle.replay_step.specs.Steps.{CallDone}
+use Rattle.replay_step.proofs.Alike.{Alike}
 use Rattle.replay_buffers.proofs.Showing.{alike-done}
 
 -- it has room where the longer one has

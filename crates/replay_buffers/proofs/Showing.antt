@@ -22,11 +22,11 @@ use Rattle.recording.specs.Statements.{valueCount}
 use Rattle.call_lists.specs.Listing.{listReply}
 use Rattle.call_look.specs.NextStop.{StopFound, placeReply}
 use Rattle.call_look.specs.declared.routing.StopPlace.{StopPlace}
-use Rattle.replay_calls.specs.Answers.{answerTo, sameAnswer}
-use Rattle.replay_calls.specs.Steps.{CallDone, answerIn}
-use Rattle.replay_calls.specs.declared.Step.{Step}
-use Rattle.replay_calls.proofs.Alike.{Alike, alike-answer}
-use Rattle.replay_calls.proofs.Doing.{shown-done}
+use Rattle.replay_step.specs.Answers.{answerTo, sameAnswer}
+use Rattle.replay_step.specs.Steps.{CallDone, answerIn}
+use Rattle.replay_step.specs.declared.Step.{Step}
+use Rattle.replay_step.proofs.Alike.{Alike, alike-answer}
+use Rattle.replay_step.proofs.Doing.{shown-done}
 use Rattle.replay_buffers.specs.Shown.{shownStep}
 
 -- ---- what is shown

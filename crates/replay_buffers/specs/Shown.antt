@@ -4,8 +4,8 @@ use mathlib.Core.Bool.{_&&_}
 use mathlib.Core.List.{List}
 use lib.Dec.{eqb}
 use Rattle.bindings.specs.Bindings.{sameWords}
-use Rattle.replay_calls.specs.Steps.{numbersAre}
-use Rattle.replay_calls.specs.declared.Step.{Step}
+use Rattle.replay_step.specs.Steps.{numbersAre}
+use Rattle.replay_step.specs.declared.Step.{Step}
 
 -- the step of a call by what it answers and shows
 abbrev pub shownStep : (answer shown ours : List ℕ) → ℕ → ℕ → ℕ → ℕ → ℕ → Step

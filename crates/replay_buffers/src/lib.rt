@@ -10,7 +10,7 @@ pub use looks::write_snapshot;
 mod listed;
 mod looks;
 
-use replay_calls::Step;
+use replay_step::Step;
 ghost use mathlib.Core.Path.{_≡_};
 ghost use Prim.Native.Nat.{min};
 ghost use Rattle.replay_buffers.specs.Shown.{shownStep};
@@ -28,9 +28,9 @@ fn shown_step<'a>(
 ) -> Step
     ensures { λ r. ⌜ r ≡ shownStep (now (answer .entry)) (now (shown .entry)) (now (ours .entry)) number a b c d ⌝ }
 {
-    let numbers = replay_calls::answers(answer, number as u64, a, b, c, d);
+    let numbers = replay_step::answers(answer, number as u64, a, b, c, d);
     Step {
-        agrees: replay_calls::both(numbers, call_load::same_bytes(shown, ours)),
+        agrees: replay_step::both(numbers, call_load::same_bytes(shown, ours)),
         accepted: number == 0,
     }
 }

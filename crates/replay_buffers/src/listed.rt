@@ -1,6 +1,6 @@
 // Lists of adds and releases.
 use kinds::answer;
-use replay_calls::Step;
+use replay_step::Step;
 ghost use mathlib.Core.Path.{_≡_};
 ghost use mathlib.Core.Bool.{cond};
 ghost use Prim.Native.Nat.{_≤_};
@@ -12,7 +12,7 @@ ghost use Rattle.rules.specs.Items.{itemCount};
 ghost use Rattle.rules.specs.Rules.{mostListed};
 ghost use Rattle.table_view.specs.View.{memory, SoundTable};
 ghost use Rattle.call_lists.specs.Listing.{wayOf};
-ghost use Rattle.replay_calls.specs.Steps.{CallDone};
+ghost use Rattle.replay_step.specs.Steps.{CallDone};
 
 // Code 8: items is the first list.
 pub fn add_list<'a>(

@@ -1,7 +1,7 @@
 // Calls that leave the table as it is.
 use kinds::Oxid;
 use kinds::limits;
-use replay_calls::Step;
+use replay_step::Step;
 ghost use mathlib.Core.Path.{_≡_};
 ghost use lib.ListN.{length};
 ghost use Rattle.fields.specs.Fields.{field, zeros};
@@ -9,7 +9,7 @@ ghost use Rattle.bindings.specs.Filter.{wordsIn};
 ghost use Rattle.recording.specs.Recording.{numbersOf};
 ghost use Rattle.rules.specs.Calls.{looking, resolve, resolveFiltered, nextStop, writeSnapshot};
 ghost use Rattle.table_view.specs.View.{memory, SoundTable};
-ghost use Rattle.replay_calls.specs.Steps.{CallDone};
+ghost use Rattle.replay_step.specs.Steps.{CallDone};
 
 // Code 13.
 pub fn resolve<'a>(

@@ -1,8 +1,8 @@
 // The calls that show nothing: each reads its numbers of its section, performs its step and compares.
-use crate::Step;
 use kinds::Oid;
 use kinds::Oxid;
 use kinds::SetId;
+use replay_step::Step;
 ghost use mathlib.Core.Path.{_≡_};
 ghost use mathlib.Core.Bool.{not};
 ghost use lib.Dec.{eqb};
@@ -12,7 +12,7 @@ ghost use Rattle.rules.specs.Calls.{starting, looking, editing, reset, enterExp
 ghost use Rattle.rules.specs.Calls.{add, release, dropClient, simplePing, complexPing, clock, census, members, loadSnapshot};
 ghost use Rattle.recording.specs.Recording.{numbersOf};
 ghost use Rattle.table_view.specs.View.{memory, SoundTable};
-ghost use Rattle.replay_calls.specs.Steps.{CallDone};
+ghost use Rattle.replay_step.specs.Steps.{CallDone};
 
 // Code 12.
 pub fn clock<'a>(
@@ -28,7 +28,7 @@ pub fn clock<'a>(
         r (memory (now (words .exit)) (now (store .entry))) ⌝ }
 {
     let r = call_remove::clock_step(words, store, fields::read_u64(call, 1));
-    crate::step_of(
+    replay_step::step_of(
         answer,
         shown,
         r.answer,
@@ -53,7 +53,7 @@ pub fn drop_client<'a>(
         r (memory (now (words .exit)) (now (store .entry))) ⌝ }
 {
     let number = call_references::drop_client_step(words, store, fields::read_u32(call, 1));
-    crate::step_of(answer, shown, number, 0, 0, 0, 0)
+    replay_step::step_of(answer, shown, number, 0, 0, 0, 0)
 }
 
 // Code 10.
@@ -70,7 +70,7 @@ pub fn simple_ping<'a>(
         r (memory (now (words .exit)) (now (store .entry))) ⌝ }
 {
     let number = call_ping::simple_ping_step(words, store, SetId(fields::read_u64(call, 1)));
-    crate::step_of(answer, shown, number, 0, 0, 0, 0)
+    replay_step::step_of(answer, shown, number, 0, 0, 0, 0)
 }
 
 // Code 5. The hint is a row that is tried first, and may be any number.
@@ -99,7 +99,7 @@ pub fn add<'a>(
         fields::read_u32(call, 21),
         fields::read_u32(call, 25),
     );
-    crate::step_of(answer, shown, number, 0, 0, 0, 0)
+    replay_step::step_of(answer, shown, number, 0, 0, 0, 0)
 }
 
 // Code 6, with such a hint.
@@ -128,7 +128,7 @@ pub fn release<'a>(
         fields::read_u32(call, 21),
         fields::read_u32(call, 25),
     );
-    crate::step_of(
+    replay_step::step_of(
         answer,
         shown,
         r.answer,
@@ -158,7 +158,7 @@ pub fn enter_interface<'a>(
     let iid = fields::read_guid(call, 25);
     let public = fields::read_u32(call, 41);
     let number = call_enter::enter_interface_step(words, store, oid, ipid, iid, public);
-    crate::step_of(answer, shown, number, 0, 0, 0, 0)
+    replay_step::step_of(answer, shown, number, 0, 0, 0, 0)
 }
 
 // Code 15.
@@ -169,7 +169,7 @@ pub fn census<'a>(words: &'a [u64], store: &'a [u8], answer: &'a [u8], shown: &'
         r (memory (now (words .entry)) (now (store .entry))) ⌝ }
 {
     let r = call_look::census_step(words, store);
-    crate::step_of(
+    replay_step::step_of(
         answer,
         shown,
         r.answer,
@@ -194,7 +194,7 @@ pub fn remove_exporter<'a>(
         r (memory (now (words .exit)) (now (store .exit))) ⌝ }
 {
     let number = call_remove::remove_exporter_step(words, store, Oxid(fields::read_u64(call, 1)));
-    crate::step_of(answer, shown, number, 0, 0, 0, 0)
+    replay_step::step_of(answer, shown, number, 0, 0, 0, 0)
 }
 
 // Code 1: list is the first list.
@@ -215,7 +215,7 @@ pub fn enter_exporter<'a>(
     let oxid = Oxid(fields::read_u64(call, 1));
     let unknown = fields::read_guid(call, 9);
     let number = call_enter::enter_exporter_step(words, store, oxid, unknown, list);
-    crate::step_of(answer, shown, number, 0, 0, 0, 0)
+    replay_step::step_of(answer, shown, number, 0, 0, 0, 0)
 }
 
 // Code 3.
@@ -250,7 +250,7 @@ pub fn enter_object<'a>(
         public,
         mark != 0,
     );
-    crate::step_of(answer, shown, number, 0, 0, 0, 0)
+    replay_step::step_of(answer, shown, number, 0, 0, 0, 0)
 }
 
 // Code 0.
@@ -267,7 +267,7 @@ pub fn reset<'a>(
         r (memory (now (words .exit)) (now (store .entry))) ⌝ }
 {
     let number = call_enter::reset(words, store, fields::read_u64(call, 1));
-    crate::step_of(answer, shown, number, 0, 0, 0, 0)
+    replay_step::step_of(answer, shown, number, 0, 0, 0, 0)
 }
 
 // Code 19: snapshot is the first list.
@@ -284,7 +284,7 @@ pub fn load_snapshot<'a>(
         r (memory (now (words .exit)) (now (store .exit))) ⌝ }
 {
     let number = call_load::load_snapshot(words, store, snapshot);
-    crate::step_of(answer, shown, number, 0, 0, 0, 0)
+    replay_step::step_of(answer, shown, number, 0, 0, 0, 0)
 }
 
 // Code 16.
@@ -301,7 +301,7 @@ pub fn members<'a>(
         r (memory (now (words .entry)) (now (store .entry))) ⌝ }
 {
     let r = call_look::members_step(words, store, SetId(fields::read_u64(call, 1)));
-    crate::step_of(answer, shown, r.answer, r.count as u64, 0, 0, 0)
+    replay_step::step_of(answer, shown, r.answer, r.count as u64, 0, 0, 0)
 }
 
 // Code 11: adds and deletes are the two lists.
@@ -323,5 +323,5 @@ pub fn complex_ping<'a>(
     let set = SetId(fields::read_u64(call, 1));
     let sequence = fields::read_u16(call, 9);
     let r = call_ping::complex_ping_bytes_step(words, store, set, sequence, adds, deletes);
-    crate::step_of(answer, shown, r.answer, r.set.0, r.backoff as u64, 0, 0)
+    replay_step::step_of(answer, shown, r.answer, r.set.0, r.backoff as u64, 0, 0)
 }

@@ -18,9 +18,10 @@ use Rattle.recording.specs.Statements.{valueCount}
 use Rattle.balance.specs.Sides.{sideOf}
 use Rattle.recording.specs.declared.Ends.{Ends}
 use Rattle.recording.proofs.Places.{Parts}
-use Rattle.replay_calls.specs.Steps.{answerIn, recordWith, CallDone, StepDone}
-use Rattle.replay_groups.specs.Records.{sections, placed, InOrder, sideAs, RecordDone}
-use Rattle.replay_calls.specs.declared.Step.{Step}
+use Rattle.replay_step.specs.Steps.{answerIn, recordWith, CallDone, StepDone}
+use Rattle.replay_tally.specs.Sums.{sideAs}
+use Rattle.replay_groups.specs.Records.{sections, placed, InOrder, RecordDone}
+use Rattle.replay_step.specs.declared.Step.{Step}
 
 -- the call of code k
 abbrev pub callAs : ℕ → Sections → Call

@@ -1,15 +1,12 @@
 -- A record replayed, by its sections.
 use Prim.Native.Nat.{ℕ, _+_, _-_, _≤_}
-use mathlib.Core.Bool.{cond, _||_}
 use mathlib.Core.List.{List}
 use lib.ListN.{take, drop}
-use lib.Dec.{eqb}
 use Rattle.rules.specs.Contract.{Memory, Whole}
-use Rattle.balance.specs.Sides.{Side, granting, taking, running, beginning}
 use Rattle.recording.specs.Recording.{Sections, recordedOf}
 use Rattle.recording.specs.declared.Ends.{Ends}
-use Rattle.replay_calls.specs.Steps.{StepDone}
-use Rattle.replay_calls.specs.declared.Step.{Step}
+use Rattle.replay_step.specs.Steps.{StepDone}
+use Rattle.replay_step.specs.declared.Step.{Step}
 
 abbrev pub sections : (call first second answer shown : List ℕ) → Sections
 sections call first second answer shown = record { call = call; first = first; second = second; answer = answer; shown = shown }
@@ -32,10 +29,6 @@ pub record InOrder (n at : ℕ) (e : Ends) : Type 0 where
   pub answer : e .second + 8 ≤ e .answer
   pub shown : e .answer + 8 ≤ e .shown
   pub inside : e .shown ≤ n
-
--- the number that the call of a code moves
-unfoldable pub sideAs : ℕ → Side
-sideAs k = cond (eqb k 6 || eqb k 9) taking (cond (eqb k 2 || (eqb k 7 || eqb k 12)) running (cond (eqb k 0 || eqb k 19) beginning granting))
 
 -- One record replayed: its call is done, and the lengths stay.
 pub record RecordDone (x : Sections) (m : Memory) (d : Step) (m′ : Memory) : Type 0 where

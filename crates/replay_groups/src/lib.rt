@@ -1,7 +1,7 @@
 // A record's call by its code, in groups of codes.
 use recording::Ends;
-use replay_calls::Step;
 use replay_calls::plain;
+use replay_step::Step;
 use table_columns::buckets;
 ghost use mathlib.Core.Path.{_≡_};
 ghost use mathlib.Core.Bool.{true};

@@ -12,7 +12,7 @@ use Rattle.rules.specs.Calls.{dropClient, countList, simplePing, complexPing, c
 use Rattle.rules.specs.Rules.{number, refusals, next, results}
 use Rattle.recording.specs.Statements.{byLength}
 use Rattle.balance.specs.Balance.{after}
-use Rattle.replay_calls.proofs.Alike.{Alike, alike-answer}
+use Rattle.replay_step.proofs.Alike.{Alike, alike-answer}
 use Rattle.replaying.specs.Statements.{LengthIsEnough}
 
 pub alike-after : (c d : Call) (e : Entries) → Alike c d e → after c e ≡ after d e

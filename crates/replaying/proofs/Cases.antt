@@ -7,7 +7,7 @@ use Rattle.lists.specs.Lists.{keep, some, every, firstOr, distinct, tabulate, h
 use Rattle.rules.specs.Entries.{listsLength}
 use Rattle.rules.specs.Rules.{refusals, number, next, results, refusedReply, acceptedReply, reply}
 use Rattle.balance.specs.Balance.{total, countsHeld, heldBy, counting, tallyOver}
-use Rattle.replay_calls.specs.Answers.{answerTo}
+use Rattle.replay_step.specs.Answers.{answerTo}
 use Rattle.replaying.specs.Replay.{firstDiffering}
 use Rattle.replaying.specs.Cases.{shift, ShiftReplayed}
 

@@ -24,9 +24,9 @@ use Rattle.balance.proofs.Balanced.{run-balanced}
 use Rattle.balance.proofs.Sides.{by-sums}
 use Rattle.recording.specs.Recording.{Recorded, recordsOf}
 use Rattle.replaying.specs.Replay.{firstDiffering, done, callsIn, replayedCalls, replayAnswer, outcomeOf, Replayed}
-use Rattle.replay_calls.specs.Steps.{StepDone}
+use Rattle.replay_step.specs.Steps.{StepDone}
 use Rattle.replaying.specs.Turns.{stepTally}
-use Rattle.replay_calls.specs.declared.Step.{Step}
+use Rattle.replay_step.specs.declared.Step.{Step}
 use Rattle.replaying.specs.declared.Outcome.{Outcome}
 use Rattle.replaying.proofs.Running.{append, after-call, reset-done}
 

@@ -4,7 +4,6 @@ pub mod Buffers
 pub mod Bounds
 pub mod Going
 pub mod Cases
-pub mod Wrapping
 pub mod Telling
 pub mod Looping
 pub mod Lengths

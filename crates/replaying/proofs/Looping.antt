@@ -31,14 +31,14 @@ use Rattle.recording.specs.Places.{endsFrom, recordEnds, RecordAt}
 use Rattle.recording.specs.Statements.{Given}
 use Rattle.recording.proofs.Places.{rows-ended, records-short, records-past, records-fit, records-after}
 use Rattle.recording.proofs.Givens.{given-read}
-use Rattle.replay_calls.specs.Answers.{answerTo, sameAnswer}
+use Rattle.replay_step.specs.Answers.{answerTo, sameAnswer}
 use Rattle.replaying.specs.Replay.{done, callsIn, replayAnswer, Replayed}
 use Rattle.replaying.specs.Turns.{stepTally, recordedAt, TurnDone}
 use Rattle.replaying.specs.declared.shift.Turn.{Turn}
 use Rattle.replaying.proofs.Going.{Going, Stopped, going-start, going-on, going-stop, going-end, replayed-made}
 use Rattle.replaying.proofs.Bounds.{tallies-fit}
 use Rattle.replaying.proofs.Running.{reset-done}
-use Rattle.replaying.proofs.Wrapping.{moved-on}
+use Rattle.replay_tally.proofs.Wrapping.{moved-on}
 
 -- Before a turn: records left from at, the first of them by its number; the table's sum; the tally as 64 bits hold it.
 pub record Before (s : List ℕ) (m₀ m : Memory) (left at number held : ℕ) (tally : Tally) : Type 0 where

@@ -28,12 +28,12 @@ use Rattle.balance.proofs.Sums.{table-small}
 use Rattle.balance.proofs.Balanced.{each-balanced}
 use Rattle.balance.proofs.Sides.{granted-sum}
 use Rattle.recording.specs.Recording.{Answer, Sections, forms, formOf, codeOf, wellFormed, callOf, answerOf}
-use Rattle.replay_calls.specs.Answers.{answerTo, sameAnswer}
-use Rattle.replay_calls.specs.Steps.{answerIn}
-use Rattle.replay_calls.specs.declared.Step.{Step}
-use Rattle.replay_groups.specs.Records.{sideAs, RecordDone}
+use Rattle.replay_step.specs.Answers.{answerTo, sameAnswer}
+use Rattle.replay_step.specs.Steps.{answerIn}
+use Rattle.replay_step.specs.declared.Step.{Step}
+use Rattle.replay_tally.specs.Sums.{sideAs, summedAs, SumTold}
+use Rattle.replay_groups.specs.Records.{RecordDone}
 use Rattle.replay_groups.proofs.Coded.{callAs, code-known, by-codes, side-as}
-use Rattle.replaying.specs.Turns.{summedAs, SumTold}
 use Rattle.replaying.proofs.Running.{after-call}
 
 isGranting : Side → Bool
@@ -96,22 +96,3 @@ module _ (x : Sections) (m m′ : Memory) (d : Step) (old : ℕ) (s : SoundTable
 
   pub sum-told : SumTold (codeOf x) (x .call) (x .answer) (d .agrees) (d .accepted) old (heldIn (view m′))
   sum-told = record { refused = refused; told = told; released = released; small = (let h = table-small (m′ .words) in omega arith) }
-
--- ---- by code
-
-module _ (k : ℕ) (s : List ℕ) (n : ℕ) where
-  pub summed-add : k ≡ 5 → summedAs k s n ≡ n + (field s 21 4 + field s 25 4)
-  unfolding summedAs
-  summed-add e = rw e
-
-  pub summed-object : k ≡ 3 → summedAs k s n ≡ n + field s 49 4
-  unfolding summedAs
-  summed-object e = rw e
-
-  pub summed-interface : k ≡ 4 → summedAs k s n ≡ n + field s 41 4
-  unfolding summedAs
-  summed-interface e = rw e
-
-  pub summed-else : (k ≡ 5 → ⊥) → (k ≡ 3 → ⊥) → (k ≡ 4 → ⊥) → summedAs k s n ≡ n
-  unfolding summedAs
-  summed-else a b c = rw (ne-eqb k 5 a, ne-eqb k 3 b, ne-eqb k 4 c)

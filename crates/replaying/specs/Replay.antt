@@ -12,7 +12,7 @@ use Rattle.rules.specs.Contract.{Memory, rightLengths}
 use Rattle.history.specs.Runs.{Run}
 use Rattle.recording.specs.Recording.{Answer, Recorded, recordsOf, recordingRefusals}
 use Rattle.balance.specs.Balance.{noTally, after, tallyOver}
-use Rattle.replay_calls.specs.Answers.{answerTo, sameAnswer}
+use Rattle.replay_step.specs.Answers.{answerTo, sameAnswer}
 use Rattle.replaying.specs.declared.Outcome.{Outcome}
 
 -- ---- our answers

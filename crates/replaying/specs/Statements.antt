@@ -15,7 +15,7 @@ use Rattle.recording.specs.Statements.{Given, byLength}
 use Rattle.tally.specs.declared.Tally.{Tally}
 use Rattle.balance.specs.Balance.{noTally, after, tallyOver, Balanced}
 use Rattle.replaying.specs.declared.Outcome.{Outcome}
-use Rattle.replay_calls.specs.Answers.{answerTo}
+use Rattle.replay_step.specs.Answers.{answerTo}
 use Rattle.replaying.specs.Replay.{answersOver, firstDiffering, done, callsIn, answersIn, replayedCalls, Replayed}
 
 -- "agrees" exactly if every answer equals ours

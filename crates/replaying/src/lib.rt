@@ -1,6 +1,5 @@
 // The replay of a recorded shift from a reset at 0.
 mod shift;
-mod tallying;
 
 use kinds::answer;
 use kinds::limits;

@@ -1,6 +1,5 @@
 // The records of a recording, one after the other.
 use crate::Outcome;
-use crate::tallying;
 use table_columns::buckets;
 use tally::Tally;
 ghost use mathlib.Core.Path.{_≡_};
@@ -45,7 +44,7 @@ fn take_turn<'a>(
     let code = recording::byte(&s[from..to], 0);
     let answer = e.second + 8;
     let answer_end = e.answer;
-    let sum = tallying::sum_after(
+    let sum = replay_tally::sum_after(
         words,
         &s[from..to],
         &s[answer..answer_end],
@@ -54,7 +53,7 @@ fn take_turn<'a>(
         d.accepted,
         held,
     );
-    let next = tallying::tally_after(tally, code, d.accepted, held, sum);
+    let next = replay_tally::tally_after(tally, code, d.accepted, held, sum);
     Turn {
         agrees: d.agrees,
         end: e.shown,

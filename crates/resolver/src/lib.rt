@@ -1,5 +1,6 @@
 // Every call on the table, with its promise. Each takes the table as it is lent, judges it, refuses it by 1 where it is not sound, and else
-// performs the call's step; a refused call changes nothing. Reset, load and replay start the table anew, and look at lengths only.
+// performs the call's step; a refused call changes nothing. Reset and load start the table anew, and look at lengths only; so does the
+// replay of a recording, which stands in `replaying`.
 pub use call_look::LiveCounts;
 pub use call_look::MemberCount;
 pub use call_look::Resolved;
@@ -13,7 +14,6 @@ use kinds::Oid;
 use kinds::Oxid;
 use kinds::SetId;
 use kinds::answer;
-pub use replaying::Outcome;
 use table_columns::buckets;
 ghost use mathlib.Core.Path.{_≡_};
 ghost use Rattle.kinds.specs.declared.Guid.{Guid};
@@ -28,7 +28,6 @@ ghost use Rattle.call_ping.specs.Replies.{pingReply};
 ghost use Rattle.call_look.specs.Replies.{censusReply, membersReply, resolveReply};
 ghost use Rattle.call_look.specs.NextStop.{StopFound, StopPart};
 ghost use Rattle.call_save.specs.Replies.{writtenReply};
-ghost use Rattle.replaying.specs.Replay.{Replayed};
 
 // Empties the table and sets its clock: 0, or 1 (lengths only).
 pub fn reset<'a>(words: &'a mut [u64], store: &'a [u8], time: u64) -> u32
@@ -359,12 +358,4 @@ pub fn load_snapshot<'a>(words: &'a mut [u64], store: &'a mut [u8], snapshot: &'
         (memory (now (words .exit)) (now (store .exit))) ⌝ }
 {
     call_load::load_snapshot(words, store, snapshot)
-}
-
-// Replays a recorded shift from a reset at 0: 0, or 1 (lengths only); 13; 14; 10.
-pub fn replay<'a>(words: &'a mut [u64], store: &'a mut [u8], recording: &'a [u8]) -> Outcome
-    ensures { λ r. ⌜
-        Replayed (memory (now (words .entry)) (now (store .entry))) (now (recording .entry)) r (memory (now (words .exit)) (now (store .exit))) ⌝ }
-{
-    replaying::replay(words, store, recording)
 }

@@ -8,19 +8,14 @@
 // the next stop is seen to choose.
 use kinds::SetId;
 use kinds::limits;
-
-mod client;
-mod say;
-mod server;
-
-// Room for the recording of a day, in bytes.
-pub const LOG: usize = 8192;
+use walkthrough_server::LOG;
+use walkthrough_server::say;
 
 fn main() {
     say::text(
         b"     0 done, 4 the server has left, 6 the tank level group has ended, 11 the client was silent too long and begins anew\n",
     );
-    let mut snapshot = [0u8; server::SNAPSHOT];
+    let mut snapshot = [0u8; walkthrough_server::SNAPSHOT];
     let mut log = [0u8; LOG];
     let set = until_noon(&mut log, &mut snapshot);
     after_noon(&mut log, &snapshot, set);
@@ -28,31 +23,39 @@ fn main() {
 }
 
 // The first box; the client's set.
-fn until_noon(log: &mut [u8; LOG], snapshot: &mut [u8; server::SNAPSHOT]) -> SetId {
+fn until_noon(log: &mut [u8; LOG], snapshot: &mut [u8; walkthrough_server::SNAPSHOT]) -> SetId {
     let mut words = [0u64; limits::WORDS];
     let mut store = [0u8; limits::BYTES];
-    let mut reference = [0u8; server::REFERENCE];
-    server::open(log, &mut words, &mut store);
-    server::offer(log, &mut words, &store, &mut reference);
-    let set = client::take_up(log, &mut words, &store, &reference);
-    client::wait(log, &mut words, &store, set, server::OPENED, 4, true);
-    server::save(log, &words, &store, snapshot);
+    let mut reference = [0u8; walkthrough_server::REFERENCE];
+    walkthrough_server::open(log, &mut words, &mut store);
+    walkthrough_server::offer(log, &mut words, &store, &mut reference);
+    let set = walkthrough_client::take_up(log, &mut words, &store, &reference);
+    walkthrough_client::wait(
+        log,
+        &mut words,
+        &store,
+        set,
+        walkthrough_server::OPENED,
+        4,
+        true,
+    );
+    walkthrough_server::save(log, &words, &store, snapshot);
     set
 }
 
 // The box that takes over.
-fn after_noon(log: &mut [u8; LOG], snapshot: &[u8; server::SNAPSHOT], set: SetId) {
+fn after_noon(log: &mut [u8; LOG], snapshot: &[u8; walkthrough_server::SNAPSHOT], set: SetId) {
     let mut words = [0u64; limits::WORDS];
     let mut store = [0u8; limits::BYTES];
-    let mut reference = [0u8; server::REFERENCE];
-    let clock = server::take_over(log, &mut words, &mut store, snapshot);
-    client::leave(log, &mut words, &store, set);
-    client::lose_other(log, &mut words, &store, set);
+    let mut reference = [0u8; walkthrough_server::REFERENCE];
+    let clock = walkthrough_server::take_over(log, &mut words, &mut store, snapshot);
+    walkthrough_client::leave(log, &mut words, &store, set);
+    walkthrough_client::lose_other(log, &mut words, &store, set);
     say::text(b"     the next client falls silent\n");
-    server::offer(log, &mut words, &store, &mut reference);
-    client::fall_silent(log, &mut words, &store, &reference, clock);
-    server::close(log, &mut words, &mut store);
-    client::come_late(log, &words, &store, &reference);
+    walkthrough_server::offer(log, &mut words, &store, &mut reference);
+    walkthrough_client::fall_silent(log, &mut words, &store, &reference, clock);
+    walkthrough_server::close(log, &mut words, &mut store);
+    walkthrough_client::come_late(log, &words, &store, &reference);
 }
 
 // Support replays the day in a table of its own.
@@ -64,7 +67,7 @@ fn replay_bytes(log: &[u8]) {
     let mut words = [0u64; limits::WORDS];
     let mut store = [0u8; limits::BYTES];
     let end = fields::within(log, recorder::end(log));
-    let r = resolver::replay(&mut words, &mut store, &log[0..end]);
+    let r = replaying::replay(&mut words, &mut store, &log[0..end]);
     let t = r.tally;
     if r.differs == 0 {
         say::results(

@@ -1,7 +1,7 @@
 -- `replay_calls::plain::census`: the step, and the recorded answer compared.
 use mathlib.Core.Path.{refl}
 use Rattle.rules.specs.Rules.{results}
-use Rattle.replay_calls.proofs.Doing.{step-done}
+use Rattle.replay_step.proofs.Doing.{step-done}
 use borrow.Author.Needs.{needs}
 use Rattle.replay_calls.proofs.plain.census.Statement.{statement}
 use Rattle.replay_calls.proofs.plain.census.Tie as tie

@@ -8,7 +8,8 @@ use Rattle.balance.specs.Sides.{sideOf, moved}
 use Rattle.recording.specs.Recording.{Sections, codeOf, callOf, wellFormed, sectionsAt}
 use Rattle.recording.specs.declared.Ends.{Ends}
 use Rattle.recording.proofs.Places.{Parts, parts}
-use Rattle.replay_groups.specs.Records.{InOrder, sideAs, RecordDone}
+use Rattle.replay_tally.specs.Sums.{sideAs}
+use Rattle.replay_groups.specs.Records.{InOrder, RecordDone}
 use Rattle.replay_groups.proofs.Coded.{side-as, in-order, by-places}
 use Rattle.replaying.proofs.Telling.{sum-told}
 use borrow.Author.Needs.{needs}
