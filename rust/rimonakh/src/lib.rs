@@ -39,7 +39,8 @@
 //! ```
 //!
 //! The crate needs `alloc` and no `std`. [`limits`] has how much a table, a list and a reference hold. What a table holds is shown by
-//! [`Debug`](core::fmt::Debug), and has types in a [`Snapshot`].
+//! [`Debug`](core::fmt::Debug), and has types in a [`Snapshot`]. A [`Recorder`] writes down calls with their answers; [`recording`] reads
+//! them.
 //!
 //! The build links `librimonakh.a` of the folder `RIMONAKH_LIB_DIR`, if that is set; else the one that was built in this repository;
 //! else the installed one of the crate's version, by `pkg-config`.
@@ -59,7 +60,7 @@ mod headers;
 mod ids;
 pub mod limits;
 pub mod list;
-mod recording;
+pub mod recording;
 mod references;
 pub mod snapshot;
 mod table;

@@ -1,13 +1,12 @@
 //! A day that is recorded by the recorder is replayed; with another answer in it, it differs there.
 
+mod making;
+
+use making::guid;
 use rimonakh::limits::MOST_RECORDS;
-use rimonakh::{Error, Guid, Oid, Outcome, Oxid, Recorder, SetId, Table, Tally};
+use rimonakh::{Error, Oid, Outcome, Oxid, Recorder, SetId, Table, Tally};
 
 const LIST: [u8; 12] = [4, 0, 3, 0, 7, 0, 0, 0, 0, 0, 0, 0];
-
-fn guid(n: u8) -> Guid {
-    Guid([n; 16])
-}
 
 /// A day with accepted and refused calls: the recorder, and how many records it has.
 fn day() -> (Recorder, u64) {

@@ -1,11 +1,10 @@
 //! The entries of a snapshot are those of its bytes and of the table that loads them.
 
-use rimonakh::limits::{BYTES, CLIENTS, EXPORTERS, INTERFACES, LONGEST_LIST, OBJECTS, SETS};
-use rimonakh::{list, Error, Guid, Oid, Oxid, SetId, Snapshot, Table};
+mod making;
 
-fn guid(n: u64) -> Guid {
-    Guid(u128::from(n).to_le_bytes())
-}
+use making::guid;
+use rimonakh::limits::{BYTES, CLIENTS, EXPORTERS, INTERFACES, LONGEST_LIST, OBJECTS, SETS};
+use rimonakh::{list, Error, Oid, Oxid, SetId, Snapshot, Table};
 
 /// The stored snapshot, whose entries crates/snapshot/stdout has in words.
 const STORED: &[u8] = include_bytes!("../../../crates/snapshot/stdin");

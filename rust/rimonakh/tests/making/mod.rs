@@ -1,9 +1,10 @@
 //! What several tests make.
+#![allow(dead_code)] // each test uses its part
 
 use rimonakh::{Block, Guid, Oid, Oxid, Reference, Result};
 
 pub fn guid(n: u64) -> Guid {
-    Guid((n as u128).to_le_bytes())
+    Guid(u128::from(n).to_le_bytes())
 }
 
 /// Extended references one in the other, so many, around eight bytes of other data.

@@ -1,6 +1,8 @@
-//! Recorded shifts: calls with their answers, in the form of docs/RECORDING.md.
+//! A table whose calls are recorded, and what a replay finds.
 
-use crate::{Counts, Guid, Oid, Oxid, Pinged, Released, Resolved, Result, SetId, Stop};
+use super::fields::{Oids, Protocols, Room};
+use super::{Call, Recording, Results};
+use crate::{Counts, Guid, Item, Oid, Oxid, Pinged, Released, Resolved, Result, SetId, Stop};
 use crate::{Table, BYTES, WORDS};
 use alloc::boxed::Box;
 use alloc::vec;
@@ -66,7 +68,7 @@ impl Recorder {
                 vec![0; WORDS].into_boxed_slice(),
                 vec![0; BYTES].into_boxed_slice(),
             ),
-            recording: Recording::default(),
+            recording: Recording::new(),
         };
         recorder.reset(time).expect("both lengths are right");
         recorder
@@ -94,108 +96,17 @@ impl<W, S> Recorder<W, S> {
 
     /// The recording so far.
     pub fn recording(&self) -> &[u8] {
-        &self.recording.0
+        self.recording.bytes()
     }
 
     /// The number of records. A recording of more than [`MOST_RECORDS`](crate::limits::MOST_RECORDS) is not replayed.
     pub fn records(&self) -> u64 {
-        let (n, _) = self.recording.0.split_first_chunk().expect("the number");
-        u64::from_le_bytes(*n)
+        self.recording.records()
     }
 
     /// The table and its recording.
     pub fn finish(self) -> (Table<W, S>, Vec<u8>) {
-        (self.table, self.recording.0)
-    }
-}
-
-/// The records, after their number.
-#[derive(Clone)]
-struct Recording(Vec<u8>);
-
-impl Default for Recording {
-    fn default() -> Recording {
-        Recording(vec![0; 8])
-    }
-}
-
-/// A call's code and numbers.
-struct Call(Vec<u8>);
-
-impl Call {
-    fn of(code: u8) -> Call {
-        Call(vec![code])
-    }
-
-    fn with(mut self, bytes: &[u8]) -> Call {
-        self.0.extend_from_slice(bytes);
-        self
-    }
-
-    fn u32(self, n: u32) -> Call {
-        self.with(&n.to_le_bytes())
-    }
-
-    fn u64(self, n: u64) -> Call {
-        self.with(&n.to_le_bytes())
-    }
-
-    fn guid(self, g: Guid) -> Call {
-        self.with(&g.0)
-    }
-
-    /// An output buffer, by its length.
-    fn room(self, buffer: &[u8]) -> Call {
-        self.u64(buffer.len() as u64)
-    }
-}
-
-/// The number of an answer and its results; zeros where it is a refusal.
-fn answer<T, const N: usize>(given: &Result<T>, results: impl Fn(&T) -> [u64; N]) -> Vec<u64> {
-    let (number, results) = match given {
-        Ok(value) => (0, results(value)),
-        Err(e) => (e.number(), [0; N]),
-    };
-    [&[u64::from(number)], &results[..]].concat()
-}
-
-/// The answer of a call without results.
-fn number(given: &Result<()>) -> Vec<u64> {
-    answer(given, |()| [])
-}
-
-fn counts(c: &Counts) -> [u64; 4] {
-    [c.exporters, c.objects, c.interfaces, c.sets].map(|n| n as u64)
-}
-
-fn resolved(r: &Resolved) -> [u64; 3] {
-    let (low, high) = r.unknown.halves();
-    [r.length as u64, low, high]
-}
-
-/// The front of a buffer that an accepted call wrote; nothing where it was refused.
-fn front<T>(given: &Result<T>, buffer: &[u8], length: impl Fn(&T) -> usize) -> Vec<u8> {
-    let written = given.as_ref().map_or(0, length);
-    buffer[..written].to_vec()
-}
-
-impl Recording {
-    fn push(&mut self, call: Call, lists: [&[u8]; 2], answer: &[u64], shown: &[u8]) {
-        let Recording(bytes) = self;
-        let answer: Vec<u8> = answer.iter().flat_map(|n| n.to_le_bytes()).collect();
-        for section in [&call.0, lists[0], lists[1], &answer, shown] {
-            bytes.extend((section.len() as u64).to_le_bytes());
-            bytes.extend(section);
-        }
-        let (n, _) = bytes
-            .split_first_chunk_mut()
-            .expect("the number of records");
-        *n = (u64::from_le_bytes(*n) + 1).to_le_bytes();
-    }
-
-    /// A call without lists that shows nothing.
-    fn plain(&mut self, call: Call, answer: &[u64]) {
-        self.push(call, [&[], &[]], answer, &[]);
+        (self.table, self.recording.into_bytes())
     }
 }
 
@@ -206,33 +117,36 @@ where
 {
     /// A table that is in service: the load of its snapshot is the first record. Refused where the table is not sound.
     pub fn over(table: Table<W, S>) -> Result<Recorder<W, S>> {
-        let snapshot = table.snapshot()?;
-        let mut recording = Recording::default();
-        recording.push(Call::of(19), [&snapshot, &[]], &[0], &[]);
-        Ok(Recorder { table, recording })
+        let snapshot = &table.snapshot()?[..];
+        let recording = Recording::new();
+        let mut recorder = Recorder { table, recording };
+        recorder
+            .recording
+            .plain(Call::LoadSnapshot { snapshot }, Ok(()))?;
+        Ok(recorder)
     }
 
     /// [`Table::reset`], recorded.
     pub fn reset(&mut self, time: u64) -> Result<()> {
         let done = self.table.reset(time);
-        self.recording.plain(Call::of(0).u64(time), &number(&done));
-        done
+        self.recording.plain(Call::Reset { time }, done)
     }
 
     /// [`Table::enter_exporter`], recorded.
     pub fn enter_exporter(&mut self, oxid: Oxid, unknown: Guid, list: &[u8]) -> Result<()> {
         let done = self.table.enter_exporter(oxid, unknown, list);
-        let call = Call::of(1).u64(oxid.0).guid(unknown);
-        self.recording.push(call, [list, &[]], &number(&done), &[]);
-        done
+        let call = Call::EnterExporter {
+            oxid,
+            unknown,
+            list,
+        };
+        self.recording.plain(call, done)
     }
 
     /// [`Table::remove_exporter`], recorded.
     pub fn remove_exporter(&mut self, oxid: Oxid) -> Result<()> {
         let done = self.table.remove_exporter(oxid);
-        self.recording
-            .plain(Call::of(2).u64(oxid.0), &number(&done));
-        done
+        self.recording.plain(Call::RemoveExporter { oxid }, done)
     }
 
     /// [`Table::enter_object`], recorded.
@@ -245,29 +159,41 @@ where
         public: u32,
         no_ping: bool,
     ) -> Result<()> {
-        let done = self
-            .table
-            .enter_object(oid, oxid, ipid, iid, public, no_ping);
-        let call = Call::of(3).u64(oid.0).u64(oxid.0).guid(ipid).guid(iid);
-        let call = call.u32(public).with(&[no_ping.into()]);
-        self.recording.plain(call, &number(&done));
-        done
+        let table = &mut self.table;
+        let done = table.enter_object(oid, oxid, ipid, iid, public, no_ping);
+        let call = Call::EnterObject {
+            oid,
+            oxid,
+            ipid,
+            iid,
+            public,
+            no_ping,
+        };
+        self.recording.plain(call, done)
     }
 
     /// [`Table::enter_interface`], recorded.
     pub fn enter_interface(&mut self, oid: Oid, ipid: Guid, iid: Guid, public: u32) -> Result<()> {
         let done = self.table.enter_interface(oid, ipid, iid, public);
-        let call = Call::of(4).u64(oid.0).guid(ipid).guid(iid).u32(public);
-        self.recording.plain(call, &number(&done));
-        done
+        let call = Call::EnterInterface {
+            oid,
+            ipid,
+            iid,
+            public,
+        };
+        self.recording.plain(call, done)
     }
 
     /// [`Table::add`], recorded.
     pub fn add(&mut self, client: u32, ipid: Guid, public: u32, private: u32) -> Result<()> {
         let done = self.table.add(client, ipid, public, private);
-        let call = Call::of(5).u32(client).guid(ipid).u32(public).u32(private);
-        self.recording.plain(call, &number(&done));
-        done
+        let call = Call::Add {
+            client,
+            ipid,
+            public,
+            private,
+        };
+        self.recording.plain(call, done)
     }
 
     /// [`Table::release`], recorded.
@@ -279,50 +205,49 @@ where
         private: u32,
     ) -> Result<Released> {
         let done = self.table.release(client, ipid, public, private);
-        let call = Call::of(6).u32(client).guid(ipid).u32(public).u32(private);
-        let told = answer(&done, |r| {
-            let went = [r.interface_went, r.object_went].map(u64::from);
-            [r.public.into(), r.private.into(), went[0], went[1]]
-        });
-        self.recording.plain(call, &told);
-        done
+        let call = Call::Release {
+            client,
+            ipid,
+            public,
+            private,
+        };
+        self.recording.plain(call, done)
     }
 
     /// [`Table::drop_client`], recorded.
     pub fn drop_client(&mut self, client: u32) -> Result<()> {
         let done = self.table.drop_client(client);
-        self.recording
-            .plain(Call::of(7).u32(client), &number(&done));
-        done
+        self.recording.plain(Call::DropClient { client }, done)
     }
 
     /// [`Table::add_list`], recorded.
     pub fn add_list(&mut self, client: u32, items: &[u8], results: &mut [u8]) -> Result<()> {
         let done = self.table.add_list(client, items, results);
-        self.listed(8, client, items, &done, results);
-        done
+        let call = Call::AddList {
+            client,
+            items,
+            room: Room::of(results),
+        };
+        let each = |()| items.len() / Item::SIZE;
+        self.recording.written(call, done, results, each)
     }
 
     /// [`Table::release_list`], recorded.
     pub fn release_list(&mut self, client: u32, items: &[u8], results: &mut [u8]) -> Result<()> {
         let done = self.table.release_list(client, items, results);
-        self.listed(9, client, items, &done, results);
-        done
-    }
-
-    fn listed(&mut self, code: u8, client: u32, items: &[u8], done: &Result<()>, results: &[u8]) {
-        let call = Call::of(code).u32(client).room(results);
-        let shown = front(done, results, |()| items.len() / crate::Item::SIZE);
-        self.recording
-            .push(call, [items, &[]], &number(done), &shown);
+        let call = Call::ReleaseList {
+            client,
+            items,
+            room: Room::of(results),
+        };
+        let each = |()| items.len() / Item::SIZE;
+        self.recording.written(call, done, results, each)
     }
 
     /// [`Table::simple_ping`], recorded.
     pub fn simple_ping(&mut self, set: SetId) -> Result<()> {
         let done = self.table.simple_ping(set);
-        self.recording
-            .plain(Call::of(10).u64(set.0), &number(&done));
-        done
+        self.recording.plain(Call::SimplePing { set }, done)
     }
 
     /// [`Table::complex_ping`], recorded.
@@ -334,31 +259,27 @@ where
         deletes: &[Oid],
     ) -> Result<Pinged> {
         let done = self.table.complex_ping(set, sequence, adds, deletes);
-        let call = Call::of(11).u64(set.0).with(&sequence.to_le_bytes());
-        let bytes =
-            |ids: &[Oid]| -> Vec<u8> { ids.iter().flat_map(|o| o.0.to_le_bytes()).collect() };
-        let told = answer(&done, |p| [p.set.0, p.backoff.into()]);
-        self.recording
-            .push(call, [&bytes(adds), &bytes(deletes)], &told, &[]);
-        done
+        let call = Call::ComplexPing {
+            set,
+            sequence,
+            adds: Oids(&Oids::bytes(adds)),
+            deletes: Oids(&Oids::bytes(deletes)),
+        };
+        self.recording.plain(call, done)
     }
 
     /// [`Table::clock`], recorded.
     pub fn clock(&mut self, time: u64) -> Result<Counts> {
         let done = self.table.clock(time);
-        let told = answer(&done, counts);
-        self.recording.plain(Call::of(12).u64(time), &told);
-        done
+        self.recording.plain(Call::Clock { time }, done)
     }
 
     /// [`Table::resolve`], recorded.
     pub fn resolve(&mut self, oxid: Oxid, buffer: &mut [u8]) -> Result<Resolved> {
         let done = self.table.resolve(oxid, buffer);
-        let call = Call::of(13).u64(oxid.0).room(buffer);
-        let shown = front(&done, buffer, |r| r.length);
-        self.recording
-            .push(call, [&[], &[]], &answer(&done, resolved), &shown);
-        done
+        let room = Room::of(buffer);
+        let call = Call::Resolve { oxid, room };
+        self.recording.written(call, done, buffer, |r| r.length)
     }
 
     /// [`Table::resolve_filtered`], recorded.
@@ -369,56 +290,53 @@ where
         buffer: &mut [u8],
     ) -> Result<Resolved> {
         let done = self.table.resolve_filtered(oxid, protocols, buffer);
-        let call = Call::of(14).u64(oxid.0).room(buffer);
-        let requested: Vec<u8> = protocols.iter().flat_map(|p| p.to_le_bytes()).collect();
-        let shown = front(&done, buffer, |r| r.length);
-        self.recording
-            .push(call, [&requested, &[]], &answer(&done, resolved), &shown);
-        done
+        let call = Call::ResolveFiltered {
+            oxid,
+            protocols: Protocols(&Protocols::bytes(protocols)),
+            room: Room::of(buffer),
+        };
+        self.recording.written(call, done, buffer, |r| r.length)
     }
 
     /// [`Table::census`], recorded.
     pub fn census(&mut self) -> Result<Counts> {
         let done = self.table.census();
-        self.recording.plain(Call::of(15), &answer(&done, counts));
-        done
+        self.recording.plain(Call::Census {}, done)
     }
 
     /// [`Table::members`], recorded.
     pub fn members(&mut self, set: SetId) -> Result<usize> {
         let done = self.table.members(set);
-        let told = answer(&done, |n| [*n as u64]);
-        self.recording.plain(Call::of(16).u64(set.0), &told);
+        let told = |n: &usize| Results::Members { members: *n as u64 };
+        self.recording
+            .tell(Call::Members { set }, &done, told, |_| &[]);
         done
     }
 
     /// [`Table::next_stop`], recorded.
     pub fn next_stop<'a>(&'a mut self, reference: &'a [u8]) -> Result<Stop<'a>> {
-        let done = self.table.next_stop(reference);
-        let (number, shown): (_, &[u8]) = match done {
-            Ok(Stop::Exporter(list) | Stop::Own(list)) => (0, list),
-            Err(e) => (e.number(), &[]),
+        let Recorder { table, recording } = self;
+        let done = table.next_stop(reference);
+        let shown = |stop: &Stop<'a>| match *stop {
+            Stop::Exporter(list) | Stop::Own(list) => list,
         };
-        self.recording
-            .push(Call::of(17), [reference, &[]], &[number.into()], shown);
+        recording.tell(Call::NextStop { reference }, &done, |_| ().into(), shown);
         done
     }
 
     /// [`Table::write_snapshot`], recorded.
     pub fn write_snapshot(&mut self, buffer: &mut [u8]) -> Result<usize> {
         let done = self.table.write_snapshot(buffer);
-        let told = answer(&done, |n| [*n as u64]);
-        let shown = front(&done, buffer, |n| *n);
+        let room = Room::of(buffer);
+        let told = |n: &usize| Results::Length { length: *n as u64 };
         self.recording
-            .push(Call::of(18).room(buffer), [&[], &[]], &told, &shown);
+            .tell(Call::WriteSnapshot { room }, &done, told, |n| &buffer[..*n]);
         done
     }
 
     /// [`Table::load_snapshot`], recorded.
     pub fn load_snapshot(&mut self, snapshot: &[u8]) -> Result<()> {
         let done = self.table.load_snapshot(snapshot);
-        self.recording
-            .push(Call::of(19), [snapshot, &[]], &number(&done), &[]);
-        done
+        self.recording.plain(Call::LoadSnapshot { snapshot }, done)
     }
 }
