@@ -8,7 +8,6 @@ pub mod json;
 pub mod names;
 pub mod page;
 pub mod progress;
-pub mod records;
 mod refusal;
 pub mod show;
 

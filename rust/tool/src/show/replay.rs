@@ -1,45 +1,36 @@
 //! What a replay found.
 
 use super::{dump, many, plain_hex, Paint};
-use crate::explain::recordings::records;
 use crate::json::{self, Json};
-use crate::records::{answer, call, first, performed, Record};
-use rimonakh::{Error, Outcome, Table, Tally};
+use rimonakh::recording::{Answer, Record, Recording, Records};
+use rimonakh::{Error, Outcome, Recorder, Table, Tally};
 use std::fmt::Write;
 
-/// A replay: the records, and what the library answers.
+/// A replay: how many records there are, and what the library answers.
 pub struct Replay<'a> {
-    records: Vec<Record<'a>>,
+    records: usize,
     outcome: Outcome,
-    /// Of a record that differs: the recording whose last record has our answer.
-    ours: Option<Vec<u8>>,
+    differing: Option<Differing<'a>>,
+}
+
+/// A record that differs: its number, and what the library answers and shows.
+struct Differing<'a> {
+    number: u32,
+    recorded: Record<'a>,
+    ours: Answer,
+    shown: Vec<u8>,
 }
 
 impl<'a> Replay<'a> {
-    /// Of a recording that was replayed with this outcome. Our answer to a record that differs, which a replay does not tell, is found by
-    /// replaying the records before it once more and performing its call then.
+    /// Of a recording that was replayed with this outcome.
     pub fn new(recording: &'a [u8], outcome: Outcome) -> Result<Replay<'a>, Error> {
-        let records = records(recording).unwrap_or_default();
-        let differing = outcome.differs.map_or(0, |k| k as usize);
-        let mut replay = Replay {
-            records,
+        let records = Records::read(recording)?;
+        let differing = |number| Differing::new(records.clone(), number);
+        Ok(Replay {
+            records: records.len(),
             outcome,
-            ours: None,
-        };
-        if let Some(record) = differing.checked_sub(1).and_then(|k| replay.records.get(k)) {
-            let mut table = Table::new(0);
-            table.replay(&first(recording, &replay.records, differing - 1))?;
-            replay.ours = Some(performed(table, record)?);
-        }
-        Ok(replay)
-    }
-
-    /// The record that differs: its number, as it was recorded, and with our answer.
-    fn differing(&self) -> Option<(u32, Record<'a>, Record<'_>)> {
-        let number = self.outcome.differs?;
-        let recorded = *self.records.get(number as usize - 1)?;
-        let ours = records(self.ours.as_deref()?).ok()?.pop()?;
-        Some((number, recorded, ours))
+            differing: outcome.differs.map_or(Ok(None), differing)?,
+        })
     }
 
     /// Whether every answer is ours, or which is not, and the tally.
@@ -47,22 +38,16 @@ impl<'a> Replay<'a> {
         let mut out = String::new();
         match self.outcome.differs {
             None => {
-                let records = many(self.records.len(), "record");
+                let records = many(self.records, "record");
                 let _ = writeln!(out, "{}: {records}", paint.green("agrees"));
             }
             Some(number) => {
                 let differs = paint.red(&format!("record {number} differs"));
-                let _ = writeln!(out, "{differs}, of {}", self.records.len());
+                let _ = writeln!(out, "{differs}, of {}", self.records);
             }
         }
-        if let Some((_, recorded, ours)) = self.differing() {
-            let _ = writeln!(out, "call: {}", call(&recorded));
-            let differs = first_difference(recorded.shown, ours.shown);
-            answered(&mut out, "recorded", &recorded, differs.unwrap_or(0));
-            answered(&mut out, "ours", &ours, differs.unwrap_or(0));
-            if let Some(at) = differs {
-                let _ = writeln!(out, "the shown bytes differ from byte {at} on");
-            }
+        if let Some(d) = &self.differing {
+            d.text(&mut out);
         }
         let t = self.outcome.tally;
         let (granted, taken, rundown) = (t.granted, t.taken, t.rundown);
@@ -82,35 +67,69 @@ impl<'a> Replay<'a> {
         } = self.outcome.tally;
         let mut out = vec![
             ("agrees", Json::Bool(self.outcome.differs.is_none())),
-            ("records", json::size(self.records.len())),
+            ("records", json::size(self.records)),
             ("granted", json::number(granted)),
             ("taken", json::number(taken)),
             ("run_down", json::number(rundown)),
             ("held", json::number(self.outcome.tally.held())),
         ];
-        if let Some((number, recorded, ours)) = self.differing() {
-            out.push(("record", json::number(number)));
-            out.push(("call", json::text(call(&recorded))));
-            out.push(("recorded", json_answer(&recorded)));
-            out.push(("ours", json_answer(&ours)));
+        if let Some(d) = &self.differing {
+            let recorded = json_answer(d.recorded.answer, d.recorded.shown);
+            out.push(("record", json::number(d.number)));
+            out.push(("call", json::text(d.recorded.call)));
+            out.push(("recorded", recorded));
+            out.push(("ours", json_answer(d.ours, &d.shown)));
         }
         Json::Object(out)
     }
 }
 
-/// An answer, with the bytes that it shows around a place.
-fn answered(out: &mut String, whose: &str, record: &Record, place: usize) {
-    let _ = writeln!(out, "{whose}: {}", answer(record));
-    if !record.shown.is_empty() {
-        let _ = writeln!(out, "  shown: {}", many(record.shown.len(), "byte"));
-        dump(out, "    ", record.shown, place);
+impl<'a> Differing<'a> {
+    /// Our answer, which a replay does not tell, is found by replaying the records before once more and performing the call then.
+    fn new(mut records: Records<'a>, number: u32) -> Result<Option<Differing<'a>>, Error> {
+        let before: Recording = records.by_ref().take(number as usize - 1).collect();
+        let mut table = Table::new(0);
+        table.replay(before.bytes())?;
+        let mut day = Recorder::over(table)?;
+        let Some(recorded) = records.next() else {
+            return Ok(None);
+        };
+        let _ = day.perform(&recorded.call); // its answer is in the last record, refused or not
+        let ours = Records::read(day.recording())?.last();
+        Ok(ours.map(|ours| Differing {
+            number,
+            recorded,
+            ours: ours.answer,
+            shown: ours.shown.to_vec(),
+        }))
+    }
+
+    fn text(&self, out: &mut String) {
+        let (recorded, shown) = (&self.recorded, self.recorded.shown);
+        let _ = writeln!(out, "call: {}", recorded.call);
+        let differs = first_difference(shown, &self.shown);
+        let place = differs.unwrap_or(0);
+        answered(out, "recorded", recorded.answer, shown, place);
+        answered(out, "ours", self.ours, &self.shown, place);
+        if let Some(at) = differs {
+            let _ = writeln!(out, "the shown bytes differ from byte {at} on");
+        }
     }
 }
 
-fn json_answer(record: &Record) -> Json {
+/// An answer, with the bytes that it shows around a place.
+fn answered(out: &mut String, whose: &str, answer: Answer, shown: &[u8], place: usize) {
+    let _ = writeln!(out, "{whose}: {answer}");
+    if !shown.is_empty() {
+        let _ = writeln!(out, "  shown: {}", many(shown.len(), "byte"));
+        dump(out, "    ", shown, place);
+    }
+}
+
+fn json_answer(answer: Answer, shown: &[u8]) -> Json {
     Json::Object(vec![
-        ("answer", json::text(answer(record))),
-        ("shown", plain_hex(record.shown)),
+        ("answer", json::text(answer)),
+        ("shown", plain_hex(shown)),
     ])
 }
 
