@@ -5,6 +5,7 @@ pub mod args;
 pub mod explain;
 pub mod input;
 pub mod json;
+pub mod liveness;
 pub mod names;
 pub mod page;
 pub mod progress;

@@ -1,7 +1,8 @@
 //! The status page: what a snapshot holds, in one file of HTML. It has no script, and loads nothing.
 
+use crate::liveness::{Liveness, Silence};
 use crate::names;
-use crate::show::snapshot::{places, sets_of, state, ENDS_SOON, TWO_MISSED};
+use crate::show::snapshot::{places, sets_of};
 use crate::show::{many, text};
 use rimonakh::limits::{CLIENTS, SILENCE};
 use rimonakh::snapshot::{Exporter, Object, Set};
@@ -61,15 +62,6 @@ fn id(n: u64) -> String {
     format!("<code class=\"id\">{n:#018x}</code>")
 }
 
-/// The class of a silence.
-fn class(silent: u64) -> &'static str {
-    match silent {
-        ENDS_SOON.. => "bad",
-        TWO_MISSED.. => "warn",
-        _ => "good",
-    }
-}
-
 fn chip(class: &str, words: &str) -> String {
     format!("<span class=\"chip {class}\">{words}</span>")
 }
@@ -119,31 +111,27 @@ fn table(
     format!("<section id=\"{name}\">\n<h2>{heading}</h2>\n{body}</section>\n")
 }
 
-fn silent(s: &Snapshot, o: &Object) -> u64 {
-    s.clock - o.heard
+/// A silence as part of the longest, and in words; what is not pinged does not end.
+fn silence(of: Silence) -> [String; 2] {
+    let (class, words) = (of.liveness.class(), of.liveness.words());
+    let time = match of.liveness {
+        Liveness::NotPinged => String::new(),
+        _ => bar("bar time", class, of.seconds, SILENCE),
+    };
+    [time, chip(class, words)]
 }
 
 /// The clock, and how the objects are.
 fn summary(s: &Snapshot) -> String {
-    let pinged = || s.objects.iter().filter(|o| !o.no_ping);
-    let count = |class_is: &str| pinged().filter(|o| class(silent(s, o)) == class_is).count();
-    let chips = [
-        ("good", count("good"), "live"),
-        ("warn", count("warn"), "two pings missed"),
-        ("bad", count("bad"), "end soon"),
-        ("soft", s.objects.len() - pinged().count(), "not pinged"),
-    ];
-    let chips: Vec<String> = chips
-        .iter()
-        .map(|(class, n, words)| {
-            let class = if *n == 0 { "soft" } else { class };
-            chip(class, &format!("{n} {words}"))
-        })
-        .collect();
-    let alone: Vec<String> = pinged()
-        .filter(|o| sets_of(s, o).is_empty())
-        .map(|o| id(o.oid.0))
-        .collect();
+    let chips = Liveness::ALL.map(|state| {
+        let is = |o: &&Object| Silence::of_object(s, o).liveness == state;
+        let n = s.objects.iter().filter(is).count();
+        let class = if n == 0 { "soft" } else { state.class() };
+        chip(class, &format!("{n} {}", state.plural()))
+    });
+    let alone = s.objects.iter().filter(|o| !o.no_ping);
+    let alone = alone.filter(|o| sets_of(s, o).is_empty());
+    let alone: Vec<String> = alone.map(|o| id(o.oid.0)).collect();
     let alone = match alone.is_empty() {
         true => String::new(),
         false => format!(
@@ -180,14 +168,15 @@ fn tiles(s: &Snapshot) -> String {
 /// The objects, the longest silent first and those that are not pinged last.
 fn objects(s: &Snapshot) -> String {
     let mut rows: Vec<&Object> = s.objects.iter().collect();
-    rows.sort_by_key(|o| (o.no_ping, std::cmp::Reverse(silent(s, o)), o.oid));
+    rows.sort_by_key(|o| (o.no_ping, o.heard, o.oid));
     let rows = rows.into_iter().map(|o| object(s, o)).collect();
     let heading = format!("Objects, by the time since they were heard; they end at {SILENCE} s");
+    let of_silence = format!("of {SILENCE} s");
     let columns = [
         "Object",
         "Exporter",
         "Silent",
-        "of 360 s",
+        &of_silence,
         "State",
         "Sets",
         "Interfaces",
@@ -197,14 +186,8 @@ fn objects(s: &Snapshot) -> String {
 }
 
 fn object(s: &Snapshot, o: &Object) -> Vec<String> {
-    let seconds = silent(s, o);
-    let (time, state) = match o.no_ping {
-        true => (String::new(), chip("soft", "not pinged")),
-        false => (
-            bar("bar time", class(seconds), seconds, SILENCE),
-            chip(class(seconds), state(seconds)),
-        ),
-    };
+    let silent = Silence::of_object(s, o);
+    let [time, state] = silence(silent);
     let sets: Vec<String> = sets_of(s, o).into_iter().map(grouped).collect();
     let sets = match sets.is_empty() {
         true if o.no_ping => "<span class=\"soft\">none</span>".to_string(),
@@ -217,7 +200,7 @@ fn object(s: &Snapshot, o: &Object) -> Vec<String> {
     vec![
         id(o.oid.0),
         id(o.exporter.0),
-        format!("{} s", grouped(seconds)),
+        format!("{} s", grouped(silent.seconds)),
         time,
         state,
         sets,
@@ -313,11 +296,12 @@ fn references(s: &Snapshot) -> String {
 
 fn sets(s: &Snapshot) -> String {
     let rows = s.sets.iter().map(|t| set(s, t)).collect();
+    let of_silence = format!("of {SILENCE} s");
     let columns = [
         "Set",
         "Sequence",
         "Last ping",
-        "of 360 s",
+        &of_silence,
         "State",
         "Members",
         "Objects",
@@ -326,14 +310,15 @@ fn sets(s: &Snapshot) -> String {
 }
 
 fn set(s: &Snapshot, t: &Set) -> Vec<String> {
-    let seconds = s.clock - t.pinged;
+    let silent = Silence::of_set(s, t);
+    let [time, state] = silence(silent);
     let members: Vec<String> = t.members.iter().map(|m| id(m.0)).collect();
     vec![
         grouped(t.number.0),
         t.sequence.to_string(),
-        format!("{seconds} s ago"),
-        bar("bar time", class(seconds), seconds, SILENCE),
-        chip(class(seconds), state(seconds)),
+        format!("{} s ago", silent.seconds),
+        time,
+        state,
         t.members.len().to_string(),
         folded(&members, 6, " "),
     ]

@@ -2,24 +2,12 @@
 
 use super::{bindings, json_bindings, sizes, Paint};
 use crate::json::{self, Json};
+use crate::liveness::Silence;
 use crate::names::{self, Known};
 use rimonakh::limits::{BYTES, EXPORTERS, INTERFACES, OBJECTS, SETS};
 use rimonakh::snapshot::{Exporter, Interface, Object, Set};
 use rimonakh::{Error, Snapshot};
 use std::fmt::Write;
-
-/// Seconds of silence from which on something is marked: two of a client's pings are missed; it ends within a minute.
-pub const TWO_MISSED: u64 = 240;
-pub const ENDS_SOON: u64 = 300;
-
-/// What a silence means.
-pub fn state(silent: u64) -> &'static str {
-    match silent {
-        ENDS_SOON.. => "ends soon",
-        TWO_MISSED.. => "two pings missed",
-        _ => "live",
-    }
-}
 
 /// The sets that an object is in.
 pub fn sets_of(s: &Snapshot, object: &Object) -> Vec<u64> {
@@ -67,22 +55,8 @@ fn exporter(out: &mut String, s: &Snapshot, x: &Exporter, paint: Paint) -> Resul
     Ok(())
 }
 
-/// How long ago, marked where that is long.
-fn ago(what: &str, silent: u64, paint: Paint) -> String {
-    let text = format!("{what} {silent} s ago");
-    match silent {
-        ENDS_SOON.. => paint.red(&format!("{text}, {}", state(silent))),
-        TWO_MISSED.. => paint.yellow(&format!("{text}, {}", state(silent))),
-        _ => text,
-    }
-}
-
 fn object(out: &mut String, s: &Snapshot, o: &Object, paint: Paint) {
-    let silent = s.clock - o.heard;
-    let heard = match o.no_ping {
-        true => format!("not pinged, heard {silent} s ago"),
-        false => ago("heard", silent, paint),
-    };
+    let heard = Silence::of_object(s, o).ago("heard", paint);
     let sets: Vec<String> = sets_of(s, o).iter().map(u64::to_string).collect();
     let sets = match sets.is_empty() {
         true => "in no set".to_string(),
@@ -114,7 +88,8 @@ fn interface(out: &mut String, i: &Interface) {
 }
 
 fn set(out: &mut String, s: &Snapshot, t: &Set, paint: Paint) {
-    let (name, pinged) = (paint.bold("set"), ago("pinged", s.clock - t.pinged, paint));
+    let name = paint.bold("set");
+    let pinged = Silence::of_set(s, t).ago("pinged", paint);
     let members = t.members.len();
     let (number, sequence) = (t.number.0, t.sequence);
     let _ = writeln!(
@@ -155,19 +130,14 @@ fn json_exporter(x: &Exporter) -> Result<Json, Error> {
 }
 
 fn json_object(s: &Snapshot, o: &Object) -> Json {
-    let silent = s.clock - o.heard;
-    let state = if o.no_ping {
-        "not pinged"
-    } else {
-        state(silent)
-    };
+    let silence = Silence::of_object(s, o);
     Json::Object(vec![
         ("oid", json::wide(o.oid.0)),
         ("exporter", json::wide(o.exporter.0)),
         ("no_ping", Json::Bool(o.no_ping)),
         ("heard", json::number(o.heard)),
-        ("silent_seconds", json::number(silent)),
-        ("state", json::text(state)),
+        ("silent_seconds", json::number(silence.seconds)),
+        ("state", json::text(silence.liveness.words())),
         (
             "sets",
             json::list(sets_of(s, o).into_iter().map(json::wide)),
@@ -187,13 +157,13 @@ fn json_interface(i: &Interface) -> Json {
 }
 
 fn json_set(s: &Snapshot, t: &Set) -> Json {
-    let silent = s.clock - t.pinged;
+    let silence = Silence::of_set(s, t);
     Json::Object(vec![
         ("set", json::wide(t.number.0)),
         ("sequence", json::number(t.sequence)),
         ("pinged", json::number(t.pinged)),
-        ("silent_seconds", json::number(silent)),
-        ("state", json::text(state(silent))),
+        ("silent_seconds", json::number(silence.seconds)),
+        ("state", json::text(silence.liveness.words())),
         (
             "members",
             json::list(t.members.iter().map(|m| json::wide(m.0))),
