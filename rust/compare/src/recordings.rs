@@ -1,6 +1,6 @@
 //! Recorded runs and their replay (request 11): runs of the model, written down here in the form of docs/RECORDING.md, are replayed
-//! by the library, by plain Rust and by the model's own reader, as they are and changed; and the recorder of the Rust crate writes the
-//! same bytes.
+//! by the library, by plain Rust and by the model's own reader, as they are and changed; and the Rust crate's recorder writes the same
+//! bytes, and its reader refuses the same ones.
 
 use crate::call::{Call, Reply};
 use crate::calls::Memory;
@@ -13,6 +13,7 @@ use crate::tally::Tally;
 use crate::Differs;
 use model::entries::Entries;
 use model::recording::{self, Outcome};
+use rimonakh::recording::{Recording, Records};
 use rimonakh::{Error, Table};
 
 /// A record by its sections.
@@ -83,30 +84,32 @@ pub trait Replays {
     fn replay(words: &mut [u64], store: &mut [u8], recording: &[u8]) -> Result<Outcome, u32>;
 }
 
+fn outcome(differs: u32, [granted, taken, rundown]: [u64; 3]) -> Outcome {
+    let tally = recording::Tally {
+        granted,
+        taken,
+        rundown,
+    };
+    Outcome { differs, tally }
+}
+
 impl Replays for Library {
     fn replay(words: &mut [u64], store: &mut [u8], recording: &[u8]) -> Result<Outcome, u32> {
         let r = Table::over(&mut *words, &mut *store).replay(recording);
-        r.map_err(Error::number).map(|r| Outcome {
-            differs: r.differs.unwrap_or(0),
-            tally: recording::Tally {
-                granted: r.tally.granted,
-                taken: r.tally.taken,
-                rundown: r.tally.rundown,
-            },
-        })
+        let r = r.map_err(Error::number)?;
+        let t = r.tally;
+        Ok(outcome(
+            r.differs.unwrap_or(0),
+            [t.granted, t.taken, t.rundown],
+        ))
     }
 }
 
 impl Replays for Plain {
     fn replay(words: &mut [u64], store: &mut [u8], recording: &[u8]) -> Result<Outcome, u32> {
-        plain::recording::replay(words, store, recording).map(|r| Outcome {
-            differs: r.differs,
-            tally: recording::Tally {
-                granted: r.tally.granted,
-                taken: r.tally.taken,
-                rundown: r.tally.rundown,
-            },
-        })
+        let r = plain::recording::replay(words, store, recording)?;
+        let t = r.tally;
+        Ok(outcome(r.differs, [t.granted, t.taken, t.rundown]))
     }
 }
 
@@ -120,6 +123,14 @@ impl Replays for Model {
         decode::encode(&entries, words, store);
         Ok(outcome)
     }
+}
+
+/// Whether the Rust crate reads a recording, and every record comes out again as it went in.
+pub fn read(recording: &[u8]) -> Result<(), u32> {
+    let records = Records::read(recording).map_err(|fault| fault.error.number())?;
+    let again: Recording = records.collect();
+    assert!(again.bytes() == recording, "read and written again");
+    Ok(())
 }
 
 /// What the model demands of a replay: its outcome, and the entries that it leaves.
@@ -158,7 +169,11 @@ fn replayed(memory: &mut Memory, bytes: &[u8]) -> Result<Result<Outcome, u32>, S
     let demanded = (recording::replay(&mut entries, bytes), entries);
     held_to::<Plain>(&demanded, &mut memory.clone(), bytes)?;
     held_to::<Library>(&demanded, memory, bytes)?;
-    Ok(demanded.0)
+    let read = read(bytes);
+    match demanded.0.map(drop) == read {
+        true => Ok(demanded.0),
+        false => Err(format!("read as {read:?}, demanded {:?}", demanded.0)),
+    }
 }
 
 /// A run of the model, recorded; and the recording that the recorder of the Rust crate makes of the same calls.

@@ -9,7 +9,7 @@
 //!     M bytes     a list to be written: the size of the buffer, how many words the string bindings have, then the words of all bindings
 //!     N           a list of N = 65,535 words to be written, and the same with one word more
 
-use super::{all_seen, hex, text, Answers, Arguments, Seen};
+use super::{all_seen, each_line, hex, text, Answers, Seen};
 use crate::bytes::{
     plain_context, plain_fields, plain_property, typed_context, typed_fields, typed_property,
 };
@@ -185,47 +185,42 @@ pub fn zeroed<T: Default>(answer: Answer<T>) -> (u32, T) {
 
 pub fn run<C: Codec>(input: &[u8]) -> String {
     let mut seen = Seen::new();
-    let mut out = String::new();
-    for line in input.split(|b| *b == b'\n').filter(|line| !line.is_empty()) {
-        let a = Arguments { rest: &line[1..] };
-        match line[0] {
-            b'L' => out += &list::<C>(&a.bytes(), [0, 1, 2], &[0, 1, 2], &mut seen),
-            b'O' => out += &reference::<C>(&a.bytes(), &mut seen),
-            b'W' => out += &written::<C>(0, &a.bytes(), &mut seen),
-            b'I' => {
-                let bytes = a.bytes();
-                out += &written::<C>(bytes[0], &bytes[1..], &mut seen);
-            }
-            b'B' => {
-                let largest = largest();
-                out += &list::<C>(&largest, [0, 32764, 32765], &[0, 1], &mut seen);
-                out.push('\n');
-                let short = &largest[..largest.len() - 2];
-                out += &list::<C>(short, [0, 32764, 32765], &[0, 1], &mut seen);
-            }
-            b'M' => {
-                let bytes = a.bytes();
-                let words = words(&bytes[2..]);
-                let (strings, security) = words.split_at(bytes[1].into());
-                let (answer, buffer) = list_written::<C>(strings, security, bytes[0].into());
-                seen.insert((b'M', answer.0));
-                out += &format!("{} length {} {}", answer.0, answer.1, hex(&buffer));
-            }
-            b'N' => {
-                let largest = words(&largest()[4..]);
-                let (strings, security) = (&largest[..65530], &largest[65531..65534]);
-                let ((number, length), made) = list_written::<C>(strings, security, 131_074);
-                let (judged, ()) = zeroed(C::list(&made));
-                let one_more = [&strings[..65529], &[1, 0]].concat();
-                let ((refused, _), _) = list_written::<C>(&one_more, security, 131_076);
-                out += &format!("{number} length {length} judged {judged}, one more {refused}");
-            }
-            _ => out += &String::from_utf8_lossy(line),
-        }
-        out.push('\n');
-    }
+    let out = each_line(input, |letter, a| {
+        line::<C>(letter, &a.bytes(), &mut seen) + "\n"
+    });
     all_seen(ANSWERS, &seen);
     out
+}
+
+fn line<C: Codec>(letter: u8, s: &[u8], seen: &mut Seen) -> String {
+    match letter {
+        b'L' => list::<C>(s, [0, 1, 2], &[0, 1, 2], seen),
+        b'O' => reference::<C>(s, seen),
+        b'W' => written::<C>(0, s, seen),
+        b'I' => written::<C>(s[0], &s[1..], seen),
+        b'B' => {
+            let whole = largest();
+            let mut of = |s: &[u8]| list::<C>(s, [0, 32764, 32765], &[0, 1], seen);
+            [of(&whole), of(&whole[..whole.len() - 2])].join("\n")
+        }
+        b'M' => {
+            let words = words(&s[2..]);
+            let (strings, security) = words.split_at(s[1].into());
+            let ((number, length), made) = list_written::<C>(strings, security, s[0].into());
+            seen.insert((letter, number));
+            format!("{number} length {length} {}", hex(&made))
+        }
+        b'N' => {
+            let largest = words(&largest()[4..]);
+            let (strings, security) = (&largest[..65530], &largest[65531..65534]);
+            let ((number, length), made) = list_written::<C>(strings, security, 131_074);
+            let (judged, ()) = zeroed(C::list(&made));
+            let one_more = [&strings[..65529], &[1, 0]].concat();
+            let ((refused, _), _) = list_written::<C>(&one_more, security, 131_076);
+            format!("{number} length {length} judged {judged}, one more {refused}")
+        }
+        _ => panic!("no such line: {}", letter as char),
+    }
 }
 
 fn list<C: Codec>(s: &[u8], strings: [usize; 3], security: &[usize], seen: &mut Seen) -> String {

@@ -15,7 +15,7 @@
 //!     P flags room bytes      a property to be written with its data, Q count room bytes a context with its properties
 
 use super::bytes::{reference, sample, zeroed, Codec};
-use super::{all_seen, hex, text, Answers, Arguments, Seen};
+use super::{all_seen, each_line, hex, text, Answers, Arguments, Seen};
 use crate::decode::guid;
 use model::contexts::{Context, Property, MARSHALER};
 use std::fmt::Write;
@@ -38,16 +38,13 @@ const ANSWERS: Answers = &[
 
 pub fn run<C: Codec>(input: &[u8]) -> String {
     let mut seen = Seen::new();
-    let mut out = String::new();
-    for line in input.split(|b| *b == b'\n').filter(|line| !line.is_empty()) {
-        let a = Arguments { rest: &line[1..] };
-        out += &match line[0] {
-            b'#' => String::from_utf8_lossy(line).to_string(),
-            letter @ (b'X' | b'Y' | b'S' | b'P' | b'Q') => write::<C>(letter, a, &mut seen),
-            letter => read::<C>(letter, a, &mut seen),
+    let out = each_line(input, |letter, a| {
+        let printed = match letter {
+            b'X' | b'Y' | b'S' | b'P' | b'Q' => write::<C>(letter, a, &mut seen),
+            _ => read::<C>(letter, a, &mut seen),
         };
-        out.push('\n');
-    }
+        printed + "\n"
+    });
     all_seen(ANSWERS, &seen);
     out
 }

@@ -6,7 +6,7 @@
 //!                                     is 0 whole, 1 one byte short, 2 one byte more, 3 a broken list, 4 a nil OXID
 
 use super::bytes::largest;
-use super::{all_seen, hex, text, Answers, Arguments, Seen};
+use super::{all_seen, each_line, hex, text, Answers, Arguments, Seen};
 use crate::fragments::{self, Answer};
 use crate::model_side::Model;
 use crate::subject::Library;
@@ -53,40 +53,32 @@ fn answered<R: Reader>(fragments: &[&[u8]], waiting: usize, last: usize) -> (u32
 
 pub fn run<R: Reader>(input: &[u8]) -> String {
     let mut seen = Seen::new();
-    let mut out = String::new();
-    for line in input.split(|b| *b == b'\n').filter(|line| !line.is_empty()) {
-        let letter = line[0];
-        if letter == b'#' {
-            out += &String::from_utf8_lossy(line);
-            out.push('\n');
-            continue;
-        }
-        let mut a = Arguments { rest: &line[1..] };
-        let (waiting, last) = (a.number() as usize, a.number() as usize);
-        let pieces: Vec<Vec<u8>> = if letter == b'G' {
-            let whole = long(a.number());
-            whole.chunks(1000).map(<[u8]>::to_vec).collect()
-        } else {
-            let bytes = |rest| Arguments { rest }.bytes();
-            a.rest.split(|b| *b == b'/').map(bytes).collect()
-        };
-        let fragments: Vec<&[u8]> = pieces.iter().map(Vec::as_slice).collect();
-        let (number, printed) = answered::<R>(&fragments, waiting, last);
-        seen.insert((letter, number));
-        let whole = fragments.concat();
-        let each: Vec<&[u8]> = whole.chunks(1).collect();
-        let same = [vec![&whole[..]], each]
-            .iter()
-            .all(|cuts| answered::<R>(cuts, waiting, last).1 == printed);
-        out += &printed;
-        out += if same {
-            "\n"
-        } else {
-            " DIFFERS when cut elsewhere\n"
-        };
-    }
+    let out = each_line(input, |letter, a| line::<R>(letter, a, &mut seen) + "\n");
     all_seen(ANSWERS, &seen);
     out
+}
+
+fn line<R: Reader>(letter: u8, mut a: Arguments, seen: &mut Seen) -> String {
+    let (waiting, last) = (a.number() as usize, a.number() as usize);
+    let pieces: Vec<Vec<u8>> = if letter == b'G' {
+        let whole = long(a.number());
+        whole.chunks(1000).map(<[u8]>::to_vec).collect()
+    } else {
+        let bytes = |rest| Arguments { rest }.bytes();
+        a.rest.split(|b| *b == b'/').map(bytes).collect()
+    };
+    let fragments: Vec<&[u8]> = pieces.iter().map(Vec::as_slice).collect();
+    let (number, printed) = answered::<R>(&fragments, waiting, last);
+    seen.insert((letter, number));
+    let whole = fragments.concat();
+    let each: Vec<&[u8]> = whole.chunks(1).collect();
+    let same = [vec![&whole[..]], each]
+        .iter()
+        .all(|cuts| answered::<R>(cuts, waiting, last).1 == printed);
+    match same {
+        true => printed,
+        false => printed + " DIFFERS when cut elsewhere",
+    }
 }
 
 /// A standard reference with the largest list, changed.

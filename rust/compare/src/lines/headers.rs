@@ -10,7 +10,7 @@
 //!     X minor room pointer array n words.. data    an ORPCTHIS with n words for extensions, Y without minor an ORPCTHAT
 //!     Z size      an ORPCTHAT with one extension of so many zeros, into 64 bytes
 
-use super::{all_seen, hex, text, Answers, Arguments, Seen};
+use super::{all_seen, each_line, hex, text, Answers, Arguments, Seen};
 use crate::headers::{Answer, Headers, Kind, Made, Read};
 use model::bytes::OrpcThis;
 use model::extensions::{Extension, Lent};
@@ -31,44 +31,42 @@ const ANSWERS: Answers = &[
 
 pub fn run<S: Headers>(input: &[u8]) -> String {
     let mut seen = Seen::new();
-    let mut out = String::new();
-    for line in input.split(|b| *b == b'\n').filter(|line| !line.is_empty()) {
-        let mut a = Arguments { rest: &line[1..] };
-        match line[0] {
-            b'H' => out += &header::<S>(Kind::This, &a.bytes(), &mut seen),
-            b'R' => out += &header::<S>(Kind::That, &a.bytes(), &mut seen),
-            b'A' => {
-                let (n, size) = (a.number() as usize, a.number() as usize);
-                out += &header::<S>(Kind::This, &made(Kind::This, n, size), &mut seen);
-                out.push('\n');
-                out += &header::<S>(Kind::That, &made(Kind::That, n, size), &mut seen);
-            }
-            b'C' => out += &cut::<S>(Kind::This, &a.bytes()),
-            b'c' => out += &cut::<S>(Kind::That, &a.bytes()),
-            b'P' => out += &changed::<S>(Kind::This, &a.bytes()),
-            b'p' => out += &changed::<S>(Kind::That, &a.bytes()),
-            b'M' => out += &plain::<S>(Kind::This, a.number() as u16, a.number(), &mut seen),
-            b'T' => out += &plain::<S>(Kind::That, 0, a.number(), &mut seen),
-            b'X' => out += &written::<S>(Kind::This, a.number() as u16, a, &mut seen),
-            b'Y' => out += &written::<S>(Kind::That, 0, a, &mut seen),
-            b'Z' => {
-                let size = a.number();
-                let contents = vec![0; size as usize]; // zeroed by the system, and never touched
-                let entries = [1, 2, 3, size];
-                let lent = Lent {
-                    pointer: 1,
-                    array: 2,
-                    entries: &entries,
-                    contents: &contents,
-                };
-                out += &put::<S>(Kind::That, 0, 64, &lent, &mut seen);
-            }
-            _ => out += &String::from_utf8_lossy(line),
-        }
-        out.push('\n');
-    }
+    let out = each_line(input, |letter, a| line::<S>(letter, a, &mut seen) + "\n");
     all_seen(ANSWERS, &seen);
     out
+}
+
+fn line<S: Headers>(letter: u8, mut a: Arguments, seen: &mut Seen) -> String {
+    match letter {
+        b'H' => header::<S>(Kind::This, &a.bytes(), seen),
+        b'R' => header::<S>(Kind::That, &a.bytes(), seen),
+        b'A' => {
+            let (n, size) = (a.number() as usize, a.number() as usize);
+            let mut of = |kind| header::<S>(kind, &made(kind, n, size), seen);
+            [of(Kind::This), of(Kind::That)].join("\n")
+        }
+        b'C' => cut::<S>(Kind::This, &a.bytes()),
+        b'c' => cut::<S>(Kind::That, &a.bytes()),
+        b'P' => changed::<S>(Kind::This, &a.bytes()),
+        b'p' => changed::<S>(Kind::That, &a.bytes()),
+        b'M' => plain::<S>(Kind::This, a.number() as u16, a.number(), seen),
+        b'T' => plain::<S>(Kind::That, 0, a.number(), seen),
+        b'X' => written::<S>(Kind::This, a.number() as u16, a, seen),
+        b'Y' => written::<S>(Kind::That, 0, a, seen),
+        b'Z' => {
+            let size = a.number();
+            let contents = vec![0; size as usize]; // zeroed by the system, and never touched
+            let entries = [1, 2, 3, size];
+            let lent = Lent {
+                pointer: 1,
+                array: 2,
+                entries: &entries,
+                contents: &contents,
+            };
+            put::<S>(Kind::That, 0, 64, &lent, seen)
+        }
+        _ => panic!("no such line: {}", letter as char),
+    }
 }
 
 /// A header with n extensions of so many bytes each, that tell them apart.

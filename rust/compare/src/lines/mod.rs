@@ -118,16 +118,24 @@ type Seen = BTreeSet<(u8, u32)>;
 /// The answers that the documents list for each letter.
 pub type Answers = &'static [(u8, &'static [u32])];
 
+/// What is printed of an input: a comment as it stands, and of each other line what `one` says of its letter and what is behind it.
+fn each_line(input: &[u8], mut one: impl FnMut(u8, Arguments) -> String) -> String {
+    let mut out = String::new();
+    for line in input.split(|b| *b == b'\n').filter(|line| !line.is_empty()) {
+        match line[0] {
+            b'#' => out.extend([&String::from_utf8_lossy(line), "\n"]),
+            letter => out += &one(letter, Arguments { rest: &line[1..] }),
+        }
+    }
+    out
+}
+
 /// Demands that every listed answer occurred.
 fn all_seen(answers: Answers, seen: &Seen) {
     for (letter, numbers) in answers {
         for number in *numbers {
-            let (letter, number) = (*letter, *number);
-            assert!(
-                seen.contains(&(letter, number)),
-                "no line {} is answered by {number}",
-                letter as char
-            );
+            let (seen, letter) = (seen.contains(&(*letter, *number)), *letter as char);
+            assert!(seen, "no line {letter} is answered by {number}");
         }
     }
 }
@@ -155,40 +163,35 @@ fn stored(name: &str) -> PathBuf {
         .join(name)
 }
 
-const INPUTS: [&str; 6] = [
-    "headers",
-    "bytes",
-    "extended",
-    "fragments",
-    "table",
-    "recordings",
-];
+/// What is printed of a stored input.
+type Run = fn(&[u8]) -> String;
 
-fn printed(name: &str, input: &[u8], library: bool) -> String {
-    match (name, library) {
-        ("table", false) => table::run::<Model>(input),
-        ("table", true) => table::run::<Library>(input),
-        ("recordings", false) => recordings::run::<Model>(input),
-        ("recordings", true) => recordings::run::<Library>(input),
-        ("extended", false) => extended::run::<Model>(input),
-        ("extended", true) => extended::run::<Library>(input),
-        ("headers", false) => headers::run::<Model>(input),
-        ("headers", true) => headers::run::<Library>(input),
-        ("fragments", false) => fragments::run::<Model>(input),
-        ("fragments", true) => fragments::run::<Library>(input),
-        (_, false) => bytes::run::<Model>(input),
-        (_, true) => bytes::run::<Library>(input),
-    }
-}
+/// The stored inputs, with what the model and the library print of them.
+const INPUTS: [(&str, Run, Run); 6] = [
+    ("headers", headers::run::<Model>, headers::run::<Library>),
+    ("bytes", bytes::run::<Model>, bytes::run::<Library>),
+    ("extended", extended::run::<Model>, extended::run::<Library>),
+    (
+        "fragments",
+        fragments::run::<Model>,
+        fragments::run::<Library>,
+    ),
+    ("table", table::run::<Model>, table::run::<Library>),
+    (
+        "recordings",
+        recordings::run::<Model>,
+        recordings::run::<Library>,
+    ),
+];
 
 /// Runs the stored inputs through the library and compares with the stored outputs.
 pub fn compare() -> Result<(), Differs> {
-    for name in INPUTS {
+    for (name, model, library) in INPUTS {
         let input = fs::read(stored(&format!("{name}.in"))).expect("the stored input");
         let demanded =
             fs::read_to_string(stored(&format!("{name}.out"))).expect("the stored output");
-        for (side, library) in [("model", false), ("library", true)] {
-            let answered = printed(name, &input, library);
+        for (side, run) in [("model", model), ("library", library)] {
+            let answered = run(&input);
             if answered != demanded {
                 let same = answered
                     .lines()
@@ -208,8 +211,8 @@ pub fn compare() -> Result<(), Differs> {
 
 /// Writes the stored outputs anew.
 pub fn make() {
-    for name in INPUTS {
+    for (name, model, _) in INPUTS {
         let input = fs::read(stored(&format!("{name}.in"))).expect("the stored input");
-        fs::write(stored(&format!("{name}.out")), printed(name, &input, false)).expect("written");
+        fs::write(stored(&format!("{name}.out")), model(&input)).expect("written");
     }
 }

@@ -19,11 +19,11 @@
 //! where it left every word and byte.
 
 use super::table::{call, print_entries, Stops};
-use super::{all_seen, Answers, Arguments, Seen};
+use super::{all_seen, each_line, Answers, Arguments, Seen};
 use crate::call::Call;
 use crate::decode;
 use crate::model_side::Model;
-use crate::recordings::{bytes, Record, Replays};
+use crate::recordings::{bytes, read, Record, Replays};
 use crate::subject::{Library, Plain};
 use model::recording::{held, Outcome};
 use std::fmt::Write;
@@ -64,6 +64,9 @@ impl Lines {
         let (mut words, mut store) = before;
         let plain = Plain::replay(&mut words[..n], &mut store[..m], recording);
         assert_eq!(plain, outcome, "plain Rust");
+        if (n, m) == (8192, 8192) {
+            assert_eq!(read(recording), outcome.map(drop), "the reader");
+        }
         self.seen.insert((b'p', outcome.err().unwrap_or(0)));
         outcome
     }
@@ -221,14 +224,7 @@ pub fn run<S: Side>(input: &[u8]) -> String {
         saved: Vec::new(),
         seen: Seen::new(),
     };
-    let mut out = String::new();
-    for line in input.split(|b| *b == b'\n').filter(|line| !line.is_empty()) {
-        if line[0] == b'#' {
-            writeln!(out, "{}", String::from_utf8_lossy(line)).unwrap();
-        } else {
-            out += &lines.line::<S>(line[0], Arguments { rest: &line[1..] });
-        }
-    }
+    let out = each_line(input, |letter, a| lines.line::<S>(letter, a));
     all_seen(ANSWERS, &lines.seen);
     out
 }

@@ -24,7 +24,7 @@
 //! binding. One of over 300 words is printed so, too. After an answer stands " kept" where the call left every word and byte as it was
 //! lent.
 
-use super::{all_seen, hex, text, Arguments, Seen};
+use super::{all_seen, each_line, hex, text, Arguments, Seen};
 use crate::call::{buffer, Call, Reply, ANSWERS};
 use crate::decode::{self, encode, guid, EXPORTERS, INTERFACES, OBJECTS, SETS};
 use crate::generate::long_list;
@@ -86,14 +86,7 @@ pub fn run<S: Stops>(input: &[u8]) -> String {
         seen: Seen::new(),
         side: PhantomData,
     };
-    let mut out = String::new();
-    for line in input.split(|b| *b == b'\n').filter(|line| !line.is_empty()) {
-        let a = Arguments { rest: &line[1..] };
-        match line[0] {
-            b'#' => writeln!(out, "{}", String::from_utf8_lossy(line)).unwrap(),
-            letter => out += &lines.line(letter, a),
-        }
-    }
+    let out = each_line(input, |letter, a| lines.line(letter, a));
     all_seen(ANSWERS, &lines.seen);
     out
 }
