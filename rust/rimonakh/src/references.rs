@@ -58,6 +58,9 @@ pub struct Reference {
 }
 
 impl Reference {
+    /// The four bytes that a reference begins with.
+    pub const SIGNATURE: [u8; 4] = *b"MEOW";
+
     /// The flags of a standard reference.
     pub const STANDARD: u32 = 1;
     /// The flags of a handler reference.
@@ -182,7 +185,7 @@ impl Reference {
         place.range()
     }
 
-    /// The data of element `k` of an extended reference. It is a reference where it begins with the four bytes "MEOW".
+    /// The data of element `k` of an extended reference. It is a reference where it begins with [`Reference::SIGNATURE`].
     pub fn element(bytes: &[u8], k: usize) -> Result<&[u8]> {
         Ok(&bytes[Reference::locate_element(bytes, k)?])
     }

@@ -4,6 +4,7 @@
 
 use crate::progress::Progress;
 use crate::show::seen;
+use rimonakh::Reference;
 use std::fs::File;
 use std::io::{self, Read};
 
@@ -37,7 +38,9 @@ impl Input {
 
     /// Where the first signature of a reference stands.
     pub fn signature(&self) -> Option<usize> {
-        self.bytes.windows(4).position(|four| four == b"MEOW")
+        self.bytes
+            .windows(4)
+            .position(|four| four == Reference::SIGNATURE)
     }
 
     /// Leaves the bytes from the first signature on; those of a marshaled pointer (MS-DCOM, section 2.2.14), which has their number before

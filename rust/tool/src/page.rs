@@ -241,19 +241,16 @@ fn exporters(s: &Snapshot) -> String {
 }
 
 fn exporter(s: &Snapshot, x: &Exporter) -> Vec<String> {
+    let named = |name: Option<&str>, what: &str, number: u16| {
+        name.map_or_else(|| format!("{what} {number}"), str::to_string)
+    };
     let addresses = x.strings().map(|b| {
-        let protocol = match names::protocol(b.tower) {
-            Some(name) => name.to_string(),
-            None => format!("tower {}", b.tower),
-        };
+        let protocol = named(names::protocol(b.tower), "tower", b.tower);
         format!("<code>{protocol}:{}</code>", escaped(&text(b.address)))
     });
     let addresses: Vec<String> = addresses.collect();
     let security = x.securities().map(|b| {
-        let service = match names::service(b.service) {
-            Some(name) => name.to_string(),
-            None => format!("service {}", b.service),
-        };
+        let service = named(names::service(b.service), "service", b.service);
         format!("{service} <code>{}</code>", escaped(&text(b.name)))
     });
     let security: Vec<String> = security.collect();

@@ -2,10 +2,9 @@
 
 use super::fields::{Oids, Protocols, Room};
 use super::{Call, Recording, Results};
+use crate::Table;
 use crate::{Counts, Guid, Item, Oid, Oxid, Pinged, Released, Resolved, Result, SetId, Stop};
-use crate::{Table, BYTES, WORDS};
 use alloc::boxed::Box;
-use alloc::vec;
 use alloc::vec::Vec;
 use core::fmt;
 
@@ -63,15 +62,7 @@ pub struct Recorder<W = Box<[u64]>, S = Box<[u8]>> {
 impl Recorder {
     /// An empty table, whose reset is the first record.
     pub fn new(time: u64) -> Recorder {
-        let mut recorder = Recorder {
-            table: Table::over(
-                vec![0; WORDS].into_boxed_slice(),
-                vec![0; BYTES].into_boxed_slice(),
-            ),
-            recording: Recording::new(),
-        };
-        recorder.reset(time).expect("both lengths are right");
-        recorder
+        Recorder::after(Table::new(time), Call::Reset { time })
     }
 }
 
@@ -89,6 +80,13 @@ where
 }
 
 impl<W, S> Recorder<W, S> {
+    /// A table as an accepted call that shows nothing has left it.
+    fn after(table: Table<W, S>, call: Call) -> Recorder<W, S> {
+        let mut recording = Recording::new();
+        recording.tell(call, &Ok(()), |()| ().into(), |()| &[]);
+        Recorder { table, recording }
+    }
+
     /// The table as it is.
     pub fn table(&self) -> &Table<W, S> {
         &self.table
@@ -117,13 +115,8 @@ where
 {
     /// A table that is in service: the load of its snapshot is the first record. Refused where the table is not sound.
     pub fn over(table: Table<W, S>) -> Result<Recorder<W, S>> {
-        let snapshot = &table.snapshot()?[..];
-        let recording = Recording::new();
-        let mut recorder = Recorder { table, recording };
-        recorder
-            .recording
-            .plain(Call::LoadSnapshot { snapshot }, Ok(()))?;
-        Ok(recorder)
+        let snapshot = &table.snapshot()?;
+        Ok(Recorder::after(table, Call::LoadSnapshot { snapshot }))
     }
 
     /// [`Table::reset`], recorded.

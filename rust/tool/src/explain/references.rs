@@ -4,8 +4,6 @@ use super::{lists, Fault, Walk, Walked};
 use rimonakh::limits::MOST_LEVELS;
 use rimonakh::{Context, Error, Reference};
 
-const SIGNATURE: &[u8] = b"MEOW";
-
 /// Before the list and before the elements of an extended reference.
 const EXTENDED_SIGNATURE: u32 = 0x4E53_5956;
 
@@ -54,7 +52,7 @@ fn level(walk: &mut Walk, depth: usize, nil: &mut Option<Fault>) -> Walked<()> {
 fn header(walk: &mut Walk) -> Walked<u32> {
     let start = walk.place();
     let header = walk.take(24, "the header of a reference")?;
-    if !header.starts_with(SIGNATURE) {
+    if !header.starts_with(&Reference::SIGNATURE) {
         let found = crate::show::hex(&header[..4]);
         return walk.fault(
             start,
@@ -122,7 +120,7 @@ fn element(walk: &mut Walk, depth: usize, nil: &mut Option<Fault>) -> Walked<()>
     let start = walk.place();
     let data = walk.take(right, "the data of the element")?;
     let (data, padding) = data.split_at(size as usize);
-    if data.starts_with(SIGNATURE) {
+    if data.starts_with(&Reference::SIGNATURE) {
         level(&mut walk.inside(data, start), depth + 1, nil)?;
     }
     match padding.iter().position(|b| *b != 0) {

@@ -102,26 +102,31 @@ pub fn dump(out: &mut String, margin: &str, data: &[u8], place: usize) {
     cut(out, shown.len().saturating_sub(SHOWN), "more");
 }
 
-/// The bindings of a whole list, one to a line.
+/// The numbers N and S of a whole list and its length; then its bindings, one to a line.
 pub fn bindings(out: &mut String, margin: &str, bytes: &[u8]) -> Result<(), Error> {
+    let ((n, s), length) = (sizes(bytes), many(bytes.len(), "byte"));
+    let _ = writeln!(out, "{margin}binding list: N {n}, S {s}, {length}");
     for (k, b) in list::strings(bytes)?.enumerate() {
         let tower = Named(b.tower, protocol(b.tower));
         let address = text(b.address);
-        let _ = writeln!(out, "{margin}string {k}: tower {tower}, address {address}");
+        let _ = writeln!(
+            out,
+            "{margin}  string {k}: tower {tower}, address {address}"
+        );
     }
     for (k, b) in list::securities(bytes)?.enumerate() {
         let (service, name) = (Named(b.service, service(b.service)), text(b.name));
         let second = b.reserved;
         let _ = writeln!(
             out,
-            "{margin}security {k}: service {service}, second word {second:#06x}, principal {name}"
+            "{margin}  security {k}: service {service}, second word {second:#06x}, principal {name}"
         );
     }
     Ok(())
 }
 
 /// The numbers N and S of a whole list.
-pub fn sizes(bytes: &[u8]) -> (u16, u16) {
+fn sizes(bytes: &[u8]) -> (u16, u16) {
     let word = |at: usize| {
         bytes
             .get(at..at + 2)

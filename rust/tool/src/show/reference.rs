@@ -1,6 +1,6 @@
 //! References.
 
-use super::{bindings, dump, json_bindings, many, plain_hex, sizes, Paint};
+use super::{bindings, dump, json_bindings, many, plain_hex, Paint};
 use crate::json::{self, Json};
 use crate::names::{self, Known};
 use rimonakh::{Context, Error, Property, Reference};
@@ -32,10 +32,7 @@ fn level(out: &mut String, margin: &str, bytes: &[u8], paint: Paint) -> Result<(
     if r.flags == Reference::HANDLER {
         let _ = writeln!(out, "{margin}CLSID: {}", Known(r.clsid));
     }
-    let ((n, s), inner) = (sizes(tail), format!("{margin}  "));
-    let length = many(tail.len(), "byte");
-    let _ = writeln!(out, "{margin}binding list: N {n}, S {s}, {length}");
-    bindings(out, &inner, tail)?;
+    bindings(out, margin, tail)?;
     if r.flags == Reference::EXTENDED {
         element(out, margin, &r, Reference::element(bytes, 0)?, paint)?;
     }
@@ -89,7 +86,7 @@ fn property_flags(flags: u32) -> &'static str {
 }
 
 fn is_reference(data: &[u8]) -> bool {
-    data.starts_with(b"MEOW")
+    data.starts_with(&Reference::SIGNATURE)
 }
 
 fn element(

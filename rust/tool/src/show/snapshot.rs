@@ -1,6 +1,6 @@
 //! Snapshots.
 
-use super::{bindings, json_bindings, sizes, Paint};
+use super::{bindings, json_bindings, Paint};
 use crate::json::{self, Json};
 use crate::liveness::Silence;
 use crate::names::{self, Known};
@@ -44,11 +44,9 @@ pub fn text(s: &Snapshot, paint: Paint) -> Result<String, Error> {
 }
 
 fn exporter(out: &mut String, s: &Snapshot, x: &Exporter, paint: Paint) -> Result<(), Error> {
-    let (name, (n, w)) = (paint.bold("exporter"), sizes(x.list()));
-    let length = x.list().len();
+    let name = paint.bold("exporter");
     let _ = writeln!(out, "{name} {:#018x}, remote unknown {}", x.oxid, x.unknown);
-    let _ = writeln!(out, "  binding list: N {n}, S {w}, {length} bytes");
-    bindings(out, "    ", x.list())?;
+    bindings(out, "  ", x.list())?;
     for o in s.objects.iter().filter(|o| o.exporter == x.oxid) {
         object(out, s, o, paint);
     }
