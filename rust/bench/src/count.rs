@@ -1,5 +1,6 @@
 //! Instructions of each row and side: this program under valgrind's callgrind, which writes a file for each call of `measured`.
 
+use crate::measure::columns;
 use std::path::Path;
 use std::process::{Command, ExitCode};
 use std::{env, fs, io, process};
@@ -33,8 +34,8 @@ fn counted(folder: &Path, only: &str) -> io::Result<()> {
         return Err(io::Error::other(format!("callgrind failed: {said}")));
     }
     println!(
-        "{:<56} {:>12} {:>12} {:>8}",
-        "instructions", "library", "careful", "ratio"
+        "{}",
+        columns("instructions", ["library", "careful", "ratio"])
     );
     let rows = String::from_utf8_lossy(&output.stdout).into_owned();
     for (k, row) in rows.lines().enumerate() {
@@ -42,10 +43,9 @@ fn counted(folder: &Path, only: &str) -> io::Result<()> {
         let things: f64 = things.parse().map_err(io::Error::other)?;
         let library = total(folder, 2 * k + 1)? / things;
         let careful = total(folder, 2 * k + 2)? / things;
-        println!(
-            "{name:<56} {library:>12.1} {careful:>12.1} {:>8.2}",
-            library / careful
-        );
+        let ratio = format!("{:.2}", library / careful);
+        let [library, careful] = [library, careful].map(|n| format!("{n:.1}"));
+        println!("{}", columns(name, [&library, &careful, &ratio]));
     }
     Ok(())
 }

@@ -2,7 +2,7 @@
 
 use crate::measure::State;
 use plain::table as pt;
-use rimonakh::{Block, Context, Extension, Guid, Oid, OrpcThis, Oxid, Property, Reference};
+use rimonakh::{list, Block, Context, Extension, Guid, Oid, OrpcThis, Oxid, Property, Reference};
 
 /// An identifier, spread over its bits.
 pub fn spread(n: u64) -> u64 {
@@ -33,46 +33,23 @@ pub fn guid(g: plain::Guid) -> Guid {
     Guid((g.low as u128 | (g.high as u128) << 64).to_le_bytes())
 }
 
-fn bytes(words: &[u16]) -> Vec<u8> {
-    words.iter().flat_map(|w| w.to_le_bytes()).collect()
-}
-
 /// A binding list of n words: one string binding, no security binding.
-pub fn one_binding(n: u16) -> Vec<u8> {
-    let mut words = vec![n, n - 1, 7];
-    words.resize(n as usize - 1, b'a' as u16);
-    words.extend([0, 0, 0]);
-    bytes(&words)
+pub fn one_binding(n: usize) -> Vec<u8> {
+    list::of(&[(7, &"a".repeat(n - 4))], &[]).unwrap()
 }
 
 /// A binding list of about n words: string bindings of three words, no security binding.
-pub fn short_bindings(n: u16) -> Vec<u8> {
-    let count = (n - 2) / 3;
-    let mut words = vec![3 * count + 2, 3 * count + 1];
-    for _ in 0..count {
-        words.extend([7, b'a' as u16, 0]);
-    }
-    words.extend([0, 0]);
-    bytes(&words)
+pub fn short_bindings(n: usize) -> Vec<u8> {
+    list::of(&vec![(7, "a"); (n - 2) / 3], &[]).unwrap()
 }
 
 /// A binding list with n addresses as servers have them, and two security bindings.
 pub fn addresses(n: u16) -> Vec<u8> {
-    let mut strings = vec![];
-    for k in 0..n {
-        strings.push(7);
-        strings.extend(format!("192.168.{}.{}[49152]", k, 10 + k).encode_utf16());
-        strings.push(0);
-    }
-    strings.push(0);
-    let security = [10, 0xFFFF, 0, 9, 0xFFFF, 0, 0];
-    let mut words = vec![
-        (strings.len() + security.len()) as u16,
-        strings.len() as u16,
-    ];
-    words.extend(strings);
-    words.extend(security);
-    bytes(&words)
+    let address =
+        |list: list::Builder, k| list.string(7, &format!("192.168.{k}.{}[49152]", 10 + k));
+    let list = (0..n).fold(list::Builder::new(), address);
+    let list = list.security(10, 0xFFFF, "").security(9, 0xFFFF, "");
+    list.build().unwrap()
 }
 
 pub fn block() -> Block {

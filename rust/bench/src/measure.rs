@@ -114,10 +114,10 @@ impl Bench {
             return;
         };
         match self.mode {
-            Mode::Times => println!(
-                "\n{heading:<56} {:>12} {:>12} {:>8}",
-                "library, ns", "careful, ns", "ratio"
-            ),
+            Mode::Times => {
+                let cells = ["library, ns", "careful, ns", "ratio"];
+                println!("\n{}", columns(&heading, cells));
+            }
             Mode::Markdown => println!(
                 "\n| {heading} | library, ns | careful Rust, ns | ratio | quartiles |\n|---|---|---|---|---|"
             ),
@@ -225,18 +225,20 @@ impl Row<'_> {
         let ratios = library.iter().zip(&careful).map(|(a, b)| a / b);
         let [low, ratio, high] = quartiles(ratios.collect());
         let [library, careful] = [library, careful].map(|times| nanoseconds(quartiles(times)[1]));
-        let name = &self.name;
+        let (name, ratio) = (&self.name, format!("{ratio:.2}"));
+        let spread = format!("{low:.2} to {high:.2}");
         match self.bench.mode {
             Mode::Markdown => {
-                println!("| {name} | {library} | {careful} | {ratio:.2} | {low:.2} to {high:.2} |")
+                println!("| {name} | {library} | {careful} | {ratio} | {spread} |")
             }
-            _ => {
-                println!(
-                    "{name:<56} {library:>12} {careful:>12} {ratio:>8.2} ({low:.2} to {high:.2})"
-                )
-            }
+            _ => println!("{} ({spread})", columns(name, [&library, &careful, &ratio])),
         }
     }
+}
+
+/// A line of what is printed: a name, two sides and their ratio.
+pub fn columns(name: &str, [library, careful, ratio]: [&str; 3]) -> String {
+    format!("{name:<56} {library:>12} {careful:>12} {ratio:>8}")
 }
 
 fn quartiles(mut of: Vec<f64>) -> [f64; 3] {
