@@ -16,7 +16,8 @@ use model::Guid;
 use std::marker::PhantomData;
 use std::panic::{catch_unwind, AssertUnwindSafe};
 
-const LENGTH: usize = 8192;
+/// The words of a table, and the bytes of its store.
+pub const LENGTH: usize = 8192;
 
 /// An array and a store, each with one place more than a table has, for lengths that are too large.
 #[derive(Clone, PartialEq)]

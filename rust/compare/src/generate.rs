@@ -1,6 +1,7 @@
 //! Random lists, references and calls.
 
 use crate::call::{Call, Step};
+use crate::calls::LENGTH;
 use crate::decode;
 use crate::random::Random;
 use model::bytes::filtered_list;
@@ -463,13 +464,13 @@ impl Pools {
         if random.once_in(80) {
             let call = self.plain_call(random, e);
             let (words, store) = random.pick(&[
-                (0, 8192),
-                (1, 8192),
-                (8191, 8192),
-                (8193, 8192),
-                (8192, 0),
-                (8192, 8191),
-                (8192, 8193),
+                (0, LENGTH),
+                (1, LENGTH),
+                (LENGTH - 1, LENGTH),
+                (LENGTH + 1, LENGTH),
+                (LENGTH, 0),
+                (LENGTH, LENGTH - 1),
+                (LENGTH, LENGTH + 1),
                 (0, 0),
             ]);
             return Step::Lent { words, store, call };

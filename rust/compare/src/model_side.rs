@@ -2,6 +2,7 @@
 //! there.
 
 use crate::call::{counts, done, halves, released, told, written, Answer, Call, Calls, Reply};
+use crate::calls::LENGTH;
 use crate::decode;
 use crate::subject::Subject;
 use model::entries::{Counts, Entries, Stop, Way};
@@ -162,7 +163,7 @@ impl Subject for Model {
     const NAME: &'static str = "model";
 
     fn perform(words: &mut [u64], store: &mut [u8], call: &Call) -> Reply {
-        if words.len() != 8192 || store.len() != 8192 {
+        if (words.len(), store.len()) != (LENGTH, LENGTH) {
             return call.refused(1);
         }
         let before = decode::entries(words, store);

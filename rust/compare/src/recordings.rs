@@ -3,7 +3,7 @@
 //! bytes, and its reader refuses the same ones.
 
 use crate::call::{Call, Reply};
-use crate::calls::Memory;
+use crate::calls::{Memory, LENGTH};
 use crate::decode;
 use crate::generate::Pools;
 use crate::model_side::{Model, Side};
@@ -79,6 +79,14 @@ pub fn bytes(records: &[Record]) -> Vec<u8> {
     bytes
 }
 
+/// Lengths of which one is not a table's.
+const OTHER_LENGTHS: [(usize, usize); 4] = [
+    (LENGTH - 1, LENGTH),
+    (LENGTH + 1, LENGTH),
+    (LENGTH, LENGTH - 1),
+    (LENGTH, LENGTH + 1),
+];
+
 /// What replays a recording over an array and a store.
 pub trait Replays {
     fn replay(words: &mut [u64], store: &mut [u8], recording: &[u8]) -> Result<Outcome, u32>;
@@ -115,7 +123,7 @@ impl Replays for Plain {
 
 impl Replays for Model {
     fn replay(words: &mut [u64], store: &mut [u8], recording: &[u8]) -> Result<Outcome, u32> {
-        if words.len() != 8192 || store.len() != 8192 {
+        if (words.len(), store.len()) != (LENGTH, LENGTH) {
             return Err(1);
         }
         let mut entries = Entries::empty(0);
@@ -294,7 +302,7 @@ impl Runs {
     /// A table of another length is refused by 1, whatever the recording is.
     fn lengths(&mut self, recording: &[u8]) -> Result<(), String> {
         let before = self.memory.clone();
-        for (n, m) in [(8191, 8192), (8193, 8192), (8192, 8191), (8192, 8193)] {
+        for (n, m) in OTHER_LENGTHS {
             let (words, store) = self.memory.all();
             let (words, store) = (&mut words[..n], &mut store[..m]);
             let numbers = [

@@ -71,7 +71,7 @@ pub use headers::{Extension, Extensions, OrpcThat, OrpcThis, Read};
 pub use ids::{Guid, NoGuid, Oid, Oxid, SetId};
 pub use limits::{BYTES, LONGEST_SNAPSHOT, WORDS};
 pub use list::{Part, SecurityBinding, StringBinding, Text};
-pub use recording::{Outcome, Recorder, Tally};
+pub use recording::recorder::{Outcome, Recorder, Tally};
 pub use references::{Block, Context, Property, Reference};
 pub use snapshot::Snapshot;
 pub use table::{snapshot_clock, Counts, Item, Pinged, Released, Resolved, Stop, Table};

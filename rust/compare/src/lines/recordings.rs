@@ -21,6 +21,7 @@
 use super::table::{call, print_entries, Stops};
 use super::{all_seen, each_line, Answers, Arguments, Seen};
 use crate::call::Call;
+use crate::calls::LENGTH;
 use crate::decode;
 use crate::model_side::Model;
 use crate::recordings::{bytes, read, Record, Replays};
@@ -64,7 +65,7 @@ impl Lines {
         let (mut words, mut store) = before;
         let plain = Plain::replay(&mut words[..n], &mut store[..m], recording);
         assert_eq!(plain, outcome, "plain Rust");
-        if (n, m) == (8192, 8192) {
+        if (n, m) == (LENGTH, LENGTH) {
             assert_eq!(read(recording), outcome.map(drop), "the reader");
         }
         self.seen.insert((b'p', outcome.err().unwrap_or(0)));
@@ -72,7 +73,7 @@ impl Lines {
     }
 
     fn whole<S: Side>(&mut self, recording: &[u8]) -> Result<Outcome, u32> {
-        self.replay::<S>(recording, 8192, 8192)
+        self.replay::<S>(recording, LENGTH, LENGTH)
     }
 
     fn printed<S: Side>(&mut self, recording: &[u8], n: usize, m: usize) -> String {
@@ -83,7 +84,7 @@ impl Lines {
                     0 => "agrees".to_string(),
                     k => format!("differs at {k}"),
                 };
-                let e = decode::entries(&self.lent.0[..8192], &self.lent.1[..8192]);
+                let e = decode::entries(&self.lent.0[..LENGTH], &self.lent.1[..LENGTH]);
                 let c = e.census();
                 format!(
                     "0 {found}, granted {} taken {} rundown {} held {}; clock {} exporters {} objects {} interfaces {} sets {}\n",
@@ -179,7 +180,7 @@ impl Lines {
                 self.lent.1.fill(value as u8);
                 String::new()
             }
-            b'p' => self.printed::<S>(&a.changed(bytes(&self.records)), 8192, 8192),
+            b'p' => self.printed::<S>(&a.changed(bytes(&self.records)), LENGTH, LENGTH),
             b'e' => {
                 let (k, name) = (a.number() as usize - 1, a.name());
                 let i = SECTIONS.iter().position(|s| s.as_bytes() == name);
@@ -188,7 +189,7 @@ impl Lines {
                     let section = r.sections()[i].clone();
                     *r.sections()[i] = a.changed(section);
                 });
-                self.printed::<S>(&changed, 8192, 8192)
+                self.printed::<S>(&changed, LENGTH, LENGTH)
             }
             b'N' => {
                 let (n, m) = (a.number() as usize, a.number() as usize);
@@ -202,7 +203,7 @@ impl Lines {
             }
             b'f' => self.lengths::<S>(),
             b'g' => self.other_answers::<S>(),
-            b'P' => print_entries(&self.lent.0[..8192], &self.lent.1[..8192]),
+            b'P' => print_entries(&self.lent.0[..LENGTH], &self.lent.1[..LENGTH]),
             b'i' => {
                 let load = Call::LoadSnapshot {
                     snapshot: a.changed(self.saved.clone()),
@@ -217,8 +218,8 @@ impl Lines {
 pub fn run<S: Side>(input: &[u8]) -> String {
     let memory = |n| (vec![0u64; n], vec![0u8; n]);
     let mut lines = Lines {
-        recorded: memory(8192),
-        lent: memory(8193), // one place more than a table has
+        recorded: memory(LENGTH),
+        lent: memory(LENGTH + 1), // one place more than a table has
         records: Vec::new(),
         last: Call::Census {},
         saved: Vec::new(),

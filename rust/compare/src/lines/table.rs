@@ -26,6 +26,7 @@
 
 use super::{all_seen, each_line, hex, text, Arguments, Seen};
 use crate::call::{buffer, Call, Reply, ANSWERS};
+use crate::calls::LENGTH;
 use crate::decode::{self, encode, guid, EXPORTERS, INTERFACES, OBJECTS, SETS};
 use crate::generate::long_list;
 use crate::model_side::Model;
@@ -80,8 +81,8 @@ struct Lines<S> {
 
 pub fn run<S: Stops>(input: &[u8]) -> String {
     let mut lines = Lines::<S> {
-        words: vec![0; 8192],
-        store: vec![0; 8192],
+        words: vec![0; LENGTH],
+        store: vec![0; LENGTH],
         saved: Vec::new(),
         seen: Seen::new(),
         side: PhantomData,

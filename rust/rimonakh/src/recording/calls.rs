@@ -1,7 +1,7 @@
 //! The calls of a recording and their results, in one table each: what writes, reads, shows and performs a record goes by it.
 
 use super::fields::{Argument, Field, FromRest, Oids, Protocols, Rest, Room};
-use super::Recorder;
+use super::recorder::Recorder;
 use crate::{Counts, Guid, Oid, Oxid, Pinged, Released, Resolved, Result, SetId};
 use core::iter::Flatten;
 use core::{array, fmt};
@@ -58,7 +58,7 @@ macro_rules! results {
                 $(#[$doc])+
                 $kind {
                     $(
-                        #[doc = words!($field $(as $name)?)]
+                        #[doc = concat!("Shown as `", words!($field $(as $name)?), "`.")]
                         $field: $type,
                     )*
                 },
@@ -158,7 +158,7 @@ macro_rules! calls {
                 #[doc = concat!("[`Table::", stringify!($function), "`](crate::Table::", stringify!($function), ").")]
                 $call {
                     $(
-                        #[doc = words!($field $(as $words)?)]
+                        #[doc = concat!("Shown as `", words!($field $(as $words)?), "`.")]
                         $field: $type,
                     )*
                 },

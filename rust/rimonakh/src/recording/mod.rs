@@ -25,12 +25,11 @@ mod calls;
 mod fault;
 mod fields;
 mod reader;
-mod recorder;
+pub(crate) mod recorder;
 mod writer;
 
 pub use calls::{Answer, Call, Record, Results};
 pub use fault::Fault;
 pub use fields::{Oids, Protocols, Room};
 pub use reader::Records;
-pub use recorder::{Outcome, Recorder, Tally};
 pub use writer::Recording;
