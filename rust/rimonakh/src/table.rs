@@ -6,7 +6,7 @@ use crate::{Guid, Oid, Outcome, Oxid, Result, SetId, Snapshot};
 use alloc::boxed::Box;
 use alloc::vec;
 use alloc::vec::Vec;
-use core::fmt;
+use core::{array, fmt};
 
 /// Numbers of each kind: of live entries, or of those that went.
 #[repr(C)]
@@ -57,6 +57,23 @@ impl Item {
         bytes[16..20].copy_from_slice(&self.public.to_le_bytes());
         bytes[20..].copy_from_slice(&self.private.to_le_bytes());
         bytes
+    }
+
+    /// The items of a list, from its bytes; a part of an item at the end, for which the list is refused, is left out.
+    ///
+    /// ```
+    /// use rimonakh::{Guid, Item};
+    ///
+    /// let item = Item { ipid: Guid([2; 16]), public: 5, private: 0 };
+    /// assert!(Item::all(&[item.to_bytes(); 3].concat()).eq([item; 3]));
+    /// ```
+    pub fn all(list: &[u8]) -> impl ExactSizeIterator<Item = Item> + '_ {
+        let count = |item: &[u8], at| u32::from_le_bytes(array::from_fn(|k| item[at + k]));
+        list.chunks_exact(Item::SIZE).map(move |item| Item {
+            ipid: Guid(array::from_fn(|k| item[k])),
+            public: count(item, 16),
+            private: count(item, 20),
+        })
     }
 }
 

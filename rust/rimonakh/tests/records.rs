@@ -8,7 +8,7 @@ use rimonakh::limits::MOST_RECORDS;
 use rimonakh::recording::{
     Answer, Call, Oids, Protocols, Record, Recording, Records, Results, Room,
 };
-use rimonakh::{list, Error, Item, Oid, Oxid, Recorder, SetId, Table};
+use rimonakh::{list, Error, Guid, Item, Oid, Oxid, Recorder, SetId, Table};
 use std::collections::BTreeSet;
 
 const DAY: &[u8] = include_bytes!("../../../examples/day.recording");
@@ -216,6 +216,12 @@ fn results() {
     assert_eq!(Table::new(0).load_snapshot(snapshot), Ok(()));
     assert_eq!(told(6), (released, &[][..]));
     assert_eq!(told(8), (Results::Done {}, &[0, 6][..]));
+    let Call::AddList { items, .. } = of(8).call else {
+        panic!("{:?}", of(8));
+    };
+    let ipids: Vec<Guid> = Item::all(items).map(|item| item.ipid).collect();
+    assert_eq!(ipids, [guid(4), guid(9)]);
+    assert_eq!(Item::all(&items[1..]).len(), 1);
     assert_eq!(told(11), (pinged, &[][..]));
     assert_eq!(told(12), (counts(0, 1, 1, 1), &[][..]));
     assert_eq!(told(13), (resolved, &given.list[..]));
