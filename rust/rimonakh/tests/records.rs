@@ -282,6 +282,9 @@ fn the_stored_day() {
     assert_eq!(found.len(), 40);
     let again: Recording = found.iter().copied().collect();
     assert_eq!(again.bytes(), DAY);
+    assert_eq!(format!("{again:?}"), "Recording { records: 40 }");
+    let shown = format!("{:?}", Records::read(DAY).unwrap());
+    assert_eq!(shown, format!("{found:?}"));
     let Call::Reset { time } = found[0].call else {
         panic!("{:?}", found[0]);
     };

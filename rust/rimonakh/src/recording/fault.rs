@@ -58,6 +58,13 @@ pub(super) enum Form {
     Mark(u8),
 }
 
+impl Fault {
+    pub(super) fn layout(at: usize, rule: Rule) -> Fault {
+        let error = Error::Layout;
+        Fault { error, at, rule }
+    }
+}
+
 impl fmt::Display for Section {
     fn fmt(&self, f: &mut fmt::Formatter<'_>) -> fmt::Result {
         f.write_str(match self {

@@ -5,11 +5,12 @@ use super::fields::Rest;
 use super::{Answer, Call, Fault, Record};
 use crate::limits::MOST_RECORDS;
 use crate::Error;
+use core::fmt;
 use core::iter::FusedIterator;
 
 /// The records of a recording, in order: of bytes that [`Table::replay`](crate::Table::replay) does not refuse, and no others.
 /// Nothing is copied.
-#[derive(Clone, Debug)]
+#[derive(Clone)]
 pub struct Records<'a> {
     walk: Walk<'a>,
     left: usize,
@@ -35,7 +36,7 @@ impl<'a> Records<'a> {
         }
         match walk.rest().len() {
             0 => (),
-            left => return Err(walk.layout(walk.at, Rule::LeftOver(left))),
+            left => return Err(Fault::layout(walk.at, Rule::LeftOver(left))),
         }
         if count > MOST_RECORDS {
             let (error, rule) = (Error::TooMany, Rule::TooMany(count));
@@ -45,6 +46,13 @@ impl<'a> Records<'a> {
             walk: first,
             left: count as usize,
         })
+    }
+}
+
+/// Shows the records that are left.
+impl fmt::Debug for Records<'_> {
+    fn fmt(&self, f: &mut fmt::Formatter<'_>) -> fmt::Result {
+        f.debug_list().entries(self.clone()).finish()
     }
 }
 
@@ -65,7 +73,7 @@ impl ExactSizeIterator for Records<'_> {}
 impl FusedIterator for Records<'_> {}
 
 /// Bytes that are read from the front, and the number of the record that is being read.
-#[derive(Clone, Copy, Debug)]
+#[derive(Clone, Copy)]
 struct Walk<'a> {
     bytes: &'a [u8],
     at: usize,
@@ -80,13 +88,8 @@ impl<'a> Walk<'a> {
         &self.bytes[self.at..]
     }
 
-    fn layout(&self, at: usize, rule: Rule) -> Fault {
-        let error = Error::Layout;
-        Fault { error, at, rule }
-    }
-
     fn broken(&self, at: usize, form: Form) -> Fault {
-        self.layout(at, Rule::Broken(self.record, form))
+        Fault::layout(at, Rule::Broken(self.record, form))
     }
 
     fn take(&mut self, n: u64, what: Cut) -> Result<&'a [u8], Fault> {

@@ -4,6 +4,7 @@ use super::{Answer, Call, Record, Results};
 use crate::Result;
 use alloc::vec;
 use alloc::vec::Vec;
+use core::fmt;
 
 /// Records that are written down. The records of another recording can be collected:
 ///
@@ -18,8 +19,16 @@ use alloc::vec::Vec;
 /// assert_eq!(Table::new(0).replay(reset.bytes())?.differs, None);
 /// # Ok::<(), rimonakh::Error>(())
 /// ```
-#[derive(Clone, Debug, PartialEq, Eq)]
+#[derive(Clone, PartialEq, Eq)]
 pub struct Recording(Vec<u8>);
+
+/// Shows the number of records.
+impl fmt::Debug for Recording {
+    fn fmt(&self, f: &mut fmt::Formatter<'_>) -> fmt::Result {
+        let mut shown = f.debug_struct("Recording");
+        shown.field("records", &self.records()).finish()
+    }
+}
 
 impl Recording {
     /// Of no records.
