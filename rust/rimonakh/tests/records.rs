@@ -331,6 +331,49 @@ fn damaged() {
     }
 }
 
+/// The sections of all records, five to a record.
+fn sections(recording: &[u8]) -> Vec<Vec<u8>> {
+    let mut rest = &recording[8..];
+    let mut found = Vec::new();
+    while let Some((size, behind)) = rest.split_first_chunk() {
+        let (section, behind) = behind.split_at(u64::from_le_bytes(*size) as usize);
+        found.push(section.to_vec());
+        rest = behind;
+    }
+    found
+}
+
+/// Each section of each record longer, shorter, empty, and with another first or last byte.
+#[test]
+fn of_another_form() {
+    let mut table = Table::new(0);
+    let day = recorded(&Given::new());
+    let whole = sections(day.recording());
+    let mut refused = 0;
+    for k in 0..whole.len() {
+        let other: [fn(&mut Vec<u8>); 7] = [
+            |s| s.push(0),
+            |s| s.extend([0; 8]),
+            |s| s.truncate(s.len().saturating_sub(1)),
+            Vec::clear,
+            |s| s.iter_mut().take(1).for_each(|b| *b = 20),
+            |s| s.iter_mut().rev().take(1).for_each(|b| *b = 1),
+            |s| s.iter_mut().rev().take(1).for_each(|b| *b = 2),
+        ];
+        for change in other {
+            let mut sections = whole.clone();
+            change(&mut sections[k]);
+            let mut bytes = day.records().to_le_bytes().to_vec();
+            for section in sections {
+                bytes.extend((section.len() as u64).to_le_bytes());
+                bytes.extend(section);
+            }
+            refused += usize::from(agrees(&mut table, &bytes));
+        }
+    }
+    assert!(refused > 2 * whole.len(), "{refused}");
+}
+
 #[test]
 fn too_many() {
     let call = Call::Census {};
