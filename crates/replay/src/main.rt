@@ -5,7 +5,6 @@ use kinds::limits;
 use print::Buffer;
 use tally::Tally;
 
-mod answers;
 mod ours;
 mod record;
 

@@ -1,6 +1,4 @@
 // Our answer to the call of a record.
-use crate::answers;
-use crate::record;
 use print::Buffer;
 use replay_answers::Answered;
 
@@ -43,7 +41,7 @@ fn buffered<'a>(
 fn told<'a>(out: &'a mut Buffer, code: u8, a: Answered, recorded: &'a [u8], s: &'a [u8]) {
     print::text(out, b"ours: ");
     numbers(out, code, a);
-    record::listed(out, b"  shown: ", s);
+    replay_lines::listed(out, b"  shown: ", s);
     let at = first_difference(recorded, s);
     if at != s.len() {
         differs_from(out, at);
@@ -60,7 +58,7 @@ fn numbers(out: &mut Buffer, code: u8, a: Answered) {
     fields::write_u64(&mut bytes, 16, a.b);
     fields::write_u64(&mut bytes, 24, a.c);
     fields::write_u64(&mut bytes, 32, a.d);
-    answers::answer(out, code, &bytes);
+    replay_lines::answer(out, code, &bytes);
 }
 
 fn differs_from(out: &mut Buffer, at: usize) {

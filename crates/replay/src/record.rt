@@ -1,5 +1,4 @@
 // The record that differs.
-use crate::answers;
 use crate::ours;
 use print::Buffer;
 
@@ -59,23 +58,15 @@ fn compared<'a>(
     let first = section(s, e.call, e.first);
     let second = section(s, e.first, e.second);
     let shown = section(s, e.answer, e.shown);
-    answers::call(out, call);
-    listed(out, b"  list: ", first);
-    listed(out, b"  deletes: ", second);
+    replay_lines::call(out, call);
+    replay_lines::listed(out, b"  list: ", first);
+    replay_lines::listed(out, b"  deletes: ", second);
     print::text(out, b"recorded: ");
-    answers::answer(
+    replay_lines::answer(
         out,
         recording::byte(call, 0),
         section(s, e.second, e.answer),
     );
-    listed(out, b"  shown: ", shown);
+    replay_lines::listed(out, b"  shown: ", shown);
     ours::compared(out, words, store, call, first, second, shown);
-}
-
-// Bytes, if there are any.
-pub fn listed(out: &mut Buffer, what: &[u8], s: &[u8]) {
-    if s.len() != 0 {
-        print::text(out, what);
-        print::dump::content(out, s, 1);
-    }
 }

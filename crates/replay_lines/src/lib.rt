@@ -94,3 +94,11 @@ fn length(lines: &[u8]) -> usize {
     }
     i
 }
+
+// Bytes, if there are any.
+pub fn listed(out: &mut Buffer, what: &[u8], s: &[u8]) {
+    if s.len() != 0 {
+        print::text(out, what);
+        print::dump::content(out, s, 1);
+    }
+}
