@@ -113,15 +113,8 @@ fn note_rows<'a>(words: &'a [u64], bytes: usize, rows: &'a mut [u8; buckets::BUC
     while 0 < i {
         i -= 1;
         let b = buckets::of_guid(find::ipid(words, i));
-        rows[b] = number_of(i);
+        rows[b] = buckets::number_of(i);
     }
-}
-
-// The number of a row: one more, so that 0 is no row's.
-fn number_of(row: usize) -> u8
-    ensures { λ r. ⌜ 0 < r ⌝ }
-{
-    if row < 255 { (row + 1) as u8 } else { 255 }
 }
 
 // The row of a number.
@@ -189,7 +182,7 @@ fn follow_row<'a>(
     if n == before {
         return n;
     }
-    let gone = number_of(row);
+    let gone = buckets::number_of(row);
     let mut b = 0;
     while b < buckets::BUCKETS {
         rows[b] = moved(rows[b], gone);

@@ -249,9 +249,7 @@ fn number_of(next: usize, most: usize) -> u8
     ensures { λ r. ⌜ NumberOf next most r ⌝ }
 {
     if next <= most {
-        if next < 255 {
-            return next as u8;
-        }
+        return buckets::number_of(next - 1);
     }
     255
 }

@@ -1,7 +1,7 @@
 // Buckets of words and GUIDs: the same ones share a bucket.
 use kinds::Guid;
 ghost use mathlib.Core.Path.{_≡_};
-ghost use Prim.Native.Nat.{_<_};
+ghost use Prim.Native.Nat.{_+_, _<_};
 ghost use Rattle.table_columns.specs.Buckets.{guidBucket, lowBucket, wordBucket};
 
 // How many there are.
@@ -24,4 +24,11 @@ pub fn low_of_guid(g: Guid) -> usize
     ensures { λ r. ⌜ (r ≡ lowBucket g) × (r < 4096) ⌝ }
 {
     (g.low % 4096) as usize
+}
+
+// The number of a row in an index: one more, so that 0 is no row's, but 255 for every row from 254 on.
+pub fn number_of(row: usize) -> u8
+    ensures { λ r. ⌜ (0 < r) × (r < 255 → r ≡ row + 1) ⌝ }
+{
+    if row < 254 { (row + 1) as u8 } else { 255 }
 }
