@@ -16,7 +16,7 @@ use Rattle.lists.proofs.Lists.{map-unread-at}
 use Rattle.lists.proofs.First.{some-first, first-le}
 use Rattle.lists.proofs.Distinct.{sublist-keep}
 use Rattle.table_columns.specs.Buckets.{guidBucket, Indexed}
-use Rattle.table_columns.proofs.buckets.Marks.{each-absent}
+use Rattle.table_columns.proofs.buckets.Absence.{each-absent}
 use Rattle.rules.specs.Entries.{Interface, Entries, interfaceIpids, interfaceRow}
 use Rattle.rules.specs.Calls.{Counting, adding, releasing}
 use Rattle.rules.specs.Items.{Item, itemCall}

@@ -1,18 +1,14 @@
--- What a sound table lends: its words, and the row and the list of an exporter that was found.
+-- What a sound table lends: the row and the list of an exporter that was found.
 use Prim.Native.Nat.{ℕ, _<_}
 use mathlib.Core.Path.{_≡_}
 use mathlib.Core.Bool.{true}
 use mathlib.Core.List.{List}
 use native.Mathlib.Omega.{arith}
 use Rattle.rules.specs.Sound.{listsKept}
-use Rattle.rules.specs.Contract.{Whole}
 use Rattle.rules.proofs.SoundLaws.{sound-fields}
 use Rattle.table_view.specs.View.{exporterCount, memory, view, SoundTable}
 
 module _ (ws s : List ℕ) (t : SoundTable (memory ws s)) where
-  pub whole : Whole ws
-  whole = t .words
-
   pub lists-kept : listsKept (view (memory ws s)) ≡ true
   lists-kept = sound-fields (view (memory ws s)) (t .entries) .listsKept
 

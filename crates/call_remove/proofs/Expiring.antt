@@ -15,7 +15,6 @@ use Rattle.lists.specs.Lists.{distinct}
 use Rattle.rules.specs.Sound.{proper, interfaceObjectsLive, setMembersLive, heardWithin, pingedWithin}
 use Rattle.rules.specs.Rules.{refusals, number, next, results, refusedReply, acceptedReply, clockValues}
 use Rattle.rules.proofs.SoundLaws.{sound-fields}
-use Rattle.rules.specs.Contract.{Whole}
 use Rattle.rules.proofs.LeavingKeeps.{clock-next}
 use Rattle.table_view.specs.View.{objectCount, interfaceCount, setCount, oidsOf, membersBelow, memory, view, Holds, SoundTable, Stepped}
 use Rattle.table_edit.specs.Edits.{Became}
@@ -25,10 +24,6 @@ use Rattle.table_settle.proofs.Settling.{asked}
 use Rattle.call_remove.specs.Replies.{clockReply}
 use Rattle.table_settle.specs.declared.Leaving.the-variants.{Unheard}
 use Rattle.table_view.proofs.Steps.{refused-step, accepted-step}
-
--- the words of a sound table
-pub whole : (ws s : List ℕ) → SoundTable (memory ws s) → Whole ws
-whole ws s h = h .words
 
 -- the clock would go back
 pub clock-back : (ws s : List ℕ) (t k : ℕ) → k ≡ getD ws 0 0 → t < k

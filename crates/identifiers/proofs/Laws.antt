@@ -15,7 +15,7 @@ use Rattle.lists.proofs.First.{first-at, some-first}
 use Rattle.lists.proofs.Lists.{every-mono, every-ext, none-some, some-at, some-cons}
 use Rattle.lists.proofs.Distinct.{eqb-decides, same-comm, distinct-none, distinct-cons, distinct-at}
 use Rattle.table_columns.specs.Buckets.{wordBucket}
-use Rattle.table_columns.proofs.buckets.Marks.{each-absent}
+use Rattle.table_columns.proofs.buckets.Absence.{each-absent}
 use Rattle.identifiers.proofs.Noting.{Before, each-indexed}
 use Rattle.identifiers.specs.Index.{climbing, noted, IndexedWords, Noted, Tried, RowOf}
 

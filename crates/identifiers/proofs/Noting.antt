@@ -13,7 +13,7 @@ use Rattle.lists.specs.Lists.{every, some, distinct}
 use Rattle.lists.proofs.Tests.{true-or-false, and-intro, and-left, and-right}
 use Rattle.lists.proofs.Lists.{every-nil, every-mono}
 use Rattle.lists.proofs.Distinct.{Decides, distinct-cons}
-use Rattle.table_columns.proofs.buckets.Marks.{absent, repeated}
+use Rattle.table_columns.proofs.buckets.Absence.{absent, repeated}
 use Rattle.identifiers.specs.Index.{noted, Filled, Put}
 
 -- ---- lists

@@ -1,2 +1,2 @@
 -- Absence and distinctness by buckets.
-pub mod Marks
+pub mod Absence

@@ -11,7 +11,7 @@ use Rattle.kinds.specs.declared.Guid.{Guid}
 use Rattle.rules.specs.Entries.{Entries, exporterRow, objectRow, interfaceRow, setRow}
 use Rattle.rules.specs.Calls.{Call, Reply}
 use Rattle.rules.specs.Rules.{isLiveExporter, isLiveObject, isLiveInterface, isLiveSet, noExporter, exporterOf, number, next, refusedReply, acceptedReply}
-use Rattle.rules.specs.Contract.{Memory, lengthsOnly}
+use Rattle.rules.specs.Contract.{Memory, Whole, lengthsOnly}
 use Rattle.rules.proofs.Performing.{unsound}
 use Rattle.rules.proofs.Stepping as stepping
 use Rattle.rules.proofs.Stepping.{performed-step}
@@ -22,6 +22,10 @@ use Rattle.table_view.proofs.MemberRows.{live-below}
 use Rattle.table_view.proofs.LiveRows.{exporters-length, objects-length, interfaces-length, sets-length}
 
 -- ---- calls
+
+-- the words of a sound table
+pub whole : (ws s : List ℕ) → SoundTable (memory ws s) → Whole ws
+whole ws s t = t .words
 
 module _ {r : Bool} {m : Memory} (judged : r ≡ soundMemory m) where
   -- the table that a call goes on with

@@ -1,7 +1,7 @@
 -- `call_ping::complex_ping_bytes_step`: as `complex_ping_step`, of the OIDs in bytes.
-use Rattle.table_view.proofs.Steps.{sound-below}
+use Rattle.table_view.proofs.Steps.{whole, sound-below}
 use Rattle.call_ping.specs.Pinging.{oidsIn}
-use Rattle.call_ping.proofs.Taking.{whole, oids-proper}
+use Rattle.call_ping.proofs.Taking.{oids-proper}
 use Rattle.call_ping.proofs.ComplexPings.{Passed, passed-bytes, bytes-refused, named-set, not-live, both-listed}
 use borrow.Author.Needs.{needs}
 use Rattle.call_ping.proofs.complex_ping_bytes_step.Statement.{statement}

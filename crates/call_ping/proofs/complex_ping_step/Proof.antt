@@ -1,6 +1,6 @@
 -- `call_ping::complex_ping_step`: what its early number refuses; else the lists are read, and the rest goes by what is left of them.
-use Rattle.table_view.proofs.Steps.{sound-below}
-use Rattle.call_ping.proofs.Taking.{whole, oids-proper}
+use Rattle.table_view.proofs.Steps.{whole, sound-below}
+use Rattle.call_ping.proofs.Taking.{oids-proper}
 use Rattle.call_ping.proofs.ComplexPings.{Passed, passed-early, early-refused, named-set, not-live, both-listed}
 use borrow.Author.Needs.{needs}
 use Rattle.call_ping.proofs.complex_ping_step.Statement.{statement}

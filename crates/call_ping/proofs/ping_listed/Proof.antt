@@ -1,5 +1,5 @@
 -- `call_ping::ping_listed`: what its number refuses; else the set's row is found or made, updated and pinged.
-use Rattle.call_ping.proofs.Taking.{whole}
+use Rattle.table_view.proofs.Steps.{whole}
 use Rattle.call_ping.proofs.ComplexPings.{late-refused, set-fits, RowMade, update-asked, still-row, still-proper, pinged-done}
 use borrow.Author.Needs.{needs}
 use Rattle.call_ping.proofs.ping_listed.Statement.{statement}

@@ -1,5 +1,6 @@
 -- `call_remove::clock_step`: a time before the clock is refused; else the sets go, then the objects, and the counts fall.
-use Rattle.call_remove.proofs.Expiring.{whole, clock-back, Ticked, ticked, settling-asked, Settled, settled, fewer-objects, fewer-interfaces, fewer-sets, clock-done}
+use Rattle.table_view.proofs.Steps.{whole}
+use Rattle.call_remove.proofs.Expiring.{clock-back, Ticked, ticked, settling-asked, Settled, settled, fewer-objects, fewer-interfaces, fewer-sets, clock-done}
 use borrow.Author.Needs.{needs}
 use Rattle.call_remove.proofs.clock_step.Statement.{statement}
 use Rattle.call_remove.proofs.clock_step.Tie as tie

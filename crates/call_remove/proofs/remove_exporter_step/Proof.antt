@@ -1,5 +1,5 @@
 -- `call_remove::remove_exporter_step`: an exporter that is not live is refused; else its objects go, and then its row.
-use Rattle.call_remove.proofs.Expiring.{whole}
+use Rattle.table_view.proofs.Steps.{whole}
 use Rattle.call_remove.proofs.Removing.{no-exporter, settling, row-asked, exporter-gone}
 use borrow.Author.Needs.{needs}
 use Rattle.call_remove.proofs.remove_exporter_step.Statement.{statement}

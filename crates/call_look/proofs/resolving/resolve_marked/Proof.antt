@@ -1,7 +1,8 @@
 -- `resolving::resolve_marked`: an exporter that is not live; else the step by the marked towers that its list has.
 use mathlib.Core.Path.{sym}
 use lib.Seq.{length-take-le}
-use Rattle.call_look.proofs.Taking.{whole, row-below, lists-kept}
+use Rattle.table_view.proofs.Steps.{whole}
+use Rattle.call_look.proofs.Taking.{row-below, lists-kept}
 use Rattle.call_look.proofs.resolving.FilteredReplies.{good-list, towers-fit, filtered-gone, towers-alike}
 use borrow.Author.Needs.{needs}
 use Rattle.call_look.proofs.resolving.resolve_marked.Statement.{statement}

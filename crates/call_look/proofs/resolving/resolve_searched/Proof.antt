@@ -1,6 +1,7 @@
 -- `resolving::resolve_searched`: too many protocols, an exporter that is not live, then a filtered list that does not fit; else that list is written.
 use borrow.Author.Tests.{le-ltb}
-use Rattle.call_look.proofs.Taking.{whole, row-below, lists-kept}
+use Rattle.table_view.proofs.Steps.{whole}
+use Rattle.call_look.proofs.Taking.{row-below, lists-kept}
 use Rattle.call_look.proofs.resolving.FilteredReplies.{too-many, filtered-gone, filter-refuses, filter-writes}
 use borrow.Author.Needs.{needs}
 use Rattle.call_look.proofs.resolving.resolve_searched.Statement.{statement}

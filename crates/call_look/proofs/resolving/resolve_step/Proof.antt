@@ -1,5 +1,6 @@
 -- `resolving::resolve_step`: an exporter that is not live is refused, then a list that does not fit; else the list is copied.
-use Rattle.call_look.proofs.Taking.{whole, row-below, lists-kept}
+use Rattle.table_view.proofs.Steps.{whole}
+use Rattle.call_look.proofs.Taking.{row-below, lists-kept}
 use Rattle.call_look.proofs.resolving.Resolving.{plain, gone, no-room, copied}
 use borrow.Author.Needs.{needs}
 use Rattle.call_look.proofs.resolving.resolve_step.Statement.{statement}

@@ -1,5 +1,6 @@
 -- `routing::next_stop_step`: the reference's refusal, a custom reference, then the exporter's list or the reference's own.
-use Rattle.call_look.proofs.Taking.{whole, row-below, lists-kept}
+use Rattle.table_view.proofs.Steps.{whole}
+use Rattle.call_look.proofs.Taking.{row-below, lists-kept}
 use Rattle.call_look.proofs.Stopping.{bad-reference, custom-form, live-exporter, no-exporter}
 use borrow.Author.Needs.{needs}
 use Rattle.call_look.proofs.routing.next_stop_step.Statement.{statement}
