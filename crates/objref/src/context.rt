@@ -3,17 +3,31 @@ use contexts::Context;
 use contexts::Property;
 use kinds::answer;
 use print::Buffer;
+use print::pattern;
 
 pub fn report(out: &mut Buffer, s: &[u8], n: usize) {
     let r = Context::read(s);
     let context = r.context;
-    let id = context.id;
-    print::line::identifier(out, n, b"context id: ", id);
-    print::line::bits(out, n, b"reserved: 0x", context.reserved);
-    print::line::bits(out, n, b"marshal flags: 0x", context.marshal);
-    print::line::number(out, n, b"frozen: ", context.frozen);
-    print::line::number(out, n, b"properties: ", context.count);
+    fixed(out, context, n);
     properties(out, s, n);
+}
+
+// The fields before the properties.
+fn fixed(out: &mut Buffer, c: Context, n: usize) {
+    let id = c.id;
+    pattern::lines(
+        out,
+        n,
+        b"context id: @\nreserved: 0x~\nmarshal flags: 0x~\nfrozen: #\nproperties: #\n",
+        &[
+            id.low,
+            id.high,
+            c.reserved as u64,
+            c.marshal as u64,
+            c.frozen as u64,
+            c.count as u64,
+        ],
+    );
 }
 
 // A property has at least 40 bytes, so that there are fewer than the bound.
@@ -39,21 +53,22 @@ fn properties(out: &mut Buffer, s: &[u8], n: usize) {
 }
 
 fn fields(out: &mut Buffer, p: Property, k: usize, n: usize) {
-    print::line::named(out, n, b"property ");
-    print::decimal(out, k as u64);
-    print::text(out, b": class ");
     let clsid = p.clsid;
-    print::guid(out, clsid);
-    print::text(out, b", policy ");
     let policy = p.policy;
-    print::guid(out, policy);
-    flags(out, p.flags);
+    pattern::lines(
+        out,
+        n,
+        b"property #: class @, policy @",
+        &[k as u64, clsid.low, clsid.high, policy.low, policy.high],
+    );
+    let flags = b", flags 4 (envoy), \n, flags 1 (propagate), \n, flags 2 (expose), \n";
+    print::text(out, pattern::line(flags, flags_line(p.flags)));
 }
 
-fn flags(out: &mut Buffer, f: u32) {
+fn flags_line(f: u32) -> usize {
     match f {
-        1 => print::text(out, b", flags 1 (propagate), "),
-        2 => print::text(out, b", flags 2 (expose), "),
-        _ => print::text(out, b", flags 4 (envoy), "),
+        1 => 1,
+        2 => 2,
+        _ => 0,
     }
 }

@@ -63,16 +63,21 @@ fn single(out: &mut Buffer, s: &[u8], n: usize) {
 }
 
 fn refused(out: &mut Buffer, number: u32) {
-    print::text(out, b"refused ");
-    print::decimal(out, number as u64);
-    if number == answer::SHORT {
-        print::text(out, b": the bytes end before a field does");
-    } else if number == answer::LAYOUT {
-        print::text(out, b": a layout rule is broken");
-    } else if number == answer::TOO_DEEP {
-        print::text(out, b": references nested deeper than 8");
-    } else if number == answer::NIL_IDENTIFIER {
-        print::text(out, b": an OXID, OID or IPID is zero");
-    }
+    print::pattern::filled(out, b"refused #", &[number as u64]);
+    let reasons =
+        b"\n: the bytes end before a field does\n: a layout rule is broken\n: references nested deeper than 8\n\
+        : an OXID, OID or IPID is zero\n";
+    print::text(out, print::pattern::line(reasons, reason(number)));
     print::end_line(out);
+}
+
+// The line of the reason; 0 of a number that no reference is refused by.
+fn reason(number: u32) -> usize {
+    match number {
+        answer::SHORT => 1,
+        answer::LAYOUT => 2,
+        answer::TOO_DEEP => 3,
+        answer::NIL_IDENTIFIER => 4,
+        _ => 0,
+    }
 }

@@ -1,22 +1,16 @@
 // Bytes in hex, at depth n.
 use crate::Buffer;
-use crate::line;
 use crate::pattern;
 ghost use Prim.Native.Nat.{_≤_};
 
 // The length, and the first 64 bytes in hex, 16 to a line; then how many more there are.
 pub fn content(out: &mut Buffer, s: &[u8], n: usize) {
-    crate::decimal(out, s.len() as u64);
-    crate::text(out, b" bytes\n");
+    pattern::filled(out, b"# bytes\n", &[s.len() as u64]);
     rows(out, s, n);
     if 64 < s.len() {
-        more(out, s.len() - 64, n);
+        let more = s.len() - 64;
+        pattern::lines(out, n, b"  ... # more bytes\n", &[more as u64]);
     }
-}
-
-fn more(out: &mut Buffer, k: usize, n: usize) {
-    line::margin(out, n);
-    pattern::filled(out, b"  ... # more bytes\n", &[k as u64]);
 }
 
 fn rows(out: &mut Buffer, s: &[u8], n: usize) {
@@ -41,9 +35,7 @@ fn row_end(at: usize, n: usize) -> usize
 
 // The bytes from number at.
 fn row(out: &mut Buffer, at: usize, s: &[u8], n: usize) {
-    line::named(out, n, b"  ");
-    crate::hex(out, at as u64, 2);
-    crate::text(out, b":");
+    pattern::lines(out, n, b"  |:", &[at as u64]);
     spaced(out, s);
     crate::end_line(out);
 }
@@ -57,6 +49,5 @@ fn spaced(out: &mut Buffer, s: &[u8]) {
 }
 
 fn byte(out: &mut Buffer, b: u8) {
-    crate::text(out, b" ");
-    crate::hex(out, b as u64, 2);
+    pattern::filled(out, b" |", &[b as u64]);
 }

@@ -5,7 +5,6 @@ use libc::STDOUT_FILENO;
 ghost use Prim.Native.Nat.{_≤_};
 
 pub mod dump;
-pub mod line;
 pub mod list;
 pub mod pattern;
 pub mod words;
@@ -93,23 +92,22 @@ pub fn hex(out: &mut Buffer, n: u64, width: usize) {
 pub fn guid(out: &mut Buffer, g: Guid) {
     let low = g.low;
     let high = g.high;
-    text(out, b"{");
-    hex(out, low % 0x100000000, 8);
-    text(out, b"-");
-    hex(out, low / 0x100000000 % 0x10000, 4);
-    text(out, b"-");
-    hex(out, low / 0x1000000000000, 4);
-    text(out, b"-");
-    pair(out, high);
-    text(out, b"-");
-    pair(out, high / 0x10000);
-    pair(out, high / 0x100000000);
-    pair(out, high / 0x1000000000000);
+    group(out, b"{", low % 0x100000000, 8);
+    group(out, b"-", low / 0x100000000 % 0x10000, 4);
+    group(out, b"-", low / 0x1000000000000, 4);
+    group(out, b"-", turned(high), 4);
+    group(out, b"-", turned(high / 0x10000), 4);
+    hex(out, turned(high / 0x100000000), 4);
+    hex(out, turned(high / 0x1000000000000), 4);
     text(out, b"}");
 }
 
+fn group(out: &mut Buffer, before: &[u8], n: u64, width: usize) {
+    text(out, before);
+    hex(out, n, width);
+}
+
 // The two lowest bytes of a number, the lowest first.
-fn pair(out: &mut Buffer, n: u64) {
-    hex(out, n % 0x100, 2);
-    hex(out, n / 0x100 % 0x100, 2);
+fn turned(n: u64) -> u64 {
+    n % 0x100 * 0x100 + n / 0x100 % 0x100
 }

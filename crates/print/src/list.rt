@@ -1,6 +1,5 @@
 // The bindings of a list, at depth n.
 use crate::Buffer;
-use crate::line;
 use crate::pattern;
 use crate::words;
 use bindings::Part;
@@ -9,9 +8,9 @@ use kinds::answer;
 
 // The list's N and S (document 01), then its bindings.
 pub fn parts(out: &mut Buffer, s: &[u8], n: usize) {
-    line::margin(out, n);
-    pattern::filled(
+    pattern::lines(
         out,
+        n,
         b"binding list: N #, S #\n",
         &[fields::read_u16(s, 0) as u64, fields::read_u16(s, 2) as u64],
     );
@@ -31,10 +30,9 @@ fn part(out: &mut Buffer, s: &[u8], p: Part, n: usize) {
 }
 
 fn none(out: &mut Buffer, p: Part, n: usize) {
-    line::margin(out, n);
     match p {
-        Part::Strings => crate::text(out, b"string bindings: none\n"),
-        Part::Security => crate::text(out, b"security bindings: none\n"),
+        Part::Strings => pattern::named(out, n, b"string bindings: none\n"),
+        Part::Security => pattern::named(out, n, b"security bindings: none\n"),
     }
 }
 
@@ -58,17 +56,17 @@ fn all(out: &mut Buffer, s: &[u8], p: Part, at: usize, words: usize, n: usize) {
 }
 
 fn binding(out: &mut Buffer, p: Part, k: usize, b: &[u8], n: usize) {
-    line::margin(out, n);
     match p {
-        Part::Strings => string_binding(out, k, b),
-        Part::Security => security_binding(out, k, b),
+        Part::Strings => string_binding(out, k, b, n),
+        Part::Security => security_binding(out, k, b, n),
     }
 }
 
-fn string_binding(out: &mut Buffer, k: usize, b: &[u8]) {
+fn string_binding(out: &mut Buffer, k: usize, b: &[u8], n: usize) {
     let tower = fields::read_u16(b, 0);
-    pattern::filled(
+    pattern::lines(
         out,
+        n,
         b"string binding #: tower # (",
         &[k as u64, tower as u64],
     );
@@ -78,32 +76,36 @@ fn string_binding(out: &mut Buffer, k: usize, b: &[u8]) {
     crate::end_line(out);
 }
 
-fn security_binding(out: &mut Buffer, k: usize, b: &[u8]) {
-    let service = fields::read_u16(b, 0);
-    pattern::filled(
+fn security_binding(out: &mut Buffer, k: usize, b: &[u8], n: usize) {
+    let service = fields::read_u16(b, 0) as u64;
+    pattern::lines(
         out,
-        b"security binding #: service # (0x",
-        &[k as u64, service as u64],
+        n,
+        b"security binding #: service # (0x^), second word 0x^, principal name ",
+        &[k as u64, service, service, fields::read_u16(b, 2) as u64],
     );
-    crate::hex(out, service as u64, 4);
-    crate::text(out, b"), second word 0x");
-    crate::hex(out, fields::read_u16(b, 2) as u64, 4);
-    crate::text(out, b", principal name ");
     words::text(out, b, 2);
     crate::end_line(out);
 }
 
 // The protocol of a tower number (document 001, section 3.2).
 fn protocol(out: &mut Buffer, tower: u16) {
+    let names =
+        b"unknown\nncacn_dnet_nsp\nncacn_ip_tcp\nncadg_ip_udp\nncacn_spx\nncacn_nb_ipx\nncadg_ipx\nncalrpc\nncacn_nb_nb\n";
+    crate::text(out, pattern::line(names, protocol_line(tower)));
+}
+
+// The line of its name.
+fn protocol_line(tower: u16) -> usize {
     match tower {
-        0x04 => crate::text(out, b"ncacn_dnet_nsp"),
-        0x07 => crate::text(out, b"ncacn_ip_tcp"),
-        0x08 => crate::text(out, b"ncadg_ip_udp"),
-        0x0C => crate::text(out, b"ncacn_spx"),
-        0x0D => crate::text(out, b"ncacn_nb_ipx"),
-        0x0E => crate::text(out, b"ncadg_ipx"),
-        0x10 => crate::text(out, b"ncalrpc"),
-        0x12 => crate::text(out, b"ncacn_nb_nb"),
-        _ => crate::text(out, b"unknown"),
+        0x04 => 1,
+        0x07 => 2,
+        0x08 => 3,
+        0x0C => 4,
+        0x0D => 5,
+        0x0E => 6,
+        0x10 => 7,
+        0x12 => 8,
+        _ => 0,
     }
 }

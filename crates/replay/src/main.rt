@@ -72,17 +72,19 @@ fn tallied(out: &mut Buffer, t: Tally) {
 }
 
 fn refused(out: &mut Buffer, number: u32) {
-    print::text(out, b"refused ");
-    print::decimal(out, number as u64);
-    if number == answer::SHORT {
-        print::text(out, b": the bytes end before a number or a section does");
-    } else if number == answer::LAYOUT {
-        print::text(
-            out,
-            b": a record is not in the form of its call, or bytes stand behind the last one",
-        );
-    } else if number == answer::TOO_MANY {
-        print::text(out, b": more than 16,384 records");
-    }
+    print::pattern::filled(out, b"refused #", &[number as u64]);
+    let reasons = b"\n: the bytes end before a number or a section does\n\
+        : a record is not in the form of its call, or bytes stand behind the last one\n: more than 16,384 records\n";
+    print::text(out, print::pattern::line(reasons, reason(number)));
     print::end_line(out);
+}
+
+// The line of the reason; 0 of a number that no recording is refused by.
+fn reason(number: u32) -> usize {
+    match number {
+        answer::SHORT => 1,
+        answer::LAYOUT => 2,
+        answer::TOO_MANY => 3,
+        _ => 0,
+    }
 }

@@ -8,10 +8,10 @@ pub fn call(out: &mut Buffer, s: &[u8]) {
     told(
         out,
         b"reset, time #\n\
-        enter exporter, OXID 0x%, remote unknown @\n\
-        remove exporter, OXID 0x%\n\
-        enter object, OID 0x%, OXID 0x%, IPID @, IID @, public $, not pinged: !\n\
-        enter interface, OID 0x%, IPID @, IID @, public $\n\
+        enter exporter, OXID 0x*, remote unknown @\n\
+        remove exporter, OXID 0x*\n\
+        enter object, OID 0x*, OXID 0x*, IPID @, IID @, public $, not pinged: !\n\
+        enter interface, OID 0x*, IPID @, IID @, public $\n\
         add, client $, IPID @, public $, private $\n\
         release, client $, IPID @, public $, private $\n\
         drop client $\n\
@@ -20,8 +20,8 @@ pub fn call(out: &mut Buffer, s: &[u8]) {
         simple ping, set #\n\
         complex ping, set #, sequence &\n\
         clock, time #\n\
-        resolve, OXID 0x%, a buffer of # bytes\n\
-        resolve by protocols, OXID 0x%, a buffer of # bytes\n\
+        resolve, OXID 0x*, a buffer of # bytes\n\
+        resolve by protocols, OXID 0x*, a buffer of # bytes\n\
         census\n\
         members, set #\n\
         next stop\n\
@@ -55,44 +55,8 @@ pub fn answer(out: &mut Buffer, code: u8, s: &[u8]) {
 
 // The line of a code, with the numbers that stand in the bytes.
 fn told<'a>(out: &'a mut Buffer, lines: &'a [u8], code: u8, s: &'a [u8]) {
-    let from = fields::within(lines, start(lines, code));
-    first(out, &lines[from..], s);
-}
-
-// The first line.
-fn first<'a>(out: &'a mut Buffer, lines: &'a [u8], s: &'a [u8]) {
-    let to = fields::within(lines, length(lines));
-    print::pattern::told(out, &lines[0..to], s);
+    print::pattern::told(out, print::pattern::line(lines, code as usize), s);
     print::end_line(out);
-}
-
-// Where line k begins, from 0.
-fn start(lines: &[u8], k: u8) -> usize {
-    let mut left = k;
-    let mut i = 0;
-    while i < lines.len() {
-        if left == 0 {
-            return i;
-        }
-        let c = lines[i];
-        i += 1;
-        if c == b'\n' {
-            left -= 1;
-        }
-    }
-    i
-}
-
-// The bytes before the first end of a line.
-fn length(lines: &[u8]) -> usize {
-    let mut i = 0;
-    while i < lines.len() {
-        if lines[i] == b'\n' {
-            return i;
-        }
-        i += 1;
-    }
-    i
 }
 
 // Bytes, if there are any.

@@ -37,10 +37,9 @@ fn load(s: &[u8]) -> u32 {
 }
 
 fn refused(out: &mut Buffer, number: u32) {
-    print::text(out, b"refused ");
-    print::decimal(out, number as u64);
-    print::text(
+    print::pattern::filled(
         out,
-        b": the bytes are not the snapshot of any sound table\n",
+        b"refused #: the bytes are not the snapshot of any sound table\n",
+        &[number as u64],
     );
 }

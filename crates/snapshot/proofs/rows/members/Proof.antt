@@ -5,10 +5,10 @@ use Rattle.snapshot.proofs.rows.members.Statement.{statement}
 use Rattle.snapshot.proofs.rows.members.Tie as tie
 
 abbrev Inv-loop : tie.InvT-loop
-Inv-loop out₀ s n k₀ t5 out k = Unit {0}
+Inv-loop out₀ s n k₀ out k = Unit {0}
 
 abbrev μ-loop : tie.MeasureT-loop
-μ-loop out₀ s n k₀ t5 out k = n - k
+μ-loop out₀ s n k₀ out k = n - k
 
 pub members-spec : {M : Type 1} → statement M
 members-spec =
@@ -20,8 +20,6 @@ members-spec =
     (λ c. search needs)
     (λ c. search needs)
     (λ c. search needs)
-    (λ c. search needs)
-    (λ c κs. search needs)
     (λ c κs. search needs)
     (λ c κs. search needs)
     (λ c. search needs)

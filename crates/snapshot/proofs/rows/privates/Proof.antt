@@ -5,10 +5,10 @@ use Rattle.snapshot.proofs.rows.privates.Statement.{statement}
 use Rattle.snapshot.proofs.rows.privates.Tie as tie
 
 abbrev Inv-loop : tie.InvT-loop
-Inv-loop out₀ s client₀ t5 t6 out client = Unit {0}
+Inv-loop out₀ s client₀ out client = Unit {0}
 
 abbrev μ-loop : tie.MeasureT-loop
-μ-loop out₀ s client₀ t5 t6 out client = 8 - client
+μ-loop out₀ s client₀ out client = 8 - client
 
 pub privates-spec : {M : Type 1} → statement M
 privates-spec =
@@ -20,10 +20,6 @@ privates-spec =
     (λ c. search needs)
     (λ c. search needs)
     (λ c κs. search needs)
-    (λ c. search needs)
-    (λ c κs. search needs)
-    (λ c. search needs)
-    (λ c. search needs)
     (λ c κs. search needs)
     (λ c. search needs)
     (λ c. search needs)

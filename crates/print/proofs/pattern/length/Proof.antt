@@ -1,9 +1,9 @@
--- `replay_lines::length`: the bytes are passed one by one.
+-- `pattern::length`: the bytes are passed one by one.
 use borrow.Author.Needs.{needs}
 use Prim.Native.Nat.{_-_}
 use lib.ListN.{length}
-use Rattle.replay_lines.proofs.length.Statement.{statement}
-use Rattle.replay_lines.proofs.length.Tie as tie
+use Rattle.print.proofs.pattern.length.Statement.{statement}
+use Rattle.print.proofs.pattern.length.Tie as tie
 
 abbrev Inv-loop : tie.InvT-loop
 Inv-loop lines i₀ i = Unit {0}

@@ -1,8 +1,8 @@
--- `line::margin`: the levels are counted up.
+-- `pattern::margin`: the levels are counted up.
 use Prim.Native.Nat.{_-_}
 use borrow.Author.Needs.{needs}
-use Rattle.print.proofs.line.margin.Statement.{statement}
-use Rattle.print.proofs.line.margin.Tie as tie
+use Rattle.print.proofs.pattern.margin.Statement.{statement}
+use Rattle.print.proofs.pattern.margin.Tie as tie
 
 abbrev Inv-loop : tie.InvT-loop
 Inv-loop out₀ n i₀ t4 out i = Unit {0}

@@ -1,9 +1,9 @@
--- `replay_lines::start`: the bytes are passed one by one.
+-- `pattern::start`: the bytes are passed one by one.
 use borrow.Author.Needs.{needs}
 use Prim.Native.Nat.{_-_}
 use lib.ListN.{length}
-use Rattle.replay_lines.proofs.start.Statement.{statement}
-use Rattle.replay_lines.proofs.start.Tie as tie
+use Rattle.print.proofs.pattern.start.Statement.{statement}
+use Rattle.print.proofs.pattern.start.Tie as tie
 
 abbrev Inv-loop : tie.InvT-loop
 Inv-loop lines k left₀ i₀ left i = Unit {0}

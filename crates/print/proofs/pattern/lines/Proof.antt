@@ -1,18 +1,18 @@
--- `pattern::filled`: what is not printed yet begins at or before i, and no more numbers than characters have been passed.
+-- `pattern::lines`: what is not printed yet begins at or before i.
+use borrow.Author.Needs.{needs}
 use Prim.Native.Nat.{_-_, _≤_}
 use lib.ListN.{length}
-use borrow.Author.Needs.{needs}
-use Rattle.print.proofs.pattern.filled.Statement.{statement}
-use Rattle.print.proofs.pattern.filled.Tie as tie
+use Rattle.print.proofs.pattern.lines.Statement.{statement}
+use Rattle.print.proofs.pattern.lines.Tie as tie
 
 abbrev Inv-loop : tie.InvT-loop
-Inv-loop out₀ what numbers k₀ from₀ i₀ out k from i = (i ≤ length what) × (from ≤ i) × (k ≤ i)
+Inv-loop out₀ n what numbers depth₀ k₀ from₀ i₀ out depth k from i = (i ≤ length what) × (from ≤ i)
 
 abbrev μ-loop : tie.MeasureT-loop
-μ-loop out₀ what numbers k₀ from₀ i₀ out k from i = length what - i
+μ-loop out₀ n what numbers depth₀ k₀ from₀ i₀ out depth k from i = length what - i
 
-pub filled-spec : {M : Type 1} → statement M
-filled-spec =
+pub lines-spec : {M : Type 1} → statement M
+lines-spec =
     tie.close
     (tie.spec
     Inv-loop
@@ -27,7 +27,11 @@ filled-spec =
     (λ c. search needs)
     (λ c κs. search needs)
     (λ c κs. search needs)
-    (λ c. search needs)
+    (λ c κs. search needs)
+    (λ c κs. search needs)
+    (λ c κs. search needs)
+    (λ c κs. search needs)
+    (λ c κs. search needs)
     (λ c. search needs)
     (λ c. search needs)
     (λ c. search needs)
@@ -36,4 +40,5 @@ filled-spec =
     (λ c. search needs)
     (λ c. search needs)
     (λ c κs. search needs)
+    (λ c. search needs)
     (λ c. search needs))
