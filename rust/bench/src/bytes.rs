@@ -135,7 +135,7 @@ pub fn contexts(bench: &mut Bench) {
         bench.row(format!("read a context, properties: {n}")).run(
             &State::default(),
             |_| Context::read(&bytes),
-            |_| pb::judge_context(&bytes),
+            |_| pb::read_context(&bytes),
         );
         let n = n as usize;
         let name = format!("all properties of a context in one pass: {n}");

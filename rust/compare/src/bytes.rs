@@ -386,6 +386,7 @@ fn check_context(s: &[u8], random: &mut Random, tally: &mut Tally) -> Result<(),
         demanded,
         tally,
     )?;
+    plain_same(plain::bytes::read_context(s).map(careful_context), demanded)?;
     for k in [0, 1, 2, usize::MAX] {
         same(
             "property",
@@ -403,6 +404,16 @@ fn check_context(s: &[u8], random: &mut Random, tally: &mut Tally) -> Result<(),
     match demanded {
         Ok(fields) => check_context_written(&fields, &s[48..], random, tally),
         Err(_) => Ok(()),
+    }
+}
+
+fn careful_context(x: plain::bytes::Context) -> c::Context {
+    c::Context {
+        id: plain_guid(x.id),
+        reserved: x.reserved,
+        marshal: x.marshal,
+        count: x.count,
+        frozen: x.frozen,
     }
 }
 
