@@ -3,6 +3,7 @@ use Prim.Native.Nat.{ℕ, _<_, _≤_}
 use mathlib.Core.Path.{_≡_, refl, sym, ap, _∙_}
 use mathlib.Core.Bool.{Bool, true, false, not, _||_}
 use mathlib.Core.List.{List, [], _∷_}
+use native.Mathlib.Omega.{arith}
 use borrow.Author.Tests.{not-true, not-false, lt-ltb, le-ltb}
 use lib.ListN.{length, getD}
 use lib.Dec.{ltb, leb}
@@ -26,6 +27,10 @@ use Rattle.table_view.proofs.LiveRows.{exporters-length, objects-length
 -- the words of a sound table
 pub whole : (ws s : List ℕ) → SoundTable (memory ws s) → Whole ws
 whole ws s t = t .words
+
+-- the row that was found, of as many as were counted
+pub row-below : (count : List ℕ → ℕ) (ws : List ℕ) (n r : ℕ) → n ≡ count ws → r < n → r < count ws
+row-below count ws n r counted live = omega arith
 
 module _ {r : Bool} {m : Memory} (judged : r ≡ soundMemory m) where
   -- the table that a call goes on with

@@ -14,9 +14,9 @@ use Rattle.rules.specs.PingRows.{pingedRow}
 use Rattle.rules.proofs.PingRows.{simple-ping-row}
 use Rattle.table_view.specs.View.{setCount, memory, view, Holds, SoundTable, Stepped}
 use Rattle.table_view.proofs.LiveRows.{sets-length}
-use Rattle.table_view.proofs.Steps.{whole, refused-step, accepted-step, row-gives, row-passes, gone-gives, live-passes, rows-end, set-tested}
+use Rattle.table_view.proofs.Steps.{whole, row-below, refused-step, accepted-step, row-gives, row-passes, gone-gives, live-passes, rows-end, set-tested}
 use Rattle.table_edit.specs.Edits.{Became}
-use Rattle.call_ping.proofs.Taking.{oids-proper, row-below}
+use Rattle.call_ping.proofs.Taking.{oids-proper}
 use Rattle.call_ping.proofs.Pings.{simple-rows}
 use borrow.Author.Needs.{needs}
 use Rattle.call_ping.proofs.simple_ping_step.Statement.{statement}
@@ -55,6 +55,6 @@ simple-ping-step-spec =
     (λ c κs. search whole)
     (λ c. search needs)
     (λ c. search gone)
-    (λ c κs. search (row-below, oids-proper))
+    (λ c κs. search (row-below setCount, oids-proper))
     (λ c. search needs)
     (λ c. search pinged))

@@ -1,8 +1,9 @@
 -- `resolving::resolve_marked`: an exporter that is not live; else the step by the marked towers that its list has.
 use mathlib.Core.Path.{sym}
 use lib.Seq.{length-take-le}
-use Rattle.table_view.proofs.Steps.{whole}
-use Rattle.call_look.proofs.Taking.{row-below, lists-kept}
+use Rattle.table_view.specs.View.{exporterCount}
+use Rattle.table_view.proofs.Steps.{whole, row-below}
+use Rattle.call_look.proofs.Taking.{lists-kept}
 use Rattle.call_look.proofs.resolving.FilteredReplies.{good-list, towers-fit, filtered-gone, towers-alike}
 use borrow.Author.Needs.{needs}
 use Rattle.call_look.proofs.resolving.resolve_marked.Statement.{statement}
@@ -16,7 +17,7 @@ resolve-marked-spec =
     (λ c κs. search whole)
     (λ c κs. search needs)
     (λ c ps few marked. rw (c .refused .ensures) (search filtered-gone))
-    (λ c κs. search (row-below, lists-kept))
+    (λ c κs. search (row-below exporterCount, lists-kept))
     (λ c. search needs)
     (λ c κs. search (good-list, towers-fit))
     (λ c. search needs)
