@@ -5,6 +5,11 @@ use kinds::Oid;
 use kinds::Oxid;
 use kinds::SetId;
 
+// A recording and the room for it.
+pub type Log = [u8; ROOM];
+
+pub const ROOM: usize = 8192;
+
 // Where the records end.
 pub fn end(log: &[u8]) -> usize {
     let n = fields::read_u64(log, 0);
@@ -19,94 +24,84 @@ pub fn end(log: &[u8]) -> usize {
 }
 
 // Where a section that is put at a place ends; one that has no room is left out.
-fn section<'a>(log: &'a mut [u8], at: usize, s: &'a [u8]) -> usize {
-    let n = log.len();
-    let m = s.len();
-    if n < at {
+fn section<'a>(log: &mut Log, at: usize, s: &'a [u8]) -> usize {
+    if ROOM - 8 < at {
         return at;
     }
-    if n - at < 8 {
+    let n = s.len();
+    if ROOM - 8 - at < n {
         return at;
     }
-    if n - at - 8 < m {
-        return at;
-    }
-    fields::write_u64(log, at, m as u64);
+    fields::write_u64(log, at, n as u64);
     fields::copy(log, at + 8, s);
-    at + 8 + m
+    at + 8 + n
 }
 
-// A record: a call, its list, its answer, and the bytes that were shown.
-fn record<'a>(
-    log: &'a mut [u8],
-    call: &'a [u8],
-    list: &'a [u8],
-    answer: &'a [u8],
-    shown: &'a [u8],
-) {
-    let mut at = section(log, end(log), call);
-    at = section(log, at, list);
-    at = section(log, at, b"");
-    at = section(log, at, answer);
-    section(log, at, shown);
-    let n = fields::read_u64(log, 0);
-    fields::write_u64(log, 0, std::num::wrapping_add_u64(n, 1));
-}
-
-// Puts numbers one behind the other, each as wide as its width says; where they end. The next one covers the zeros of a narrow one.
-fn pack<'a>(to: &'a mut [u8], widths: &'a [u8], numbers: &'a [u64]) -> usize {
+// Puts numbers one behind the other, each as wide as its digit of the widths says, the last digit first; where they end. The next one
+// covers the zeros of a narrow one.
+fn pack<'a>(to: &'a mut [u8], widths: u64, numbers: &'a [u64]) -> usize {
     let mut at = 0;
+    let mut left = widths;
     let mut k = 0;
     while k < numbers.len() {
         fields::write_u64(to, at, numbers[k]);
-        at = std::num::wrapping_add_usize(at, recording::byte(widths, k) as usize);
+        at = std::num::wrapping_add_usize(at, (left % 16) as usize);
+        left = left / 16;
         k += 1;
     }
     at
 }
 
+// Where a section of numbers that is put at a place ends.
+fn packed<'a>(log: &mut Log, at: usize, widths: u64, numbers: &'a [u64]) -> usize {
+    let mut s = [0u8; 64];
+    let n = pack(&mut s, widths, numbers);
+    let m = fields::within(&s, n);
+    section(log, at, &s[0..m])
+}
+
+// The three sections of a call: its code and numbers, its list, and a second list, which is empty; where they end.
+fn call<'a>(log: &mut Log, widths: u64, numbers: &'a [u64], list: &'a [u8]) -> usize {
+    let from = end(log);
+    let first = packed(log, from, widths, numbers);
+    let second = section(log, first, list);
+    section(log, second, b"")
+}
+
 // A record of a call by its code and numbers, its list, its answer by number and results, and the bytes that were shown.
-fn whole<'a>(
-    log: &'a mut [u8],
-    widths: &'a [u8],
+fn record<'a>(
+    log: &mut Log,
+    widths: u64,
     numbers: &'a [u64],
     list: &'a [u8],
     results: &'a [u64],
     shown: &'a [u8],
 ) {
-    let mut call = [0u8; 64];
-    let n = pack(&mut call, widths, numbers);
-    let mut answer = [0u8; 40];
-    let m = pack(&mut answer, b"\x08\x08\x08\x08\x08", results);
-    let i = fields::within(&call, n);
-    let j = fields::within(&answer, m);
-    record(log, &call[0..i], list, &answer[0..j], shown);
+    let answer = call(log, widths, numbers, list);
+    let last = packed(log, answer, 0x88888, results);
+    section(log, last, shown);
+    let n = fields::read_u64(log, 0);
+    fields::write_u64(log, 0, std::num::wrapping_add_u64(n, 1));
 }
 
 // A record of a call that is given no list and shows nothing.
-fn plain<'a>(log: &'a mut [u8], widths: &'a [u8], numbers: &'a [u64], results: &'a [u64]) {
-    whole(log, widths, numbers, b"", results, b"");
+fn plain<'a>(log: &mut Log, widths: u64, numbers: &'a [u64], results: &'a [u64]) {
+    record(log, widths, numbers, b"", results, b"");
 }
 
 // A record of a call with one number of eight bytes, without results.
-fn single(log: &mut [u8], code: u64, n: u64, number: u32) {
-    plain(log, b"\x01\x08", &[code, n], &[number as u64]);
+fn single(log: &mut Log, code: u64, n: u64, number: u32) {
+    plain(log, 0x81, &[code, n], &[number as u64]);
 }
 
-pub fn reset(log: &mut [u8], time: u64, number: u32) {
+pub fn reset(log: &mut Log, time: u64, number: u32) {
     single(log, 0, time, number);
 }
 
-pub fn enter_exporter<'a>(
-    log: &'a mut [u8],
-    oxid: Oxid,
-    unknown: Guid,
-    list: &'a [u8],
-    number: u32,
-) {
-    whole(
+pub fn enter_exporter<'a>(log: &mut Log, oxid: Oxid, unknown: Guid, list: &'a [u8], number: u32) {
+    record(
         log,
-        b"\x01\x08\x08\x08",
+        0x8881,
         &[1, oxid.0, unknown.low, unknown.high],
         list,
         &[number as u64],
@@ -114,13 +109,13 @@ pub fn enter_exporter<'a>(
     );
 }
 
-pub fn remove_exporter(log: &mut [u8], oxid: Oxid, number: u32) {
+pub fn remove_exporter(log: &mut Log, oxid: Oxid, number: u32) {
     single(log, 2, oxid.0, number);
 }
 
 // An object that is pinged.
 pub fn enter_object(
-    log: &mut [u8],
+    log: &mut Log,
     oid: Oid,
     oxid: Oxid,
     ipid: Guid,
@@ -130,7 +125,7 @@ pub fn enter_object(
 ) {
     plain(
         log,
-        b"\x01\x08\x08\x08\x08\x08\x08\x04\x01",
+        0x148888881,
         &[
             3,
             oid.0,
@@ -148,7 +143,7 @@ pub fn enter_object(
 
 // A record of an add or a release, by its code.
 fn counted<'a>(
-    log: &'a mut [u8],
+    log: &mut Log,
     code: u64,
     client: u32,
     ipid: Guid,
@@ -158,7 +153,7 @@ fn counted<'a>(
 ) {
     plain(
         log,
-        b"\x01\x04\x08\x08\x04\x04",
+        0x448841,
         &[
             code,
             client as u64,
@@ -171,13 +166,13 @@ fn counted<'a>(
     );
 }
 
-pub fn add(log: &mut [u8], client: u32, ipid: Guid, public: u32, private: u32, number: u32) {
+pub fn add(log: &mut Log, client: u32, ipid: Guid, public: u32, private: u32, number: u32) {
     counted(log, 5, client, ipid, public, private, &[number as u64]);
 }
 
 // The results are the number, and what was taken and went.
 pub fn release<'a>(
-    log: &'a mut [u8],
+    log: &mut Log,
     client: u32,
     ipid: Guid,
     public: u32,
@@ -187,21 +182,21 @@ pub fn release<'a>(
     counted(log, 6, client, ipid, public, private, results);
 }
 
-pub fn drop_client(log: &mut [u8], client: u32, number: u32) {
-    plain(log, b"\x01\x04", &[7, client as u64], &[number as u64]);
+pub fn drop_client(log: &mut Log, client: u32, number: u32) {
+    plain(log, 0x41, &[7, client as u64], &[number as u64]);
 }
 
-pub fn simple_ping(log: &mut [u8], set: SetId, number: u32) {
+pub fn simple_ping(log: &mut Log, set: SetId, number: u32) {
     single(log, 10, set.0, number);
 }
 
 // A ping with one object in a new set.
-pub fn make_set(log: &mut [u8], oid: Oid, number: u32, set: SetId, backoff: u16) {
+pub fn make_set(log: &mut Log, oid: Oid, number: u32, set: SetId, backoff: u16) {
     let mut adds = [0u8; 8];
     fields::write_u64(&mut adds, 0, oid.0);
-    whole(
+    record(
         log,
-        b"\x01\x08\x02",
+        0x281,
         &[11, 0, 1],
         &adds,
         &[number as u64, set.0, backoff as u64],
@@ -210,80 +205,83 @@ pub fn make_set(log: &mut [u8], oid: Oid, number: u32, set: SetId, backoff: u16)
 }
 
 // The results are the number, and how many of each kind went.
-pub fn clock<'a>(log: &'a mut [u8], time: u64, results: &'a [u64]) {
-    plain(log, b"\x01\x08", &[12, time], results);
+pub fn clock<'a>(log: &mut Log, time: u64, results: &'a [u64]) {
+    plain(log, 0x81, &[12, time], results);
 }
 
-// A resolve with the list that it wrote to a buffer of that length.
-pub fn resolve<'a>(
-    log: &'a mut [u8],
+// A resolve by its code, with the list of that length that it wrote to a buffer.
+fn resolved<'a>(
+    log: &mut Log,
+    code: u64,
     oxid: Oxid,
-    room: usize,
+    protocols: &'a [u8],
     number: u32,
     unknown: Guid,
-    list: &'a [u8],
+    buffer: &'a [u8],
+    length: usize,
 ) {
-    whole(
+    let n = fields::within(buffer, length);
+    record(
         log,
-        b"\x01\x08\x08",
-        &[13, oxid.0, room as u64],
-        b"",
-        &[number as u64, list.len() as u64, unknown.low, unknown.high],
-        list,
+        0x881,
+        &[code, oxid.0, buffer.len() as u64],
+        protocols,
+        &[number as u64, n as u64, unknown.low, unknown.high],
+        &buffer[0..n],
     );
+}
+
+pub fn resolve(
+    log: &mut Log,
+    oxid: Oxid,
+    number: u32,
+    unknown: Guid,
+    buffer: &[u8],
+    length: usize,
+) {
+    resolved(log, 13, oxid, b"", number, unknown, buffer, length);
 }
 
 // A resolve for protocols, two bytes each.
 pub fn resolve_filtered<'a>(
-    log: &'a mut [u8],
+    log: &mut Log,
     oxid: Oxid,
-    room: usize,
     protocols: &'a [u8],
     number: u32,
     unknown: Guid,
-    list: &'a [u8],
+    buffer: &'a [u8],
+    length: usize,
 ) {
-    whole(
-        log,
-        b"\x01\x08\x08",
-        &[14, oxid.0, room as u64],
-        protocols,
-        &[number as u64, list.len() as u64, unknown.low, unknown.high],
-        list,
-    );
+    resolved(log, 14, oxid, protocols, number, unknown, buffer, length);
 }
 
 // The results are the number, and how many of each kind are live.
-pub fn census<'a>(log: &'a mut [u8], results: &'a [u64]) {
-    plain(log, b"\x01", &[15], results);
+pub fn census<'a>(log: &mut Log, results: &'a [u64]) {
+    plain(log, 0x1, &[15], results);
 }
 
-pub fn members(log: &mut [u8], set: SetId, number: u32, count: usize) {
-    plain(
-        log,
-        b"\x01\x08",
-        &[16, set.0],
-        &[number as u64, count as u64],
-    );
+pub fn members(log: &mut Log, set: SetId, number: u32, count: usize) {
+    plain(log, 0x81, &[16, set.0], &[number as u64, count as u64]);
 }
 
 // A next stop with the part that it showed.
-pub fn next_stop<'a>(log: &'a mut [u8], reference: &'a [u8], number: u32, stop: &'a [u8]) {
-    whole(log, b"\x01", &[17], reference, &[number as u64], stop);
+pub fn next_stop<'a>(log: &mut Log, reference: &'a [u8], number: u32, stop: &'a [u8]) {
+    record(log, 0x1, &[17], reference, &[number as u64], stop);
 }
 
-// A snapshot that was written to a buffer of that length.
-pub fn write_snapshot<'a>(log: &'a mut [u8], room: usize, number: u32, snapshot: &'a [u8]) {
-    whole(
+// A snapshot of that length that was written to a buffer.
+pub fn write_snapshot(log: &mut Log, number: u32, buffer: &[u8], length: usize) {
+    let n = fields::within(buffer, length);
+    record(
         log,
-        b"\x01\x08",
-        &[18, room as u64],
+        0x81,
+        &[18, buffer.len() as u64],
         b"",
-        &[number as u64, snapshot.len() as u64],
-        snapshot,
+        &[number as u64, n as u64],
+        &buffer[0..n],
     );
 }
 
-pub fn load_snapshot<'a>(log: &'a mut [u8], snapshot: &'a [u8], number: u32) {
-    whole(log, b"\x01", &[19], snapshot, &[number as u64], b"");
+pub fn load_snapshot<'a>(log: &mut Log, snapshot: &'a [u8], number: u32) {
+    record(log, 0x1, &[19], snapshot, &[number as u64], b"");
 }

@@ -8,7 +8,9 @@
 // the next stop is seen to choose.
 use kinds::SetId;
 use kinds::limits;
-use walkthrough_server::LOG;
+use recorder::Log;
+use walkthrough_server::Store;
+use walkthrough_server::Words;
 use walkthrough_server::say;
 
 fn main() {
@@ -16,14 +18,14 @@ fn main() {
         b"     0 done, 4 the server has left, 6 the tank level group has ended, 11 the client was silent too long and begins anew\n",
     );
     let mut snapshot = [0u8; walkthrough_server::SNAPSHOT];
-    let mut log = [0u8; LOG];
+    let mut log: Log = [0; recorder::ROOM];
     let set = until_noon(&mut log, &mut snapshot);
     after_noon(&mut log, &snapshot, set);
     replay(&log);
 }
 
 // The first box; the client's set.
-fn until_noon(log: &mut [u8; LOG], snapshot: &mut [u8; walkthrough_server::SNAPSHOT]) -> SetId {
+fn until_noon(log: &mut Log, snapshot: &mut [u8; walkthrough_server::SNAPSHOT]) -> SetId {
     let mut words = [0u64; limits::WORDS];
     let mut store = [0u8; limits::BYTES];
     let mut reference = [0u8; walkthrough_server::REFERENCE];
@@ -44,22 +46,27 @@ fn until_noon(log: &mut [u8; LOG], snapshot: &mut [u8; walkthrough_server::SNAPS
 }
 
 // The box that takes over.
-fn after_noon(log: &mut [u8; LOG], snapshot: &[u8; walkthrough_server::SNAPSHOT], set: SetId) {
+fn after_noon(log: &mut Log, snapshot: &[u8; walkthrough_server::SNAPSHOT], set: SetId) {
     let mut words = [0u64; limits::WORDS];
     let mut store = [0u8; limits::BYTES];
-    let mut reference = [0u8; walkthrough_server::REFERENCE];
     let clock = walkthrough_server::take_over(log, &mut words, &mut store, snapshot);
     walkthrough_client::leave(log, &mut words, &store, set);
     walkthrough_client::lose_other(log, &mut words, &store, set);
+    next_client(log, &mut words, &mut store, clock);
+}
+
+// Another client, and the end of the server.
+fn next_client(log: &mut Log, words: &mut Words, store: &mut Store, clock: u64) {
+    let mut reference = [0u8; walkthrough_server::REFERENCE];
     say::text(b"     the next client falls silent\n");
-    walkthrough_server::offer(log, &mut words, &store, &mut reference);
-    walkthrough_client::fall_silent(log, &mut words, &store, &reference, clock);
-    walkthrough_server::close(log, &mut words, &mut store);
-    walkthrough_client::come_late(log, &words, &store, &reference);
+    walkthrough_server::offer(log, words, store, &mut reference);
+    walkthrough_client::fall_silent(log, words, store, &reference, clock);
+    walkthrough_server::close(log, words, store);
+    walkthrough_client::come_late(log, words, store, &reference);
 }
 
 // Support replays the day in a table of its own.
-fn replay(log: &[u8; LOG]) {
+fn replay(log: &Log) {
     replay_bytes(log);
 }
 

@@ -5,20 +5,27 @@ use kinds::Oxid;
 use kinds::SetId;
 use kinds::answer;
 use kinds::limits;
+use recorder::Log;
 use references::Block;
 use references::Reference;
 use resolver::Released;
-use walkthrough_server::LOG;
+use resolver::StopPlace;
+use walkthrough_server::Store;
+use walkthrough_server::Words;
 use walkthrough_server::say;
 
 // Goes where the reference leads, takes references of its own, and puts the object into a set; the set.
 pub fn take_up<'a>(
-    log: &mut [u8; LOG],
-    words: &mut [u64; limits::WORDS],
-    store: &'a [u8; limits::BYTES],
+    log: &mut Log,
+    words: &mut Words,
+    store: &'a Store,
     reference: &'a [u8; walkthrough_server::REFERENCE],
 ) -> SetId {
     let block = look_up(log, words, store, reference);
+    join(log, words, store, block)
+}
+
+fn join(log: &mut Log, words: &mut Words, store: &Store, block: Block) -> SetId {
     add(
         log,
         words,
@@ -33,7 +40,7 @@ pub fn take_up<'a>(
 }
 
 // Reads the reference and asks for addresses; its block.
-fn look_up<'a>(log: &'a mut [u8], words: &'a [u64], store: &'a [u8], reference: &'a [u8]) -> Block {
+fn look_up<'a>(log: &mut Log, words: &'a Words, store: &'a Store, reference: &'a [u8]) -> Block {
     let block = read(reference);
     next_stop(log, words, store, reference);
     resolve(log, words, store, block.oxid);
@@ -54,10 +61,14 @@ fn read(reference: &[u8]) -> Block {
     block
 }
 
-fn next_stop<'a>(log: &'a mut [u8], words: &'a [u64], store: &'a [u8], reference: &'a [u8]) {
+fn next_stop<'a>(log: &mut Log, words: &'a Words, store: &'a Store, reference: &'a [u8]) {
     let place = resolver::next_stop_place(words, store, reference);
     let stop = resolver::next_stop(words, store, reference);
     recorder::next_stop(log, reference, place.answer, stop);
+    directed(place, stop);
+}
+
+fn directed(place: StopPlace, stop: &[u8]) {
     say::results(place.answer, b"client: asks where to go next, ", &[]);
     say::either(
         place.in_store,
@@ -67,46 +78,40 @@ fn next_stop<'a>(log: &'a mut [u8], words: &'a [u64], store: &'a [u8], reference
     say::address(stop);
 }
 
-fn resolve<'a>(log: &'a mut [u8], words: &'a [u64], store: &'a [u8], oxid: Oxid) {
+fn resolve<'a>(log: &mut Log, words: &'a Words, store: &'a Store, oxid: Oxid) {
     let mut list = [0u8; limits::LONGEST_LIST];
     let r = resolver::resolve(words, store, oxid, &mut list);
-    let n = fields::within(&list, r.length);
-    let s = &list[0..n];
-    recorder::resolve(log, oxid, limits::LONGEST_LIST, r.answer, r.unknown, s);
-    resolved(r.answer, s);
-}
-
-fn resolved(number: u32, list: &[u8]) {
-    if number == answer::DONE {
-        say::results(
-            number,
-            b"client: resolves the exporter, # bytes, ",
-            &[list.len() as u64],
-        );
-        say::address(list);
+    recorder::resolve(log, oxid, r.answer, r.unknown, &list, r.length);
+    if r.answer == answer::DONE {
+        resolved(&list, r.length);
     } else {
-        say::results(
-            number,
-            b"client: resolves the exporter, code # on the wire\n",
-            &[kinds::wire_code(number) as u64],
-        );
+        refused(r.answer);
     }
 }
 
+fn resolved(buffer: &[u8], length: usize) {
+    let n = fields::within(buffer, length);
+    say::results(
+        answer::DONE,
+        b"client: resolves the exporter, # bytes, ",
+        &[n as u64],
+    );
+    say::address(&buffer[0..n]);
+}
+
+fn refused(number: u32) {
+    say::results(
+        number,
+        b"client: resolves the exporter, code # on the wire\n",
+        &[kinds::wire_code(number) as u64],
+    );
+}
+
 // Asks for addresses of one protocol alone, UDP, which the server does not offer.
-fn resolve_udp<'a>(log: &'a mut [u8], words: &'a [u64], store: &'a [u8], oxid: Oxid) {
+fn resolve_udp<'a>(log: &mut Log, words: &'a Words, store: &'a Store, oxid: Oxid) {
     let mut list = [0u8; limits::LONGEST_LIST];
     let r = resolver::resolve_filtered(words, store, oxid, &[8], &mut list);
-    let n = fields::within(&list, r.length);
-    recorder::resolve_filtered(
-        log,
-        oxid,
-        limits::LONGEST_LIST,
-        b"\x08\x00",
-        r.answer,
-        r.unknown,
-        &list[0..n],
-    );
+    recorder::resolve_filtered(log, oxid, b"\x08\x00", r.answer, r.unknown, &list, r.length);
     say::results(
         r.answer,
         b"client: resolves it for UDP alone, # bytes\n",
@@ -124,9 +129,9 @@ fn later(time: u64) -> u64 {
 
 // The clock runs on for so many periods of two minutes, and the client pings or not.
 pub fn wait(
-    log: &mut [u8; LOG],
-    words: &mut [u64; limits::WORDS],
-    store: &[u8; limits::BYTES],
+    log: &mut Log,
+    words: &mut Words,
+    store: &Store,
     set: SetId,
     clock: u64,
     periods: u32,
@@ -145,12 +150,7 @@ pub fn wait(
 }
 
 // Pings once more, and gives the references back. Another client has taken a private reference.
-pub fn leave(
-    log: &mut [u8; LOG],
-    words: &mut [u64; limits::WORDS],
-    store: &[u8; limits::BYTES],
-    set: SetId,
-) {
+pub fn leave(log: &mut Log, words: &mut Words, store: &Store, set: SetId) {
     ping(log, words, store, set);
     add(
         log,
@@ -167,12 +167,7 @@ pub fn leave(
 }
 
 // The object stays until the references of the other client, which is lost, are dropped.
-pub fn lose_other(
-    log: &mut [u8; LOG],
-    words: &mut [u64; limits::WORDS],
-    store: &[u8; limits::BYTES],
-    set: SetId,
-) {
+pub fn lose_other(log: &mut Log, words: &mut Words, store: &Store, set: SetId) {
     walkthrough_server::drop_client(log, words, store);
     count(log, words, store, set);
     walkthrough_server::census(log, words, store);
@@ -180,14 +175,19 @@ pub fn lose_other(
 
 // Pings no more.
 pub fn fall_silent<'a>(
-    log: &mut [u8; LOG],
-    words: &mut [u64; limits::WORDS],
-    store: &'a [u8; limits::BYTES],
+    log: &mut Log,
+    words: &mut Words,
+    store: &'a Store,
     reference: &'a [u8; walkthrough_server::REFERENCE],
     clock: u64,
 ) {
     let set = take_up(log, words, store, reference);
     wait(log, words, store, set, clock, 3, false);
+    come_back(log, words, store, set);
+}
+
+// Comes back when the object and the set are gone.
+fn come_back(log: &mut Log, words: &mut Words, store: &Store, set: SetId) {
     release(log, words, store);
     ping(log, words, store, set);
     walkthrough_server::census(log, words, store);
@@ -195,9 +195,9 @@ pub fn fall_silent<'a>(
 
 // A reference is read after its exporter left.
 pub fn come_late<'a>(
-    log: &mut [u8; LOG],
-    words: &'a [u64; limits::WORDS],
-    store: &'a [u8; limits::BYTES],
+    log: &mut Log,
+    words: &'a Words,
+    store: &'a Store,
     reference: &'a [u8; walkthrough_server::REFERENCE],
 ) {
     resolve(log, words, store, walkthrough_server::OXID);
@@ -205,9 +205,9 @@ pub fn come_late<'a>(
 }
 
 fn add<'a>(
-    log: &'a mut [u8],
-    words: &'a mut [u64],
-    store: &'a [u8],
+    log: &mut Log,
+    words: &mut Words,
+    store: &'a Store,
     client: u32,
     ipid: Guid,
     public: u32,
@@ -220,7 +220,7 @@ fn add<'a>(
 }
 
 // Pings with one object in a new set; the set.
-fn make_set<'a>(log: &'a mut [u8], words: &'a mut [u64], store: &'a [u8], oid: Oid) -> SetId {
+fn make_set(log: &mut Log, words: &mut Words, store: &Store, oid: Oid) -> SetId {
     let r = resolver::complex_ping(words, store, SetId(0), 1, &[oid.0], &[]);
     recorder::make_set(log, oid, r.answer, r.set, r.backoff);
     say::results(
@@ -231,7 +231,7 @@ fn make_set<'a>(log: &'a mut [u8], words: &'a mut [u64], store: &'a [u8], oid: O
     r.set
 }
 
-fn pass<'a>(log: &'a mut [u8], words: &'a mut [u64], store: &'a [u8], time: u64) {
+fn pass(log: &mut Log, words: &mut Words, store: &Store, time: u64) {
     let r = resolver::clock(words, store, time);
     recorder::clock(
         log,
@@ -251,13 +251,13 @@ fn pass<'a>(log: &'a mut [u8], words: &'a mut [u64], store: &'a [u8], time: u64)
     );
 }
 
-fn ping<'a>(log: &'a mut [u8], words: &'a mut [u64], store: &'a [u8], set: SetId) {
+fn ping(log: &mut Log, words: &mut Words, store: &Store, set: SetId) {
     let number = resolver::simple_ping(words, store, set);
     recorder::simple_ping(log, set, number);
     say::done(number, b"client: pings its set");
 }
 
-fn release<'a>(log: &'a mut [u8], words: &'a mut [u64], store: &'a [u8]) {
+fn release(log: &mut Log, words: &mut Words, store: &Store) {
     let r = resolver::release(words, store, 0, walkthrough_server::IPID, 7, 1);
     recorder::release(
         log,
@@ -294,7 +294,7 @@ fn released(r: Released) {
     );
 }
 
-fn count<'a>(log: &'a mut [u8], words: &'a [u64], store: &'a [u8], set: SetId) {
+fn count<'a>(log: &mut Log, words: &'a Words, store: &'a Store, set: SetId) {
     let r = resolver::members(words, store, set);
     recorder::members(log, set, r.answer, r.count);
     say::results(

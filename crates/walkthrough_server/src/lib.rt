@@ -5,11 +5,14 @@ use kinds::Guid;
 use kinds::Oid;
 use kinds::Oxid;
 use kinds::limits;
+use recorder::Log;
 use references::Block;
 use references::Reference;
 
-// Room for the recording of a day, in bytes.
-pub const LOG: usize = 8192;
+// The table's words, and the bytes that it stores.
+pub type Words = [u64; limits::WORDS];
+
+pub type Store = [u8; limits::BYTES];
 
 // Identifiers that the server chose.
 pub const OXID: Oxid = Oxid(0x1101);
@@ -72,41 +75,36 @@ pub const SNAPSHOT: usize = 225;
 pub const OPENED: u64 = 42720;
 
 // Registers at eight minutes to noon.
-pub fn open(
-    log: &mut [u8; LOG],
-    words: &mut [u64; limits::WORDS],
-    store: &mut [u8; limits::BYTES],
-) {
+pub fn open(log: &mut Log, words: &mut Words, store: &mut Store) {
     reset(log, words, store);
-    let mut list = [0u8; 44];
-    list_writer::write(&EXPORTER, &[], &mut list);
-    register(log, words, store, &list);
+    register(log, words, store);
 }
 
-fn reset<'a>(log: &'a mut [u8], words: &'a mut [u64], store: &'a [u8]) {
+fn reset(log: &mut Log, words: &mut Words, store: &Store) {
     let number = resolver::reset(words, store, OPENED);
     recorder::reset(log, OPENED, number);
     say::done(number, b"server: resets its table at eight minutes to noon");
 }
 
-fn register<'a>(log: &'a mut [u8], words: &'a mut [u64], store: &'a mut [u8], list: &'a [u8]) {
+fn register(log: &mut Log, words: &mut Words, store: &mut Store) {
+    let mut list = [0u8; 44];
+    list_writer::write(&EXPORTER, &[], &mut list);
+    register_at(log, words, store, &list);
+}
+
+fn register_at(log: &mut Log, words: &mut Words, store: &mut Store, list: &[u8]) {
     let number = resolver::enter_exporter(words, store, OXID, UNKNOWN, list);
     recorder::enter_exporter(log, OXID, UNKNOWN, list, number);
     say::done(number, b"server: registers as exporter");
 }
 
 // Enters the group and writes its reference, which carries the resolver's address (MS-DCOM, sections 2.2.18.4 and 2.2.19.3).
-pub fn offer(
-    log: &mut [u8; LOG],
-    words: &mut [u64; limits::WORDS],
-    store: &[u8; limits::BYTES],
-    reference: &mut [u8; REFERENCE],
-) {
+pub fn offer(log: &mut Log, words: &mut Words, store: &Store, reference: &mut [u8; REFERENCE]) {
     enter(log, words, store);
     write(reference);
 }
 
-fn enter<'a>(log: &'a mut [u8], words: &'a mut [u64], store: &'a [u8]) {
+fn enter(log: &mut Log, words: &mut Words, store: &Store) {
     let number = resolver::enter_object(words, store, OID, OXID, IPID, IID, 5, false);
     recorder::enter_object(log, OID, OXID, IPID, IID, 5, number);
     say::done(
@@ -118,7 +116,11 @@ fn enter<'a>(log: &'a mut [u8], words: &'a mut [u64], store: &'a [u8]) {
 fn write(reference: &mut [u8; REFERENCE]) {
     let mut list = [0u8; 30];
     list_writer::write(&RESOLVER, &[], &mut list);
-    let r = reference_writer::write(Reference::standard(IID, block()), &list, b"", reference);
+    write_with(&list, reference);
+}
+
+fn write_with(list: &[u8], reference: &mut [u8; REFERENCE]) {
+    let r = reference_writer::write(Reference::standard(IID, block()), list, b"", reference);
     say::results(
         r.answer,
         b"server: writes the reference, # bytes\n",
@@ -127,19 +129,9 @@ fn write(reference: &mut [u8; REFERENCE]) {
 }
 
 // The snapshot of the box that goes.
-pub fn save<'a>(
-    log: &mut [u8; LOG],
-    words: &'a [u64; limits::WORDS],
-    store: &'a [u8; limits::BYTES],
-    snapshot: &mut [u8; SNAPSHOT],
-) {
-    save_bytes(log, words, store, snapshot);
-}
-
-fn save_bytes<'a>(log: &'a mut [u8], words: &'a [u64], store: &'a [u8], snapshot: &'a mut [u8]) {
+pub fn save<'a>(log: &mut Log, words: &'a Words, store: &'a Store, snapshot: &'a mut [u8]) {
     let r = resolver::write_snapshot(words, store, snapshot);
-    let n = fields::within(snapshot, r.length);
-    recorder::write_snapshot(log, snapshot.len(), r.answer, &snapshot[0..n]);
+    recorder::write_snapshot(log, r.answer, snapshot, r.length);
     say::results(
         r.answer,
         b"server: writes a snapshot of its table at noon, # bytes\n",
@@ -148,61 +140,44 @@ fn save_bytes<'a>(log: &'a mut [u8], words: &'a [u64], store: &'a [u8], snapshot
 }
 
 // The box that comes; the clock from which it goes on by the seconds that pass there: the snapshot's, not its own.
-pub fn take_over(
-    log: &mut [u8; LOG],
-    words: &mut [u64; limits::WORDS],
-    store: &mut [u8; limits::BYTES],
-    snapshot: &[u8; SNAPSHOT],
-) -> u64 {
-    load(log, words, store, snapshot);
-    fields::read_u64(snapshot, 2)
-}
-
-fn load<'a>(log: &'a mut [u8], words: &'a mut [u64], store: &'a mut [u8], snapshot: &'a [u8]) {
+pub fn take_over(log: &mut Log, words: &mut Words, store: &mut Store, snapshot: &[u8]) -> u64 {
     let number = resolver::load_snapshot(words, store, snapshot);
     recorder::load_snapshot(log, snapshot, number);
     say::done(
         number,
         b"server: loads it into another box, which takes over",
     );
+    fields::read_u64(snapshot, 2)
 }
 
 // Drops a client that was lost.
-pub fn drop_client<'a>(log: &'a mut [u8], words: &'a mut [u64], store: &'a [u8]) {
+pub fn drop_client(log: &mut Log, words: &mut Words, store: &Store) {
     let number = resolver::drop_client(words, store, 1);
     recorder::drop_client(log, 1, number);
     say::done(number, b"server: drops the private references of client 1");
 }
 
 // Leaves.
-pub fn close(
-    log: &mut [u8; LOG],
-    words: &mut [u64; limits::WORDS],
-    store: &mut [u8; limits::BYTES],
-) {
+pub fn close(log: &mut Log, words: &mut Words, store: &mut Store) {
     let number = resolver::remove_exporter(words, store, OXID);
     recorder::remove_exporter(log, OXID, number);
     say::done(number, b"server: leaves");
 }
 
 // What is live.
-pub fn census<'a>(log: &'a mut [u8], words: &'a [u64], store: &'a [u8]) {
+pub fn census<'a>(log: &mut Log, words: &'a Words, store: &'a Store) {
     let r = resolver::census(words, store);
-    counted(
-        log,
-        r.answer,
+    let results = [
+        r.answer as u64,
         r.exporters as u64,
         r.objects as u64,
         r.interfaces as u64,
         r.sets as u64,
-    );
-}
-
-fn counted(log: &mut [u8], number: u32, exporters: u64, objects: u64, interfaces: u64, sets: u64) {
-    recorder::census(log, &[number as u64, exporters, objects, interfaces, sets]);
+    ];
+    recorder::census(log, &results);
     say::results(
-        number,
+        r.answer,
         b"server: census, # exporters, # objects, # interfaces, # sets\n",
-        &[exporters, objects, interfaces, sets],
+        &results[1..5],
     );
 }

@@ -28,8 +28,7 @@ pub fn results(number: u32, what: &[u8], values: &[u64]) {
 // The answer number of a step. What follows is what the step is.
 fn answer(out: &mut Buffer, number: u32) {
     print::either(out, number < 10, b"  ", b" ");
-    print::decimal(out, number as u64);
-    print::text(out, b"  ");
+    print::pattern::filled(out, b"#  ", &[number as u64]);
 }
 
 // A step without results.

@@ -8,10 +8,10 @@ use Rattle.recorder.proofs.pack.Statement.{statement}
 use Rattle.recorder.proofs.pack.Tie as tie
 
 abbrev Inv-loop : tie.InvT-loop
-Inv-loop to₀ widths numbers at₀ k₀ to at k = length to ≡ length to₀
+Inv-loop to₀ widths numbers at₀ left₀ k₀ to at left k = length to ≡ length to₀
 
 abbrev μ-loop : tie.MeasureT-loop
-μ-loop to₀ widths numbers at₀ k₀ to at k = length numbers - k
+μ-loop to₀ widths numbers at₀ left₀ k₀ to at left k = length numbers - k
 
 pub pack-spec : {M : Type 1} → statement M
 pack-spec =
@@ -23,8 +23,6 @@ pack-spec =
     (λ c. search needs)
     (λ c. search needs)
     (λ c κs. search needs)
-    (λ c κs. search needs)
-    (λ c. search needs)
     (λ c κs. search needs)
     (λ c. search needs)
     (λ c. search needs)

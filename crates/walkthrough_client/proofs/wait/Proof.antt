@@ -1,13 +1,11 @@
 -- `client::wait`: one period less is left.
 use Prim.Native.Nat.{_-_}
-use mathlib.Core.Path.{_≡_}
-use lib.ListN.{length}
 use borrow.Author.Needs.{needs}
 use Rattle.walkthrough_client.proofs.wait.Statement.{statement}
 use Rattle.walkthrough_client.proofs.wait.Tie as tie
 
 abbrev Inv-loop : tie.InvT-loop
-Inv-loop log₀ words₀ store set clock periods pinging time₀ k₀ log words time k = length words ≡ length words₀
+Inv-loop log₀ words₀ store set clock periods pinging time₀ k₀ log words time k = Unit {0}
 
 abbrev μ-loop : tie.MeasureT-loop
 μ-loop log₀ words₀ store set clock periods pinging time₀ k₀ log words time k = periods - k
