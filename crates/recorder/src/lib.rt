@@ -24,7 +24,7 @@ pub fn end(log: &[u8]) -> usize {
 }
 
 // Where a section that is put at a place ends; one that has no room is left out.
-fn section<'a>(log: &mut Log, at: usize, s: &'a [u8]) -> usize {
+fn section(log: &mut Log, at: usize, s: &[u8]) -> usize {
     if ROOM - 8 < at {
         return at;
     }
@@ -37,7 +37,7 @@ fn section<'a>(log: &mut Log, at: usize, s: &'a [u8]) -> usize {
     at + 8 + n
 }
 
-// Puts numbers one behind the other, each as wide as its digit of the widths says, the last digit first; where they end. The next one
+// Puts numbers one behind the other, each as wide as its hex digit of the widths says, the last digit first; where they end. The next one
 // covers the zeros of a narrow one.
 fn pack<'a>(to: &'a mut [u8], widths: u64, numbers: &'a [u64]) -> usize {
     let mut at = 0;
@@ -53,7 +53,7 @@ fn pack<'a>(to: &'a mut [u8], widths: u64, numbers: &'a [u64]) -> usize {
 }
 
 // Where a section of numbers that is put at a place ends.
-fn packed<'a>(log: &mut Log, at: usize, widths: u64, numbers: &'a [u64]) -> usize {
+fn packed(log: &mut Log, at: usize, widths: u64, numbers: &[u64]) -> usize {
     let mut s = [0u8; 64];
     let n = pack(&mut s, widths, numbers);
     let m = fields::within(&s, n);
@@ -98,7 +98,7 @@ pub fn reset(log: &mut Log, time: u64, number: u32) {
     single(log, 0, time, number);
 }
 
-pub fn enter_exporter<'a>(log: &mut Log, oxid: Oxid, unknown: Guid, list: &'a [u8], number: u32) {
+pub fn enter_exporter(log: &mut Log, oxid: Oxid, unknown: Guid, list: &[u8], number: u32) {
     record(
         log,
         0x8881,
@@ -142,14 +142,14 @@ pub fn enter_object(
 }
 
 // A record of an add or a release, by its code.
-fn counted<'a>(
+fn counted(
     log: &mut Log,
     code: u64,
     client: u32,
     ipid: Guid,
     public: u32,
     private: u32,
-    results: &'a [u64],
+    results: &[u64],
 ) {
     plain(
         log,
@@ -171,14 +171,7 @@ pub fn add(log: &mut Log, client: u32, ipid: Guid, public: u32, private: u32, nu
 }
 
 // The results are the number, and what was taken and went.
-pub fn release<'a>(
-    log: &mut Log,
-    client: u32,
-    ipid: Guid,
-    public: u32,
-    private: u32,
-    results: &'a [u64],
-) {
+pub fn release(log: &mut Log, client: u32, ipid: Guid, public: u32, private: u32, results: &[u64]) {
     counted(log, 6, client, ipid, public, private, results);
 }
 
@@ -205,7 +198,7 @@ pub fn make_set(log: &mut Log, oid: Oid, number: u32, set: SetId, backoff: u16) 
 }
 
 // The results are the number, and how many of each kind went.
-pub fn clock<'a>(log: &mut Log, time: u64, results: &'a [u64]) {
+pub fn clock(log: &mut Log, time: u64, results: &[u64]) {
     plain(log, 0x81, &[12, time], results);
 }
 
@@ -256,7 +249,7 @@ pub fn resolve_filtered<'a>(
 }
 
 // The results are the number, and how many of each kind are live.
-pub fn census<'a>(log: &mut Log, results: &'a [u64]) {
+pub fn census(log: &mut Log, results: &[u64]) {
     plain(log, 0x1, &[15], results);
 }
 
@@ -282,6 +275,6 @@ pub fn write_snapshot(log: &mut Log, number: u32, buffer: &[u8], length: usize) 
     );
 }
 
-pub fn load_snapshot<'a>(log: &mut Log, snapshot: &'a [u8], number: u32) {
+pub fn load_snapshot(log: &mut Log, snapshot: &[u8], number: u32) {
     record(log, 0x1, &[19], snapshot, &[number as u64], b"");
 }
