@@ -4,7 +4,7 @@ use kinds::Guid;
 use kinds::Oid;
 use kinds::Oxid;
 use kinds::SetId;
-use replaying::Outcome;
+use replay_rules::Outcome;
 use resolver::Expired;
 use resolver::LiveCounts;
 use resolver::MemberCount;
@@ -21,7 +21,7 @@ ghost use Rattle.call_lists.specs.Listing.{listReply};
 ghost use Rattle.call_ping.specs.Replies.{pingReply};
 ghost use Rattle.call_look.specs.NextStop.{StopFound};
 ghost use Rattle.call_save.specs.Replies.{writtenReply};
-ghost use Rattle.replaying.specs.Replay.{Replayed};
+ghost use Rattle.replay_rules.specs.Replay.{Replayed};
 
 // Empties the table and sets its clock.
 #[no_mangle]

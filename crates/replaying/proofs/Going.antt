@@ -23,12 +23,12 @@ use Rattle.balance.specs.Sides.{sideOf, moved}
 use Rattle.balance.proofs.Balanced.{run-balanced}
 use Rattle.balance.proofs.Sides.{by-sums}
 use Rattle.recording.specs.Recording.{Recorded, recordsOf}
-use Rattle.replaying.specs.Replay.{firstDiffering, done, callsIn, replayedCalls, replayAnswer, outcomeOf, Replayed}
+use Rattle.replay_rules.specs.Replay.{firstDiffering, done, callsIn, replayedCalls, replayAnswer, outcomeOf, Replayed}
 use Rattle.replay_step.specs.Steps.{StepDone}
 use Rattle.replaying.specs.Turns.{stepTally}
 use Rattle.replay_step.specs.declared.Step.{Step}
-use Rattle.replaying.specs.declared.Outcome.{Outcome}
-use Rattle.replaying.proofs.Running.{append, after-call, reset-done}
+use Rattle.replay_rules.specs.declared.Outcome.{Outcome}
+use Rattle.replay_rules.proofs.Running.{append, after-call, reset-done}
 
 -- the tally of calls in two parts
 tally-append : (cs ds : List Call) (e : Entries) (y : Tally) → tallyOver (cs ++ ds) e y ≡ tallyOver ds (callsDone cs e) (tallyOver cs e y)

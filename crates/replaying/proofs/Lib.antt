@@ -1,9 +1,3 @@
-pub mod Agreeing
-pub mod Running
-pub mod Buffers
-pub mod Bounds
 pub mod Going
-pub mod Cases
 pub mod Telling
 pub mod Looping
-pub mod Lengths

@@ -32,12 +32,12 @@ use Rattle.recording.specs.Statements.{Given}
 use Rattle.recording.proofs.Places.{rows-ended, records-short, records-past, records-fit, records-after}
 use Rattle.recording.proofs.Givens.{given-read}
 use Rattle.replay_step.specs.Answers.{answerTo, sameAnswer}
-use Rattle.replaying.specs.Replay.{done, callsIn, replayAnswer, Replayed}
+use Rattle.replay_rules.specs.Replay.{done, callsIn, replayAnswer, Replayed}
 use Rattle.replaying.specs.Turns.{stepTally, recordedAt, TurnDone}
 use Rattle.replaying.specs.declared.shift.Turn.{Turn}
 use Rattle.replaying.proofs.Going.{Going, Stopped, going-start, going-on, going-stop, going-end, replayed-made}
-use Rattle.replaying.proofs.Bounds.{tallies-fit}
-use Rattle.replaying.proofs.Running.{reset-done}
+use Rattle.replay_rules.proofs.Bounds.{tallies-fit}
+use Rattle.replay_rules.proofs.Running.{reset-done}
 use Rattle.replay_tally.proofs.Wrapping.{moved-on}
 
 -- Before a turn: records left from at, the first of them by its number; the table's sum; the tally as 64 bits hold it.

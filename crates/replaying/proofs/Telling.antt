@@ -34,7 +34,7 @@ use Rattle.replay_step.specs.declared.Step.{Step}
 use Rattle.replay_tally.specs.Sums.{sideAs, summedAs, SumTold}
 use Rattle.replay_groups.specs.Records.{RecordDone}
 use Rattle.replay_groups.proofs.Coded.{callAs, code-known, by-codes, side-as}
-use Rattle.replaying.proofs.Running.{after-call}
+use Rattle.replay_rules.proofs.Running.{after-call}
 
 isGranting : Side → Bool
 isGranting granting = true

@@ -1,4 +1,1 @@
-pub mod Replay
 pub mod Turns
-pub mod Statements
-pub mod Cases

@@ -3,19 +3,12 @@ mod shift;
 
 use kinds::answer;
 use kinds::limits;
+use replay_rules::Outcome;
 use tally::Tally;
 ghost use mathlib.Core.Path.{_≡_};
 ghost use Rattle.table_view.specs.View.{memory};
 ghost use Rattle.balance.specs.Balance.{noTally};
-ghost use Rattle.replaying.specs.Replay.{Replayed};
-
-// 0, or 1; 13; 14; 10. differs is 0 where every recorded answer equals ours, else the number of the first record that differs, from 1.
-#[repr(C)]
-pub struct Outcome {
-    pub answer: u32,
-    pub differs: u32,
-    pub tally: Tally,
-}
+ghost use Rattle.replay_rules.specs.Replay.{Replayed};
 
 // A replay that is refused: no record differs, and the tally is zero.
 fn refused(number: u32) -> Outcome

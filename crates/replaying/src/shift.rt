@@ -1,5 +1,5 @@
 // The records of a recording, one after the other.
-use crate::Outcome;
+use replay_rules::Outcome;
 use table_columns::buckets;
 use tally::Tally;
 ghost use mathlib.Core.Path.{_≡_};
@@ -10,7 +10,7 @@ ghost use Rattle.rules.specs.Contract.{Whole};
 ghost use Rattle.balance.specs.Balance.{heldIn};
 ghost use Rattle.recording.specs.Recording.{wellFormed, sectionsAt, recordingAnswer};
 ghost use Rattle.recording.specs.Places.{recordEnds, RecordAt};
-ghost use Rattle.replaying.specs.Replay.{Replayed};
+ghost use Rattle.replay_rules.specs.Replay.{Replayed};
 ghost use Rattle.replaying.specs.Turns.{TurnDone};
 
 // After a record: whether its answer is ours, where it ends, the table's sum and the tally.

@@ -7,10 +7,10 @@ use lib.ListN.{length}
 use lib.Dec.{eqb}
 use Rattle.rules.specs.Contract.{rightLengths}
 use Rattle.table_view.specs.View.{memory}
-use Rattle.replaying.specs.Replay.{Replayed}
-use Rattle.replaying.specs.declared.Outcome.{Outcome}
+use Rattle.replay_rules.specs.Replay.{Replayed}
+use Rattle.replay_rules.specs.declared.Outcome.{Outcome}
 use Rattle.replaying.proofs.Going.{replayed-refused}
-use Rattle.replaying.proofs.Lengths.{whole-lengths, wrong-lengths, right-lengths}
+use Rattle.replay_rules.proofs.Lengths.{whole-lengths, wrong-lengths, right-lengths}
 use borrow.Author.Needs.{needs}
 use Rattle.replaying.proofs.replay.Statement.{statement}
 use Rattle.replaying.proofs.replay.Tie as tie

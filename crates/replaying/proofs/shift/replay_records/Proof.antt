@@ -8,7 +8,7 @@ use Rattle.rules.specs.Calls.{starting, reset, Reply}
 use Rattle.rules.specs.Contract.{Memory, rightLengths}
 use Rattle.rules.proofs.SoundLaws.{table-fields}
 use Rattle.table_view.specs.View.{view, memory, SoundTable, Performed}
-use Rattle.replaying.proofs.Lengths.{whole-lengths}
+use Rattle.replay_rules.proofs.Lengths.{whole-lengths}
 use Rattle.replaying.proofs.Looping.{Before, before-start, record-there, fits-here, before-next, stopped-here, tally-here, stopped-end, replayed-stopped}
 use borrow.Author.Needs.{needs}
 use Rattle.replaying.proofs.shift.replay_records.Statement.{statement}

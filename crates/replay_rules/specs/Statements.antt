@@ -14,9 +14,9 @@ use Rattle.recording.specs.Recording.{Recorded, mostRecords}
 use Rattle.recording.specs.Statements.{Given, byLength}
 use Rattle.tally.specs.declared.Tally.{Tally}
 use Rattle.balance.specs.Balance.{noTally, after, tallyOver, Balanced}
-use Rattle.replaying.specs.declared.Outcome.{Outcome}
+use Rattle.replay_rules.specs.declared.Outcome.{Outcome}
 use Rattle.replay_step.specs.Answers.{answerTo}
-use Rattle.replaying.specs.Replay.{answersOver, firstDiffering, done, callsIn, answersIn, replayedCalls, Replayed}
+use Rattle.replay_rules.specs.Replay.{answersOver, firstDiffering, done, callsIn, answersIn, replayedCalls, Replayed}
 
 -- "agrees" exactly if every answer equals ours
 abbrev pub Agrees : Type 0

@@ -9,7 +9,7 @@ use Rattle.rules.specs.Entries.{fresh}
 use Rattle.rules.specs.Calls.{Call, looking, editing, enterExporter, enterObject, add, release, dropClient, clock, census}
 use Rattle.balance.specs.Balance.{noTally, tallyOver}
 use Rattle.recording.specs.Recording.{Recorded}
-use Rattle.replaying.specs.Replay.{firstDiffering, callsIn}
+use Rattle.replay_rules.specs.Replay.{firstDiffering, callsIn}
 
 abbrev recorded : Call → ℕ → List ℕ → Recorded
 recorded c n vs = record { call = c; answer = record { number = n; values = vs; shown = [] } }

@@ -26,7 +26,7 @@ use Rattle.tally.specs.declared.Tally.{Tally}
 use Rattle.balance.specs.Balance.{heldIn, noTally, itemTallied, itemsTallied, counting, tallied, after, tallyOver}
 use Rattle.balance.proofs.Sums.{held-small}
 use Rattle.balance.proofs.Balanced.{run-balanced}
-use Rattle.replaying.specs.Statements.{TallySmall, TalliesFit}
+use Rattle.replay_rules.specs.Statements.{TallySmall, TalliesFit}
 
 -- ---- a snapshot's counts
 

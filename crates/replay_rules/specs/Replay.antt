@@ -13,7 +13,7 @@ use Rattle.history.specs.Runs.{Run}
 use Rattle.recording.specs.Recording.{Answer, Recorded, recordsOf, recordingRefusals}
 use Rattle.balance.specs.Balance.{noTally, after, tallyOver}
 use Rattle.replay_step.specs.Answers.{answerTo, sameAnswer}
-use Rattle.replaying.specs.declared.Outcome.{Outcome}
+use Rattle.replay_rules.specs.declared.Outcome.{Outcome}
 
 -- ---- our answers
 

@@ -8,7 +8,7 @@ use lib.ListN.{length}
 use Rattle.kinds.specs.Refusals.{order}
 use Rattle.rules.specs.Contract.{Memory, Whole, rightLengths}
 use Rattle.recording.specs.Recording.{recordingAnswer}
-use Rattle.replaying.specs.Replay.{replayAnswer}
+use Rattle.replay_rules.specs.Replay.{replayAnswer}
 
 pub whole-lengths : (m : Memory) → Whole (m .words) → Whole (m .store) → rightLengths m ≡ true
 whole-lengths m w b u = eq-eqb (length (m .words)) 8192 w u && eq-eqb (length (m .store)) 8192 b u

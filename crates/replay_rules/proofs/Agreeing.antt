@@ -15,8 +15,8 @@ use Rattle.rules.specs.OneByOne.{callsDone}
 use Rattle.recording.specs.Recording.{Answer, Recorded}
 use Rattle.balance.specs.Balance.{after}
 use Rattle.replay_step.specs.Answers.{answerTo, sameAnswer}
-use Rattle.replaying.specs.Replay.{answersOver, firstDiffering, done, callsIn, answersIn}
-use Rattle.replaying.specs.Statements.{Agrees, FirstDiffers, StopsAtFirst, DoneAll}
+use Rattle.replay_rules.specs.Replay.{answersOver, firstDiffering, done, callsIn, answersIn}
+use Rattle.replay_rules.specs.Statements.{Agrees, FirstDiffers, StopsAtFirst, DoneAll}
 
 -- ---- two answers
 

@@ -8,8 +8,8 @@ use Rattle.rules.specs.Entries.{listsLength}
 use Rattle.rules.specs.Rules.{refusals, number, next, results, refusedReply, acceptedReply, reply}
 use Rattle.balance.specs.Balance.{total, countsHeld, heldBy, counting, tallyOver}
 use Rattle.replay_step.specs.Answers.{answerTo}
-use Rattle.replaying.specs.Replay.{firstDiffering}
-use Rattle.replaying.specs.Cases.{shift, ShiftReplayed}
+use Rattle.replay_rules.specs.Replay.{firstDiffering}
+use Rattle.replay_rules.specs.Cases.{shift, ShiftReplayed}
 
 pub shift-replayed : ShiftReplayed
 unfolding shift order bytesNumber encode field words throughZero firstBinding bindingsUpTo bindingsOf joined sameWords isPart twoParts listLength frontAnswer listAnswer

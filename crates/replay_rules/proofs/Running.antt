@@ -24,9 +24,9 @@ use Rattle.tally.specs.declared.Tally.{Tally}
 use Rattle.balance.specs.Balance.{noTally, after, tallyOver, Balanced}
 use Rattle.balance.proofs.Balanced.{run-balanced}
 use Rattle.recording.specs.Recording.{recordingRefusals}
-use Rattle.replaying.specs.declared.Outcome.{Outcome}
-use Rattle.replaying.specs.Replay.{replayedCalls, replayAnswer, outcomeOf, Replayed}
-use Rattle.replaying.specs.Statements.{RunAppend, ReplayInRun, ReplayBegins, EachRecord, ReplayBalanced}
+use Rattle.replay_rules.specs.declared.Outcome.{Outcome}
+use Rattle.replay_rules.specs.Replay.{replayedCalls, replayAnswer, outcomeOf, Replayed}
+use Rattle.replay_rules.specs.Statements.{RunAppend, ReplayInRun, ReplayBegins, EachRecord, ReplayBalanced}
 
 -- ---- runs one after the other
 

@@ -13,7 +13,7 @@ use Rattle.rules.specs.Rules.{number, refusals, next, results}
 use Rattle.recording.specs.Statements.{byLength}
 use Rattle.balance.specs.Balance.{after}
 use Rattle.replay_step.proofs.Alike.{Alike, alike-answer}
-use Rattle.replaying.specs.Statements.{LengthIsEnough}
+use Rattle.replay_rules.specs.Statements.{LengthIsEnough}
 
 pub alike-after : (c d : Call) (e : Entries) → Alike c d e → after c e ≡ after d e
 alike-after c d e a u = cond (eqb (a .number u) 0) (a .next u) e
