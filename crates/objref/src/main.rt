@@ -54,7 +54,7 @@ fn single(out: &mut Buffer, s: &[u8], n: usize) {
         let clsid = reference.clsid;
         data::object(out, clsid, references::tail(s), n);
     } else {
-        print::list::parts(out, references::tail(s), n);
+        print_bindings::parts(out, references::tail(s), n);
     }
     if reference.flags == Reference::EXTENDED {
         let id = reference.element;

@@ -5,7 +5,6 @@ use libc::STDOUT_FILENO;
 ghost use Prim.Native.Nat.{_≤_};
 
 pub mod dump;
-pub mod list;
 pub mod pattern;
 pub mod words;
 

@@ -23,7 +23,7 @@ fn exporter(out: &mut Buffer, s: &[u8]) -> usize {
     pattern::told(out, b"  OXID 0x*, remote unknown @, list of & bytes\n", s);
     let end = 26 + fields::read_u16(s, 24) as usize;
     if end <= s.len() {
-        print::list::parts(out, &s[26..end], 2);
+        print_bindings::parts(out, &s[26..end], 2);
     }
     end
 }

@@ -1,9 +1,9 @@
--- `list::all`: the number of the binding grows up to 65,536; a binding that is met lies in the list.
+-- `print_bindings::all`: the number of the binding grows up to 65,536; a binding that is met lies in the list.
 use Prim.Native.Nat.{_-_}
 use borrow.Author.Needs.{needs}
 use Rattle.cursors.proofs.StepsInside.{binding-order, binding-end}
-use Rattle.print.proofs.list.all.Statement.{statement}
-use Rattle.print.proofs.list.all.Tie as tie
+use Rattle.print_bindings.proofs.all.Statement.{statement}
+use Rattle.print_bindings.proofs.all.Tie as tie
 
 abbrev Inv-loop : tie.InvT-loop
 Inv-loop out₀ s p at words n i₀ left₀ k₀ out i left k = Unit {0}

@@ -1,10 +1,10 @@
-// The bindings of a list, at depth n.
-use crate::Buffer;
-use crate::pattern;
-use crate::words;
+// The bindings of a list on standard output, at depth n.
 use bindings::Part;
 use cursors::parts;
 use kinds::answer;
+use print::Buffer;
+use print::pattern;
+use print::words;
 
 // The list's N and S (document 01), then its bindings.
 pub fn parts(out: &mut Buffer, s: &[u8], n: usize) {
@@ -71,9 +71,9 @@ fn string_binding(out: &mut Buffer, k: usize, b: &[u8], n: usize) {
         &[k as u64, tower as u64],
     );
     protocol(out, tower);
-    crate::text(out, b"), address ");
+    print::text(out, b"), address ");
     words::text(out, b, 1);
-    crate::end_line(out);
+    print::end_line(out);
 }
 
 fn security_binding(out: &mut Buffer, k: usize, b: &[u8], n: usize) {
@@ -85,14 +85,14 @@ fn security_binding(out: &mut Buffer, k: usize, b: &[u8], n: usize) {
         &[k as u64, service, service, fields::read_u16(b, 2) as u64],
     );
     words::text(out, b, 2);
-    crate::end_line(out);
+    print::end_line(out);
 }
 
 // The protocol of a tower number (document 001, section 3.2).
 fn protocol(out: &mut Buffer, tower: u16) {
     let names =
         b"unknown\nncacn_dnet_nsp\nncacn_ip_tcp\nncadg_ip_udp\nncacn_spx\nncacn_nb_ipx\nncadg_ipx\nncalrpc\nncacn_nb_nb\n";
-    crate::text(out, pattern::line(names, protocol_line(tower)));
+    print::text(out, pattern::line(names, protocol_line(tower)));
 }
 
 // The line of its name.
