@@ -158,9 +158,14 @@ fn low(c: u8, s: &[u8]) -> u64 {
     match c {
         b'$' => fields::read_u32(s, 0) as u64,
         b'&' => fields::read_u16(s, 0) as u64,
-        b'!' => fields::read_u16(s, 0) as u64 % 256,
+        b'!' => yes_or_no(s),
         _ => fields::read_u64(s, 0),
     }
+}
+
+// 0 where the first byte is zero, else 1.
+fn yes_or_no(s: &[u8]) -> u64 {
+    if fields::is_zero(s, 0, 1) { 0 } else { 1 }
 }
 
 // Line k of a text, from 0, without its end; none behind the last.
