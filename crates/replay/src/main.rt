@@ -3,9 +3,9 @@
 use kinds::answer;
 use kinds::limits;
 use print::Buffer;
+use replay_rules::Outcome;
 use tally::Tally;
 
-mod ours;
 mod record;
 
 fn main() {
@@ -40,20 +40,28 @@ fn report(s: &mut [u8]) {
 }
 
 fn replayed(out: &mut Buffer, s: &mut [u8]) {
-    let mut words = [0u64; limits::WORDS];
-    let mut store = [0u8; limits::BYTES];
-    let r = replaying::replay(&mut words, &mut store, s);
+    let r = outcome(s);
     if r.answer != answer::DONE {
         refused(out, r.answer);
         return;
     }
-    if r.differs == 0 {
+    compared(out, s, r.differs);
+    tallied(out, r.tally);
+}
+
+// Record k differs, from 1, or none where it is 0.
+fn compared(out: &mut Buffer, s: &mut [u8], k: u32) {
+    if k == 0 {
         print::text(out, b"agrees\n");
-        tallied(out, r.tally);
         return;
     }
-    record::differing(out, &mut words, &mut store, s, r.differs);
-    tallied(out, r.tally);
+    record::differing(out, s, k);
+}
+
+fn outcome(s: &[u8]) -> Outcome {
+    let mut words = [0u64; limits::WORDS];
+    let mut store = [0u8; limits::BYTES];
+    replaying::replay(&mut words, &mut store, s)
 }
 
 // What is held is the rest of what was granted.

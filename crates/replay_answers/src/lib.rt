@@ -2,6 +2,7 @@
 use kinds::Oid;
 use kinds::Oxid;
 use kinds::SetId;
+use kinds::answer;
 use resolver::Released;
 use resolver::Resolved;
 ghost use Prim.Native.Nat.{_≤_};
@@ -18,7 +19,7 @@ pub struct Answered {
 }
 
 // An answer without results that shows nothing.
-pub fn plain(number: u32) -> Answered {
+fn plain(number: u32) -> Answered {
     Answered {
         number: number,
         a: 0,
@@ -29,21 +30,17 @@ pub fn plain(number: u32) -> Answered {
     }
 }
 
-// Whether the call of a code writes to a buffer.
-pub fn writes(code: u8) -> bool {
-    match code {
-        8 | 9 | 13 | 14 | 18 => true,
-        _ => false,
-    }
-}
+// The most bytes that a call shows: a binding list of 65,535 words in a reference.
+pub const MOST_SHOWN: usize = 131074;
 
-// The answer of a call that writes to no buffer.
-pub fn performed<'a>(
-    words: &'a mut [u64],
-    store: &'a mut [u8],
-    call: &'a [u8],
-    first: &'a [u8],
-    second: &'a [u8],
+// The answer of a call; what it shows is written to the front of a buffer.
+pub fn performed(
+    words: &mut [u64],
+    store: &mut [u8],
+    call: &[u8],
+    first: &[u8],
+    second: &[u8],
+    buffer: &mut [u8],
 ) -> Answered {
     let code = recording::byte(call, 0);
     if code < 5 {
@@ -52,17 +49,22 @@ pub fn performed<'a>(
     if code == 19 {
         return plain(resolver::load_snapshot(words, store, first));
     }
+    if shows(code) {
+        return written(code, words, store, call, first, buffer);
+    }
     edit(code, words, store, call, first, second)
 }
 
+// Whether the call of a code shows bytes.
+fn shows(code: u8) -> bool {
+    match code {
+        8 | 9 | 13 | 14 | 17 | 18 => true,
+        _ => false,
+    }
+}
+
 // Codes 0 to 4.
-fn entry<'a>(
-    code: u8,
-    words: &'a mut [u64],
-    store: &'a mut [u8],
-    s: &'a [u8],
-    list: &'a [u8],
-) -> u32 {
+fn entry(code: u8, words: &mut [u64], store: &mut [u8], s: &[u8], list: &[u8]) -> u32 {
     let id = fields::read_u64(s, 1);
     if code == 1 {
         return resolver::enter_exporter(words, store, Oxid(id), fields::read_guid(s, 9), list);
@@ -74,7 +76,7 @@ fn entry<'a>(
 }
 
 // Codes 0, 3 and 4.
-fn entered<'a>(code: u8, words: &'a mut [u64], store: &'a [u8], s: &'a [u8]) -> u32 {
+fn entered(code: u8, words: &mut [u64], store: &[u8], s: &[u8]) -> u32 {
     let id = fields::read_u64(s, 1);
     if code == 0 {
         return resolver::reset(words, store, id);
@@ -92,7 +94,7 @@ fn entered<'a>(code: u8, words: &'a mut [u64], store: &'a [u8], s: &'a [u8]) -> 
     )
 }
 
-fn enter_object<'a>(words: &'a mut [u64], store: &'a [u8], s: &'a [u8]) -> u32 {
+fn enter_object(words: &mut [u64], store: &[u8], s: &[u8]) -> u32 {
     resolver::enter_object(
         words,
         store,
@@ -106,13 +108,13 @@ fn enter_object<'a>(words: &'a mut [u64], store: &'a [u8], s: &'a [u8]) -> u32 {
 }
 
 // Codes 5 to 7, 10 to 12, 15 and 16.
-fn edit<'a>(
+fn edit(
     code: u8,
-    words: &'a mut [u64],
-    store: &'a [u8],
-    s: &'a [u8],
-    adds: &'a [u8],
-    deletes: &'a [u8],
+    words: &mut [u64],
+    store: &[u8],
+    s: &[u8],
+    adds: &[u8],
+    deletes: &[u8],
 ) -> Answered {
     if code < 8 {
         return count(code, words, store, s);
@@ -127,7 +129,7 @@ fn edit<'a>(
 }
 
 // Codes 5 to 7.
-fn count<'a>(code: u8, words: &'a mut [u64], store: &'a [u8], s: &'a [u8]) -> Answered {
+fn count(code: u8, words: &mut [u64], store: &[u8], s: &[u8]) -> Answered {
     let client = fields::read_u32(s, 1);
     if code == 7 {
         return plain(resolver::drop_client(words, store, client));
@@ -163,17 +165,20 @@ fn room(buffer: &[u8], n: u64) -> usize
     }
 }
 
-// The answer of a call that writes to the front of a buffer.
-pub fn written<'a>(
-    words: &'a mut [u64],
-    store: &'a [u8],
-    s: &'a [u8],
-    first: &'a [u8],
-    buffer: &'a mut [u8],
+// Codes 8, 9, 13, 14, 17 and 18.
+fn written(
+    code: u8,
+    words: &mut [u64],
+    store: &[u8],
+    s: &[u8],
+    first: &[u8],
+    buffer: &mut [u8],
 ) -> Answered {
-    let code = recording::byte(s, 0);
     if code < 10 {
         return list(code, words, store, s, first, buffer);
+    }
+    if code == 17 {
+        return next_stop(words, store, first, buffer);
     }
     if code == 18 {
         return snapshot(words, store, s, buffer);
@@ -182,13 +187,13 @@ pub fn written<'a>(
 }
 
 // Codes 8 and 9: a result for each item.
-fn list<'a>(
+fn list(
     code: u8,
-    words: &'a mut [u64],
-    store: &'a [u8],
-    s: &'a [u8],
-    items: &'a [u8],
-    buffer: &'a mut [u8],
+    words: &mut [u64],
+    store: &[u8],
+    s: &[u8],
+    items: &[u8],
+    buffer: &mut [u8],
 ) -> Answered {
     let client = fields::read_u32(s, 1);
     let n = room(buffer, fields::read_u64(s, 5));
@@ -217,7 +222,7 @@ fn listed(number: u32, n: usize) -> Answered {
 }
 
 // Codes 10 and 12.
-fn passed<'a>(code: u8, words: &'a mut [u64], store: &'a [u8], n: u64) -> Answered {
+fn passed(code: u8, words: &mut [u64], store: &[u8], n: u64) -> Answered {
     if code == 10 {
         return plain(resolver::simple_ping(words, store, SetId(n)));
     }
@@ -236,36 +241,20 @@ fn four(number: u32, a: usize, b: usize, c: usize, d: usize) -> Answered {
     }
 }
 
-// A list of more than 65,535 OIDs is refused, whatever stands in it: so is the front of one that is a place longer.
-fn complex_ping<'a>(
-    words: &'a mut [u64],
-    store: &'a [u8],
-    s: &'a [u8],
-    adds: &'a [u8],
-    deletes: &'a [u8],
+// Code 11: the lists are in bytes, so it is the step that is asked for.
+fn complex_ping(
+    words: &mut [u64],
+    store: &[u8],
+    s: &[u8],
+    adds: &[u8],
+    deletes: &[u8],
 ) -> Answered {
-    let mut add = [0u64; 65536];
-    let mut delete = [0u64; 65536];
-    let n = read_oids(&mut add, adds);
-    let m = read_oids(&mut delete, deletes);
-    pinged(words, store, s, &add, n, &delete, m)
-}
-
-// With the first n and the first m of two lists.
-fn pinged<'a>(
-    words: &'a mut [u64],
-    store: &'a [u8],
-    s: &'a [u8],
-    add: &'a [u64],
-    n: usize,
-    delete: &'a [u64],
-    m: usize,
-) -> Answered {
+    if !table_judge::sound(words, store) {
+        return plain(answer::UNSOUND);
+    }
     let set = SetId(fields::read_u64(s, 1));
     let sequence = fields::read_u16(s, 9);
-    let a = least(add.len(), n);
-    let d = least(delete.len(), m);
-    let r = resolver::complex_ping(words, store, set, sequence, &add[0..a], &delete[0..d]);
+    let r = call_ping::complex_ping_bytes_step(words, store, set, sequence, adds, deletes);
     Answered {
         number: r.answer,
         a: r.set.0,
@@ -276,27 +265,8 @@ fn pinged<'a>(
     }
 }
 
-fn least(n: usize, m: usize) -> usize
-    ensures { λ r. ⌜ r ≤ n ⌝ }
-{
-    if n < m { n } else { m }
-}
-
-// The numbers of eight bytes, as many as there is place for; how many.
-fn read_oids<'a>(to: &'a mut [u64], s: &'a [u8]) -> usize {
-    let mut i = 0;
-    while i < to.len() {
-        if s.len() / 8 <= i {
-            return i;
-        }
-        to[i] = fields::read_u64(s, i * 8);
-        i += 1;
-    }
-    i
-}
-
 // Codes 15 and 16.
-fn look<'a>(code: u8, words: &'a [u64], store: &'a [u8], s: &'a [u8]) -> Answered {
+fn look(code: u8, words: &[u64], store: &[u8], s: &[u8]) -> Answered {
     if code == 16 {
         let r = resolver::members(words, store, SetId(fields::read_u64(s, 1)));
         return four(r.answer, r.count, 0, 0, 0);
@@ -305,8 +275,29 @@ fn look<'a>(code: u8, words: &'a [u64], store: &'a [u8], s: &'a [u8]) -> Answere
     four(r.answer, r.exporters, r.objects, r.interfaces, r.sets)
 }
 
+// Code 17: a part of the store or of the reference.
+fn next_stop(words: &[u64], store: &[u8], reference: &[u8], buffer: &mut [u8]) -> Answered {
+    let x = resolver::next_stop_place(words, store, reference);
+    if x.in_store {
+        return listed(x.answer, copied(buffer, store, x.from, x.to));
+    }
+    listed(x.answer, copied(buffer, reference, x.from, x.to))
+}
+
+// Writes the bytes from one place to another at the front of a buffer; how many.
+fn copied(buffer: &mut [u8], s: &[u8], from: usize, to: usize) -> usize {
+    if s.len() < to {
+        return 0;
+    }
+    if to < from {
+        return 0;
+    }
+    fields::copy(buffer, 0, &s[from..to]);
+    to - from
+}
+
 // Code 18.
-fn snapshot<'a>(words: &'a [u64], store: &'a [u8], s: &'a [u8], buffer: &'a mut [u8]) -> Answered {
+fn snapshot(words: &[u64], store: &[u8], s: &[u8], buffer: &mut [u8]) -> Answered {
     let n = room(buffer, fields::read_u64(s, 1));
     let r = resolver::write_snapshot(words, store, &mut buffer[0..n]);
     Answered {
@@ -320,20 +311,20 @@ fn snapshot<'a>(words: &'a [u64], store: &'a [u8], s: &'a [u8], buffer: &'a mut 
 }
 
 // Codes 13 and 14.
-fn resolve<'a>(
+fn resolve(
     code: u8,
-    words: &'a [u64],
-    store: &'a [u8],
-    s: &'a [u8],
-    requested: &'a [u8],
-    buffer: &'a mut [u8],
+    words: &[u64],
+    store: &[u8],
+    s: &[u8],
+    protocols: &[u8],
+    buffer: &mut [u8],
 ) -> Answered {
     let oxid = Oxid(fields::read_u64(s, 1));
     let n = room(buffer, fields::read_u64(s, 9));
     if code == 13 {
         return resolved(resolver::resolve(words, store, oxid, &mut buffer[0..n]));
     }
-    resolve_filtered(words, store, oxid, requested, &mut buffer[0..n])
+    resolve_filtered(words, store, oxid, protocols, &mut buffer[0..n])
 }
 
 fn resolved(r: Resolved) -> Answered {
@@ -348,28 +339,16 @@ fn resolved(r: Resolved) -> Answered {
     }
 }
 
-fn resolve_filtered<'a>(
-    words: &'a [u64],
-    store: &'a [u8],
+// Code 14: the protocols are in bytes too.
+fn resolve_filtered(
+    words: &[u64],
+    store: &[u8],
     oxid: Oxid,
-    requested: &'a [u8],
-    buffer: &'a mut [u8],
+    protocols: &[u8],
+    buffer: &mut [u8],
 ) -> Answered {
-    let mut protocols = [0u16; 65536];
-    let k = read_protocols(&mut protocols, requested);
-    let p = least(65536, k);
-    resolved(resolver::resolve_filtered(words, store, oxid, &protocols[0..p], buffer))
-}
-
-// The protocols of a list, as many as there is place for; how many. One more than a list may have is as good as more.
-fn read_protocols<'a>(to: &'a mut [u16], s: &'a [u8]) -> usize {
-    let mut i = 0;
-    while i < to.len() {
-        if s.len() / 2 <= i {
-            return i;
-        }
-        to[i] = fields::read_u16(s, i * 2);
-        i += 1;
+    if !table_judge::sound(words, store) {
+        return plain(answer::UNSOUND);
     }
-    i
+    resolved(call_look::resolve_filtered_bytes_step(words, store, oxid, protocols, buffer))
 }

@@ -1,9 +1,9 @@
--- `ours::first_difference`: the index stays within the first slice.
+-- `first_difference`: the index stays within the first slice.
 use borrow.Author.Needs.{needs}
 use Prim.Native.Nat.{_-_, _≤_}
 use lib.ListN.{length}
-use Rattle.replay.proofs.ours.first_difference.Statement.{statement}
-use Rattle.replay.proofs.ours.first_difference.Tie as tie
+use Rattle.replay_lines.proofs.first_difference.Statement.{statement}
+use Rattle.replay_lines.proofs.first_difference.Tie as tie
 
 abbrev Inv-loop : tie.InvT-loop
 Inv-loop a b i₀ i = i ≤ length a

@@ -1,14 +1,14 @@
--- `record::place`: the records that were passed are counted up.
+-- `place`: the records that were passed are counted up.
 use borrow.Author.Needs.{needs}
 use Prim.Native.Nat.{_-_}
-use Rattle.replay.proofs.record.place.Statement.{statement}
-use Rattle.replay.proofs.record.place.Tie as tie
+use Rattle.replay_lines.proofs.place.Statement.{statement}
+use Rattle.replay_lines.proofs.place.Tie as tie
 
 abbrev Inv-loop : tie.InvT-loop
-Inv-loop s n at₀ k₀ at k = Unit {0}
+Inv-loop s k at₀ i₀ at i = Unit {0}
 
 abbrev μ-loop : tie.MeasureT-loop
-μ-loop s n at₀ k₀ at k = n - k
+μ-loop s k at₀ i₀ at i = k - i
 
 pub place-spec : {M : Type 1} → statement M
 place-spec =
