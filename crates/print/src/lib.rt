@@ -74,21 +74,21 @@ pub fn either(out: &mut Buffer, first: bool, one: &[u8], other: &[u8]) {
     }
 }
 
-pub fn decimal(out: &mut Buffer, n: u64) {
+fn decimal(out: &mut Buffer, n: u64) {
     let mut digits = [0u8; 20];
     let k = io::decimal(n, &mut digits);
     text(out, &digits[..k]);
 }
 
 // A number in hex, with zeros in front up to width digits.
-pub fn hex(out: &mut Buffer, n: u64, width: usize) {
+fn hex(out: &mut Buffer, n: u64, width: usize) {
     let mut digits = [0u8; 16];
     let k = io::hex(n, width, &mut digits);
     text(out, &digits[..k]);
 }
 
 // A GUID in its usual text: {00112233-4455-6677-8899-aabbccddeeff}.
-pub fn guid(out: &mut Buffer, g: Guid) {
+fn guid(out: &mut Buffer, g: Guid) {
     let low = g.low;
     let high = g.high;
     group(out, b"{", low % 0x100000000, 8);
