@@ -11,7 +11,8 @@
 PREFIX ?= /usr/local
 VERSION := $(shell sed -n 's/^\#define RIMONAKH_VERSION_[A-Z]* //p' include/rimonakh.h | paste -sd.)
 MAJOR := $(firstword $(subst ., ,$(VERSION)))
-ARCHIVE = target/staticlib/libc_api.a
+ARCHIVE = target/librimonakh.a
+PARTS = c_headers c_api
 SHARED = target/librimonakh.so
 TOOL = target/cargo/release/rimonakh
 PROGRAMS = objref snapshot replay
@@ -27,7 +28,8 @@ all: $(ARCHIVE)
 
 $(ARCHIVE): $(SOURCES)
 	$(KIT)
-	rt staticlib c_api
+	for part in $(PARTS); do rt staticlib $$part && ar x --output target/staticlib target/staticlib/lib$$part.a || exit 1; done
+	rm -f $@ && ar rcsD $@ $(PARTS:%=target/staticlib/%.o)
 
 $(BINARIES): target/bin/%: $(SOURCES)
 	$(KIT)

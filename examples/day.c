@@ -8,7 +8,7 @@
  * The reference carries the addresses of the resolver, without an endpoint, as MS-DCOM wants it (sections 2.2.18.4 and 2.2.19.3); those of
  * the exporter, with one, stand in the table. So the next stop is seen to choose.
  *
- *     cc -Iinclude examples/day.c target/staticlib/libc_api.a -o day && ./day
+ *     cc -Iinclude examples/day.c target/librimonakh.a -o day && ./day
  */
 #include "rimonakh_more.h"
 

@@ -3,7 +3,7 @@
  * header; a client reads the header, finds the extension by its id, reads the reference in its data and prints the error. The
  * reply's own bytes stand after the header. Then the same reply damaged: each refusal is printed by its number.
  *
- *     cc -Iinclude examples/fault.c target/staticlib/libc_api.a -o fault && ./fault
+ *     cc -Iinclude examples/fault.c target/librimonakh.a -o fault && ./fault
  */
 #include "rimonakh_more.h"
 

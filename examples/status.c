@@ -2,7 +2,7 @@
  * The status of a box in text: what its table holds, read off its snapshot, and what a refusal says. Objects and sets that were not heard
  * for two of a client's ping periods are marked: they end soon.
  *
- *     cc -Iinclude examples/status.c target/staticlib/libc_api.a -o status && ./status
+ *     cc -Iinclude examples/status.c target/librimonakh.a -o status && ./status
  */
 #include "rimonakh_more.h"
 

@@ -1,4 +1,4 @@
-// Call headers, binding lists and references.
+// Binding lists, references and contexts.
 use bindings::Part;
 use bindings::Place;
 use contexts::Context;
@@ -6,17 +6,9 @@ use contexts::Property;
 use contexts::ReadContext;
 use contexts::ReadProperty;
 use cursors::Cursor;
-use cursors::extents::ExtensionCursor;
-use cursors::extents::ExtensionStep;
 use cursors::parts::Step;
 use cursors::properties::PropertyStep;
-use extensions::Extension;
-use extensions::Walked;
 use fields::Written;
-use headers::OrpcThat;
-use headers::OrpcThis;
-use headers::ReadThat;
-use headers::ReadThis;
 use kinds::Guid;
 use kinds::Oid;
 use kinds::Oxid;
@@ -25,132 +17,19 @@ use references::ReadReference;
 use references::Reference;
 ghost use mathlib.Core.Path.{_≡_};
 ghost use mathlib.Core.Bool.{cond};
-ghost use mathlib.Core.List.{[]};
 ghost use lib.Dec.{eqb};
 ghost use lib.ListN.{length};
 ghost use Rattle.fields.specs.Fields.{stored};
-ghost use Rattle.headers.specs.declared.OrpcThis.{OrpcThis};
 ghost use Rattle.contexts.specs.declared.Context.{Context};
 ghost use Rattle.contexts.specs.declared.Property.{Property};
 ghost use Rattle.references.specs.declared.Reference.{Reference};
-ghost use Rattle.extension_writer.specs.Writing.{given};
-ghost use Rattle.headers.specs.Headers.{readThis, thisExtension, thisBytes, thisWritten, thisWriting, readThat, thatExtension, thatBytes, thatWriting, none};
 ghost use Rattle.bindings.specs.Bindings.{frontAnswer, listAnswer, listLength, bindingAt};
 ghost use Rattle.contexts.specs.Contexts.{readContext, readProperty, propertyBytes, writeProperty, contextBytes, writeContext};
-ghost use Rattle.cursors.specs.Cursors.{partCursor, bindingStep, contextCursor, propertyStep, thisCursor, extensionsCursor, extensionStep};
+ghost use Rattle.cursors.specs.Cursors.{partCursor, bindingStep, contextCursor, propertyStep};
 ghost use Rattle.list_writer.specs.Writing.{madeList, writeList};
 ghost use Rattle.references.specs.Parts.{ElementFound};
 ghost use Rattle.references.specs.References.{referenceAnswer, readReference, tailPlace, referenceBinding, contextPlace};
 ghost use Rattle.reference_writer.specs.Writing.{referenceBytes, writeReference};
-
-// Reads the ORPCTHIS at the front of bytes.
-#[no_mangle]
-pub extern "C" fn rimonakh_this_read(bytes: &[u8]) -> ReadThis
-    ensures { λ r. ⌜ r ≡ readThis (now (bytes .entry)) ⌝ }
-{
-    OrpcThis::read(bytes)
-}
-
-// Extension k of the ORPCTHIS at the front of bytes.
-#[no_mangle]
-pub extern "C" fn rimonakh_this_extension(bytes: &[u8], k: usize) -> Extension
-    ensures { λ r. ⌜ r ≡ thisExtension (now (bytes .entry)) k ⌝ }
-{
-    OrpcThis::extension(bytes, k)
-}
-
-// Writes an ORPCTHIS without extensions at the front of buffer.
-#[no_mangle]
-pub extern "C" fn rimonakh_this_write(
-    minor: u16,
-    flags: u32,
-    causality_low: u64,
-    causality_high: u64,
-    buffer: &mut [u8],
-) -> u32
-    ensures { λ r. ⌜
-        (let header : OrpcThis = record { minor = minor; flags = flags; causality = record { low = «causality_low»; high = «causality_high» } } in
-        (r ≡ thisWritten header 0 0 [] [] (length (now (buffer .entry))))
-        × (now (buffer .exit) ≡ stored r (thisBytes 0 header none) (now (buffer .entry)))) ⌝ }
-{
-    let causality = Guid {
-        low: causality_low,
-        high: causality_high,
-    };
-    let header = OrpcThis::new(minor, flags, causality);
-    header.write(buffer)
-}
-
-// Writes an ORPCTHIS with its extensions at the front of buffer: four words for each in entries, all data end to end in contents.
-#[no_mangle]
-pub extern "C" fn rimonakh_this_write_extensions(
-    minor: u16,
-    flags: u32,
-    causality_low: u64,
-    causality_high: u64,
-    pointer: u32,
-    array: u32,
-    entries: &[u64],
-    contents: &[u8],
-    buffer: &mut [u8],
-) -> Walked
-    ensures { λ r. ⌜
-        (let header : OrpcThis = record { minor = minor; flags = flags; causality = record { low = «causality_low»; high = «causality_high» } } in
-        (r ≡ thisWriting header pointer array (now (entries .entry)) (now (contents .entry)) (length (now (buffer .entry))))
-        × (now (buffer .exit) ≡ stored (r .answer) (thisBytes 0 header (given pointer array (now (entries .entry)) (now (contents .entry)))) (now (buffer .entry)))) ⌝ }
-{
-    let causality = Guid {
-        low: causality_low,
-        high: causality_high,
-    };
-    let header = OrpcThis::new(minor, flags, causality);
-    header.write_with(pointer, array, entries, contents, buffer)
-}
-
-// Reads the ORPCTHAT at the front of bytes.
-#[no_mangle]
-pub extern "C" fn rimonakh_that_read(bytes: &[u8]) -> ReadThat
-    ensures { λ r. ⌜ r ≡ readThat (now (bytes .entry)) ⌝ }
-{
-    OrpcThat::read(bytes)
-}
-
-// Extension k of the ORPCTHAT at the front of bytes.
-#[no_mangle]
-pub extern "C" fn rimonakh_that_extension(bytes: &[u8], k: usize) -> Extension
-    ensures { λ r. ⌜ r ≡ thatExtension (now (bytes .entry)) k ⌝ }
-{
-    OrpcThat::extension(bytes, k)
-}
-
-// Writes an ORPCTHAT without extensions at the front of buffer.
-#[no_mangle]
-pub extern "C" fn rimonakh_that_write(flags: u32, buffer: &mut [u8]) -> u32
-    ensures { λ r. ⌜
-        (r ≡ (thatWriting 0 0 [] [] (length (now (buffer .entry)))) .answer)
-        × (now (buffer .exit) ≡ stored r (thatBytes (record { flags = flags }) none) (now (buffer .entry))) ⌝ }
-{
-    let header = OrpcThat::new(flags);
-    header.write(buffer)
-}
-
-// Writes an ORPCTHAT with its extensions at the front of buffer: four words for each in entries, all data end to end in contents.
-#[no_mangle]
-pub extern "C" fn rimonakh_that_write_extensions(
-    flags: u32,
-    pointer: u32,
-    array: u32,
-    entries: &[u64],
-    contents: &[u8],
-    buffer: &mut [u8],
-) -> Walked
-    ensures { λ r. ⌜
-        (r ≡ thatWriting pointer array (now (entries .entry)) (now (contents .entry)) (length (now (buffer .entry))))
-        × (now (buffer .exit) ≡ stored (r .answer) (thatBytes (record { flags = flags }) (given pointer array (now (entries .entry)) (now (contents .entry)))) (now (buffer .entry))) ⌝ }
-{
-    let header = OrpcThat::new(flags);
-    header.write_with(pointer, array, entries, contents, buffer)
-}
 
 // Of the bytes as a whole binding list.
 #[no_mangle]
@@ -280,14 +159,14 @@ pub extern "C" fn rimonakh_context_property(bytes: &[u8], k: usize) -> ReadPrope
 
 // Writes a property with its data at the front of buffer.
 #[no_mangle]
-pub extern "C" fn rimonakh_property_write<'a>(
+pub extern "C" fn rimonakh_property_write(
     clsid_low: u64,
     clsid_high: u64,
     policy_low: u64,
     policy_high: u64,
     flags: u32,
-    content: &'a [u8],
-    buffer: &'a mut [u8],
+    content: &[u8],
+    buffer: &mut [u8],
 ) -> Written
     ensures { λ r. ⌜
         (let property : Property = record { clsid = record { low = «clsid_low»; high = «clsid_high» }; policy = record { low = «policy_low»; high = «policy_high» }; flags = flags } in
@@ -312,15 +191,15 @@ pub extern "C" fn rimonakh_property_write<'a>(
 
 // Writes a context with the bytes of its properties at the front of buffer.
 #[no_mangle]
-pub extern "C" fn rimonakh_context_write<'a>(
+pub extern "C" fn rimonakh_context_write(
     id_low: u64,
     id_high: u64,
     reserved: u32,
     marshal: u32,
     count: u32,
     frozen: u32,
-    properties: &'a [u8],
-    buffer: &'a mut [u8],
+    properties: &[u8],
+    buffer: &mut [u8],
 ) -> Written
     ensures { λ r. ⌜
         (let context : Context = record { id = record { low = «id_low»; high = «id_high» }; reserved = reserved; marshal = marshal; count = count; frozen = frozen } in
@@ -343,7 +222,7 @@ pub extern "C" fn rimonakh_context_write<'a>(
 
 // Writes a reference with its list or object data, and the data of its element, at the front of buffer. Fields that the form does not have are not written.
 #[no_mangle]
-pub extern "C" fn rimonakh_reference_write<'a>(
+pub extern "C" fn rimonakh_reference_write(
     flags: u32,
     iid_low: u64,
     iid_high: u64,
@@ -359,9 +238,9 @@ pub extern "C" fn rimonakh_reference_write<'a>(
     size: u32,
     element_low: u64,
     element_high: u64,
-    tail: &'a [u8],
-    content: &'a [u8],
-    buffer: &'a mut [u8],
+    tail: &[u8],
+    content: &[u8],
+    buffer: &mut [u8],
 ) -> Written
     ensures { λ r. ⌜
         (let reference : Reference =
@@ -458,33 +337,4 @@ pub extern "C" fn rimonakh_context_next_property(
     ensures { λ r. ⌜ r ≡ propertyStep (now (bytes .entry)) at left ⌝ }
 {
     cursors::properties::next(bytes, at, left)
-}
-
-// Where a walk over the extensions of the ORPCTHIS at the front of bytes begins.
-#[no_mangle]
-pub extern "C" fn rimonakh_this_extensions(bytes: &[u8]) -> ExtensionCursor
-    ensures { λ r. ⌜ r ≡ thisCursor (now (bytes .entry)) ⌝ }
-{
-    cursors::extents::start_this(bytes)
-}
-
-// Where a walk over the extensions of the ORPCTHAT at the front of bytes begins.
-#[no_mangle]
-pub extern "C" fn rimonakh_that_extensions(bytes: &[u8]) -> ExtensionCursor
-    ensures { λ r. ⌜ r ≡ extensionsCursor (now (bytes .entry)) 4 ⌝ }
-{
-    cursors::extents::start_that(bytes)
-}
-
-// The extension where a walk stands.
-#[no_mangle]
-pub extern "C" fn rimonakh_next_extension(
-    bytes: &[u8],
-    pointer: usize,
-    at: usize,
-    left: usize,
-) -> ExtensionStep
-    ensures { λ r. ⌜ r ≡ extensionStep (now (bytes .entry)) pointer at left ⌝ }
-{
-    cursors::extents::next(bytes, pointer, at, left)
 }

@@ -25,7 +25,7 @@ ghost use Rattle.replay_rules.specs.Replay.{Replayed};
 
 // Empties the table and sets its clock.
 #[no_mangle]
-pub extern "C" fn rimonakh_reset<'a>(words: &'a mut [u64], store: &'a [u8], time: u64) -> u32
+pub extern "C" fn rimonakh_reset(words: &mut [u64], store: &[u8], time: u64) -> u32
     ensures { λ r. ⌜
         Performed (Call.starting (Start.reset time)) (memory (now (words .entry)) (now (store .entry))) (numbered r)
         (memory (now (words .exit)) (now (store .entry))) ⌝ }
@@ -35,7 +35,7 @@ pub extern "C" fn rimonakh_reset<'a>(words: &'a mut [u64], store: &'a [u8], time
 
 // The live number of each kind.
 #[no_mangle]
-pub extern "C" fn rimonakh_census<'a>(words: &'a [u64], store: &'a [u8]) -> LiveCounts
+pub extern "C" fn rimonakh_census(words: &[u64], store: &[u8]) -> LiveCounts
     ensures { λ r. ⌜
         Performed (Call.looking Look.census) (memory (now (words .entry)) (now (store .entry))) (censusReply r)
         (memory (now (words .entry)) (now (store .entry))) ⌝ }
@@ -45,7 +45,7 @@ pub extern "C" fn rimonakh_census<'a>(words: &'a [u64], store: &'a [u8]) -> Live
 
 // The number of members of a set.
 #[no_mangle]
-pub extern "C" fn rimonakh_members<'a>(words: &'a [u64], store: &'a [u8], set: u64) -> MemberCount
+pub extern "C" fn rimonakh_members(words: &[u64], store: &[u8], set: u64) -> MemberCount
     ensures { λ r. ⌜
         Performed (Call.looking (Look.members set)) (memory (now (words .entry)) (now (store .entry))) (membersReply r)
         (memory (now (words .entry)) (now (store .entry))) ⌝ }
@@ -55,13 +55,13 @@ pub extern "C" fn rimonakh_members<'a>(words: &'a [u64], store: &'a [u8], set: u
 
 // Enters an exporter.
 #[no_mangle]
-pub extern "C" fn rimonakh_enter_exporter<'a>(
-    words: &'a mut [u64],
-    store: &'a mut [u8],
+pub extern "C" fn rimonakh_enter_exporter(
+    words: &mut [u64],
+    store: &mut [u8],
     oxid: u64,
     unknown_low: u64,
     unknown_high: u64,
-    list: &'a [u8],
+    list: &[u8],
 ) -> u32
     ensures { λ r. ⌜
         Performed (Call.editing (Edit.enterExporter oxid (record { low = «unknown_low»; high = «unknown_high» }) (now (list .entry))))
@@ -76,11 +76,7 @@ pub extern "C" fn rimonakh_enter_exporter<'a>(
 
 // Removes an exporter.
 #[no_mangle]
-pub extern "C" fn rimonakh_remove_exporter<'a>(
-    words: &'a mut [u64],
-    store: &'a mut [u8],
-    oxid: u64,
-) -> u32
+pub extern "C" fn rimonakh_remove_exporter(words: &mut [u64], store: &mut [u8], oxid: u64) -> u32
     ensures { λ r. ⌜
         Performed (Call.editing (Edit.removeExporter oxid)) (memory (now (words .entry)) (now (store .entry)))
         (numbered r) (memory (now (words .exit)) (now (store .exit))) ⌝ }
@@ -90,9 +86,9 @@ pub extern "C" fn rimonakh_remove_exporter<'a>(
 
 // Enters an object with its first interface.
 #[no_mangle]
-pub extern "C" fn rimonakh_enter_object<'a>(
-    words: &'a mut [u64],
-    store: &'a [u8],
+pub extern "C" fn rimonakh_enter_object(
+    words: &mut [u64],
+    store: &[u8],
     oid: u64,
     oxid: u64,
     ipid_low: u64,
@@ -129,9 +125,9 @@ pub extern "C" fn rimonakh_enter_object<'a>(
 
 // Enters an interface of a live object.
 #[no_mangle]
-pub extern "C" fn rimonakh_enter_interface<'a>(
-    words: &'a mut [u64],
-    store: &'a [u8],
+pub extern "C" fn rimonakh_enter_interface(
+    words: &mut [u64],
+    store: &[u8],
     oid: u64,
     ipid_low: u64,
     ipid_high: u64,
@@ -156,9 +152,9 @@ pub extern "C" fn rimonakh_enter_interface<'a>(
 
 // Adds to the public count of an interface and to the private one of a client.
 #[no_mangle]
-pub extern "C" fn rimonakh_add<'a>(
-    words: &'a mut [u64],
-    store: &'a [u8],
+pub extern "C" fn rimonakh_add(
+    words: &mut [u64],
+    store: &[u8],
     client: u32,
     ipid_low: u64,
     ipid_high: u64,
@@ -178,9 +174,9 @@ pub extern "C" fn rimonakh_add<'a>(
 
 // Gives references of an interface back, private ones of a client.
 #[no_mangle]
-pub extern "C" fn rimonakh_release<'a>(
-    words: &'a mut [u64],
-    store: &'a [u8],
+pub extern "C" fn rimonakh_release(
+    words: &mut [u64],
+    store: &[u8],
     client: u32,
     ipid_low: u64,
     ipid_high: u64,
@@ -200,11 +196,7 @@ pub extern "C" fn rimonakh_release<'a>(
 
 // Drops every private reference of a client.
 #[no_mangle]
-pub extern "C" fn rimonakh_drop_client<'a>(
-    words: &'a mut [u64],
-    store: &'a [u8],
-    client: u32,
-) -> u32
+pub extern "C" fn rimonakh_drop_client(words: &mut [u64], store: &[u8], client: u32) -> u32
     ensures { λ r. ⌜
         Performed (Call.editing (Edit.dropClient client)) (memory (now (words .entry)) (now (store .entry)))
         (numbered r) (memory (now (words .exit)) (now (store .entry))) ⌝ }
@@ -214,12 +206,12 @@ pub extern "C" fn rimonakh_drop_client<'a>(
 
 // Adds references by a list of items of 24 bytes, and writes the number of each to its byte of results.
 #[no_mangle]
-pub extern "C" fn rimonakh_add_list<'a>(
-    words: &'a mut [u64],
-    store: &'a [u8],
+pub extern "C" fn rimonakh_add_list(
+    words: &mut [u64],
+    store: &[u8],
     client: u32,
-    items: &'a [u8],
-    results: &'a mut [u8],
+    items: &[u8],
+    results: &mut [u8],
 ) -> u32
     ensures { λ r. ⌜
         Performed (Call.countList adding client (now (items .entry)) (now (results .entry))) (memory (now (words .entry)) (now (store .entry)))
@@ -230,12 +222,12 @@ pub extern "C" fn rimonakh_add_list<'a>(
 
 // Gives references back by a list of items, likewise.
 #[no_mangle]
-pub extern "C" fn rimonakh_release_list<'a>(
-    words: &'a mut [u64],
-    store: &'a [u8],
+pub extern "C" fn rimonakh_release_list(
+    words: &mut [u64],
+    store: &[u8],
     client: u32,
-    items: &'a [u8],
-    results: &'a mut [u8],
+    items: &[u8],
+    results: &mut [u8],
 ) -> u32
     ensures { λ r. ⌜
         Performed (Call.countList releasing client (now (items .entry)) (now (results .entry))) (memory (now (words .entry)) (now (store .entry)))
@@ -246,7 +238,7 @@ pub extern "C" fn rimonakh_release_list<'a>(
 
 // Pings a set.
 #[no_mangle]
-pub extern "C" fn rimonakh_simple_ping<'a>(words: &'a mut [u64], store: &'a [u8], set: u64) -> u32
+pub extern "C" fn rimonakh_simple_ping(words: &mut [u64], store: &[u8], set: u64) -> u32
     ensures { λ r. ⌜
         Performed (Call.editing (Edit.simplePing set)) (memory (now (words .entry)) (now (store .entry)))
         (numbered r) (memory (now (words .exit)) (now (store .entry))) ⌝ }
@@ -256,13 +248,13 @@ pub extern "C" fn rimonakh_simple_ping<'a>(words: &'a mut [u64], store: &'a [u8]
 
 // Adds objects to a set, takes objects out of it and pings it; set 0 makes a set.
 #[no_mangle]
-pub extern "C" fn rimonakh_complex_ping<'a>(
-    words: &'a mut [u64],
-    store: &'a [u8],
+pub extern "C" fn rimonakh_complex_ping(
+    words: &mut [u64],
+    store: &[u8],
     set: u64,
     sequence: u16,
-    adds: &'a [u64],
-    deletes: &'a [u64],
+    adds: &[u64],
+    deletes: &[u64],
 ) -> Pinged
     ensures { λ r. ⌜
         Performed (Call.editing (Edit.complexPing set sequence (now (adds .entry)) (now (deletes .entry))))
@@ -273,7 +265,7 @@ pub extern "C" fn rimonakh_complex_ping<'a>(
 
 // Sets the clock.
 #[no_mangle]
-pub extern "C" fn rimonakh_clock<'a>(words: &'a mut [u64], store: &'a [u8], time: u64) -> Expired
+pub extern "C" fn rimonakh_clock(words: &mut [u64], store: &[u8], time: u64) -> Expired
     ensures { λ r. ⌜
         Performed (Call.editing (Edit.clock time)) (memory (now (words .entry)) (now (store .entry)))
         (clockReply r) (memory (now (words .exit)) (now (store .entry))) ⌝ }
@@ -283,11 +275,11 @@ pub extern "C" fn rimonakh_clock<'a>(words: &'a mut [u64], store: &'a [u8], time
 
 // Writes an exporter's binding list at the front of buffer.
 #[no_mangle]
-pub extern "C" fn rimonakh_resolve<'a>(
-    words: &'a [u64],
-    store: &'a [u8],
+pub extern "C" fn rimonakh_resolve(
+    words: &[u64],
+    store: &[u8],
     oxid: u64,
-    buffer: &'a mut [u8],
+    buffer: &mut [u8],
 ) -> Resolved
     ensures { λ r. ⌜
         Performed (Call.looking (Look.resolve oxid (now (buffer .entry)))) (memory (now (words .entry)) (now (store .entry)))
@@ -298,12 +290,12 @@ pub extern "C" fn rimonakh_resolve<'a>(
 
 // Writes an exporter's binding list with only the string bindings of the requested protocols at the front of buffer.
 #[no_mangle]
-pub extern "C" fn rimonakh_resolve_filtered<'a>(
-    words: &'a [u64],
-    store: &'a [u8],
+pub extern "C" fn rimonakh_resolve_filtered(
+    words: &[u64],
+    store: &[u8],
     oxid: u64,
-    protocols: &'a [u16],
-    buffer: &'a mut [u8],
+    protocols: &[u16],
+    buffer: &mut [u8],
 ) -> Resolved
     ensures { λ r. ⌜
         Performed (Call.looking (Look.resolveFiltered oxid (now (protocols .entry)) (now (buffer .entry)))) (memory (now (words .entry)) (now (store .entry)))
@@ -315,11 +307,7 @@ pub extern "C" fn rimonakh_resolve_filtered<'a>(
 // Where to go next with a reference: the list of its exporter in the store, or its own list. A place in the store holds until the next
 // call that changes the store.
 #[no_mangle]
-pub extern "C" fn rimonakh_next_stop<'a>(
-    words: &'a [u64],
-    store: &'a [u8],
-    reference: &'a [u8],
-) -> StopPlace
+pub extern "C" fn rimonakh_next_stop(words: &[u64], store: &[u8], reference: &[u8]) -> StopPlace
     ensures { λ r. ⌜ StopFound (memory (now (words .entry)) (now (store .entry))) (now (reference .entry)) r ⌝ }
 {
     resolver::next_stop_place(words, store, reference)
@@ -327,11 +315,7 @@ pub extern "C" fn rimonakh_next_stop<'a>(
 
 // Writes the live entries as a snapshot, at the front of buffer.
 #[no_mangle]
-pub extern "C" fn rimonakh_write_snapshot<'a>(
-    words: &'a [u64],
-    store: &'a [u8],
-    buffer: &'a mut [u8],
-) -> Written
+pub extern "C" fn rimonakh_write_snapshot(words: &[u64], store: &[u8], buffer: &mut [u8]) -> Written
     ensures { λ r. ⌜
         Performed (Call.looking (Look.writeSnapshot (now (buffer .entry)))) (memory (now (words .entry)) (now (store .entry)))
         (writtenReply r (now (buffer .exit))) (memory (now (words .entry)) (now (store .entry))) ⌝ }
@@ -341,10 +325,10 @@ pub extern "C" fn rimonakh_write_snapshot<'a>(
 
 // Loads a snapshot into the table.
 #[no_mangle]
-pub extern "C" fn rimonakh_load_snapshot<'a>(
-    words: &'a mut [u64],
-    store: &'a mut [u8],
-    snapshot: &'a [u8],
+pub extern "C" fn rimonakh_load_snapshot(
+    words: &mut [u64],
+    store: &mut [u8],
+    snapshot: &[u8],
 ) -> u32
     ensures { λ r. ⌜
         Performed (Call.starting (Start.loadSnapshot (now (snapshot .entry)))) (memory (now (words .entry)) (now (store .entry))) (numbered r)
@@ -355,11 +339,7 @@ pub extern "C" fn rimonakh_load_snapshot<'a>(
 
 // Replays a recorded shift from a reset at 0.
 #[no_mangle]
-pub extern "C" fn rimonakh_replay<'a>(
-    words: &'a mut [u64],
-    store: &'a mut [u8],
-    recording: &'a [u8],
-) -> Outcome
+pub extern "C" fn rimonakh_replay(words: &mut [u64], store: &mut [u8], recording: &[u8]) -> Outcome
     ensures { λ r. ⌜
         Replayed (memory (now (words .entry)) (now (store .entry))) (now (recording .entry)) r (memory (now (words .exit)) (now (store .exit))) ⌝ }
 {

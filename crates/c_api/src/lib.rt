@@ -1,5 +1,5 @@
-// What C and Rust programs link: every operation as a function over numbers and slices. A slice is a pointer and a length, a GUID
-// two numbers, an identifier one. Each function has the promise of the one that it calls. include/rimonakh.h declares them.
+// What C and Rust programs link, with c_headers: every operation as a function over numbers and slices. A slice is a pointer and a
+// length, a GUID two numbers, an identifier one. Each function has the promise of the one that it calls. include/rimonakh.h declares them.
 ghost use mathlib.Core.Path.{_≡_};
 ghost use Rattle.kinds.specs.Wire.{wireCode};
 ghost use Rattle.c_api.specs.Version.{version};

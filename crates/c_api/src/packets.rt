@@ -15,10 +15,10 @@ pub extern "C" fn rimonakh_fragments_none() -> Fragments
 
 // The state after one fragment more.
 #[no_mangle]
-pub extern "C" fn rimonakh_fragments_push<'a>(
+pub extern "C" fn rimonakh_fragments_push(
     state: Fragments,
     waiting: &mut [u8],
-    fragment: &'a [u8],
+    fragment: &[u8],
 ) -> Fragments
     ensures { λ r. ⌜
         (r ≡ (pushed (record { state = state; waiting = now (waiting .entry) }) (now (fragment .entry))) .state)
@@ -29,9 +29,9 @@ pub extern "C" fn rimonakh_fragments_push<'a>(
 
 // Declares the end: the fields, and the list or object data at the front of last; or a refusal.
 #[no_mangle]
-pub extern "C" fn rimonakh_fragments_finish<'a>(
+pub extern "C" fn rimonakh_fragments_finish(
     state: Fragments,
-    waiting: &'a [u8],
+    waiting: &[u8],
     last: &mut [u8],
 ) -> Finished
     ensures { λ r. ⌜

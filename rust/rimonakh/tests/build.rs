@@ -22,32 +22,27 @@ fn made(name: &str, library: bool) -> PathBuf {
 #[test]
 fn in_this_order() {
     let (set, installed) = (made("set", true), made("installed", true));
-    let (out, nowhere) = (made("out", false), made("nowhere", false));
-    let built = made("repository", false).join("libc_api.a");
-    fs::write(&built, "built").unwrap();
+    let (built, nowhere) = (made("repository", true), made("nowhere", false));
     let asked = || panic!("pkg-config is asked last");
 
-    assert_eq!(folder(Some(set.clone()), &built, &out, asked), Ok(set));
-    assert_eq!(folder(None, &built, &out, asked), Ok(out.clone()));
-    assert_eq!(fs::read(out.join("librimonakh.a")).unwrap(), b"built");
-    let missing = nowhere.join("libc_api.a");
-    let found = folder(None, &missing, &out, || Some(installed.clone()));
+    assert_eq!(folder(Some(set.clone()), &built, asked), Ok(set));
+    assert_eq!(folder(None, &built, asked), Ok(built));
+    let found = folder(None, &nowhere, || Some(installed.clone()));
     assert_eq!(found, Ok(installed));
 }
 
 #[test]
 fn one_line_that_says_what_to_do() {
-    let (empty, out) = (made("empty", false), made("unused", false));
-    let missing = empty.join("libc_api.a");
-    let wrong = folder(Some(empty.clone()), &missing, &out, || None).unwrap_err();
+    let empty = made("empty", false);
+    let wrong = folder(Some(empty.clone()), &empty, || None).unwrap_err();
     assert!(wrong.starts_with("RIMONAKH_LIB_DIR is ") && wrong.ends_with("no librimonakh.a is"));
-    for found in [None, Some(empty)] {
-        let said = folder(None, &missing, &out, || found).unwrap_err();
+    for found in [None, Some(empty.clone())] {
+        let said = folder(None, &empty, || found).unwrap_err();
         for way in [
             "make install",
             "PKG_CONFIG_PATH",
             "RIMONAKH_LIB_DIR",
-            "rt staticlib",
+            "run `make`",
         ] {
             assert!(said.contains(way), "{said}");
         }

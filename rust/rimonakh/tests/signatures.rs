@@ -45,11 +45,17 @@ fn functions(text: &str) -> impl Iterator<Item = (&str, &str, Vec<&str>, &str)> 
     })
 }
 
-/// The functions of `c_api`; a slice is a pointer and a length.
+/// The functions of `c_api` and `c_headers`; a slice is a pointer and a length.
 fn proved() -> Signatures {
     let mut found = Signatures::new();
-    for path in ["lib", "bytes", "calls", "packets"] {
-        let text = file(&format!("crates/c_api/src/{path}.rt"));
+    for path in [
+        "c_api/src/lib",
+        "c_api/src/bytes",
+        "c_api/src/calls",
+        "c_api/src/packets",
+        "c_headers/src/lib",
+    ] {
+        let text = file(&format!("crates/{path}.rt"));
         for (before, name, arguments, after) in functions(&text) {
             if before != "pub extern \"C\" fn" {
                 continue;
@@ -57,7 +63,7 @@ fn proved() -> Signatures {
             let mut given = Vec::new();
             for argument in arguments {
                 let (name, of) = argument.split_once(": ").expect(argument);
-                match of.replace("'a ", "").strip_prefix('&') {
+                match of.strip_prefix('&') {
                     None => given.push(format!("{name}: {}", typed("", of))),
                     Some(slice) => {
                         let mutable = slice.starts_with("mut ");
