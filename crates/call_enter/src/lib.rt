@@ -18,7 +18,7 @@ ghost use Rattle.table_view.specs.View.{memory, view, SoundTable, Stepped, Perf
 ghost use Rattle.rules.specs.Contract.{Whole};
 
 // Empties the table and sets its clock: 0, or 1 where a length is wrong. It looks at nothing but the lengths.
-pub fn reset<'a>(words: &'a mut [u64], store: &'a [u8], time: u64) -> u32
+pub fn reset(words: &mut [u64], store: &[u8], time: u64) -> u32
     ensures { λ r. ⌜
         Performed (Call.starting (Start.reset time)) (memory (now (words .entry)) (now (store .entry))) (numbered r)
         (memory (now (words .exit)) (now (store .entry))) ⌝ }
@@ -34,7 +34,7 @@ pub fn reset<'a>(words: &'a mut [u64], store: &'a [u8], time: u64) -> u32
 }
 
 // The number of a new exporter's list: 13; 14; 19; 9.
-pub fn list_answer<'a>(words: &'a [u64], store: &'a [u8], list: &'a [u8]) -> u32
+pub fn list_answer(words: &[u64], store: &[u8], list: &[u8]) -> u32
     requires { ⌜ Whole (now words) × Whole (now store) × (listsKept (view (memory (now words) (now store))) ≡ true) ⌝ }
     ensures { λ r. ⌜ r ≡ order (listRefusals (now (list .entry)) (view (memory (now (words .entry)) (now (store .entry))))) ⌝ }
 {
@@ -56,13 +56,7 @@ pub fn list_answer<'a>(words: &'a [u64], store: &'a [u8], list: &'a [u8]) -> u32
 }
 
 // The number of an entry: 3; 13; 14; 19; 9.
-fn exporter_answer<'a>(
-    words: &'a [u64],
-    store: &'a [u8],
-    oxid: Oxid,
-    unknown: Guid,
-    list: &'a [u8],
-) -> u32
+fn exporter_answer(words: &[u64], store: &[u8], oxid: Oxid, unknown: Guid, list: &[u8]) -> u32
     requires { ⌜ SoundTable (memory (now words) (now store)) ⌝ }
     ensures { λ r. ⌜ r ≡ number (Call.editing (Edit.enterExporter (oxid .0) unknown (now (list .entry)))) (view (memory (now (words .entry)) (now (store .entry)))) ⌝ }
 {
@@ -79,12 +73,12 @@ fn exporter_answer<'a>(
 }
 
 // The call on a sound table.
-pub fn enter_exporter_step<'a>(
-    words: &'a mut [u64],
-    store: &'a mut [u8],
+pub fn enter_exporter_step(
+    words: &mut [u64],
+    store: &mut [u8],
     oxid: Oxid,
     unknown: Guid,
-    list: &'a [u8],
+    list: &[u8],
 ) -> u32
     requires { ⌜ SoundTable (memory (now words) (now store)) ⌝ }
     ensures { λ r. ⌜
@@ -129,9 +123,9 @@ fn object_answer(words: &[u64], oid: Oid, oxid: Oxid, ipid: Guid, public: u32) -
 }
 
 // The call on a sound table.
-pub fn enter_object_step<'a>(
-    words: &'a mut [u64],
-    store: &'a [u8],
+pub fn enter_object_step(
+    words: &mut [u64],
+    store: &[u8],
     oid: Oid,
     oxid: Oxid,
     ipid: Guid,
@@ -174,9 +168,9 @@ fn interface_answer(words: &[u64], oid: Oid, ipid: Guid, public: u32) -> u32
 }
 
 // The call on a sound table.
-pub fn enter_interface_step<'a>(
-    words: &'a mut [u64],
-    store: &'a [u8],
+pub fn enter_interface_step(
+    words: &mut [u64],
+    store: &[u8],
     oid: Oid,
     ipid: Guid,
     iid: Guid,

@@ -18,14 +18,14 @@ ghost use Rattle.call_lists.specs.Listing.{wayOf, listReply, itemOf, Lis
 
 // A list on a sound table: given back, or else added. `rows` has a number for each bucket of IPIDs: 0, or one more than a row to try,
 // but 255 for row 255 too. The bucket of each live IPID has one that is not 0.
-pub fn list_step<'a>(
-    words: &'a mut [u64],
-    store: &'a [u8],
+pub fn list_step(
+    words: &mut [u64],
+    store: &[u8],
     back: bool,
     client: u32,
-    items: &'a [u8],
-    buffer: &'a mut [u8],
-    rows: &'a mut [u8; buckets::BUCKETS],
+    items: &[u8],
+    buffer: &mut [u8],
+    rows: &mut [u8; buckets::BUCKETS],
 ) -> u32
     requires { ⌜ SoundTable (memory (now words) (now store)) × Indexed guidBucket (now rows) (ipidsOf (now words)) ⌝ }
     ensures { λ r. ⌜
@@ -49,14 +49,14 @@ pub fn list_step<'a>(
 }
 
 // The items of a list that is not refused.
-fn count_items<'a>(
-    words: &'a mut [u64],
-    store: &'a [u8],
+fn count_items(
+    words: &mut [u64],
+    store: &[u8],
     back: bool,
     client: u32,
-    items: &'a [u8],
-    buffer: &'a mut [u8],
-    rows: &'a mut [u8; buckets::BUCKETS],
+    items: &[u8],
+    buffer: &mut [u8],
+    rows: &mut [u8; buckets::BUCKETS],
 ) -> u32
     requires { ⌜
         SoundTable (memory (now words) (now store)) × ListTaken client (now items) (now buffer)
@@ -80,13 +80,13 @@ fn count_items<'a>(
 }
 
 // The same where no judgement leaves an index. Any numbers but 0 are one; for a list of many items the rows are noted in it.
-pub fn noted_list_step<'a>(
-    words: &'a mut [u64],
-    store: &'a [u8],
+pub fn noted_list_step(
+    words: &mut [u64],
+    store: &[u8],
     back: bool,
     client: u32,
-    items: &'a [u8],
-    buffer: &'a mut [u8],
+    items: &[u8],
+    buffer: &mut [u8],
 ) -> u32
     requires { ⌜ SoundTable (memory (now words) (now store)) ⌝ }
     ensures { λ r. ⌜
@@ -102,7 +102,7 @@ pub fn noted_list_step<'a>(
 const SHORT: usize = 192;
 
 // Notes the row of each IPID under its bucket, for a list of so many bytes.
-fn note_rows<'a>(words: &'a [u64], bytes: usize, rows: &'a mut [u8; buckets::BUCKETS])
+fn note_rows(words: &[u64], bytes: usize, rows: &mut [u8; buckets::BUCKETS])
     requires { ⌜ Whole (now words) × Indexed guidBucket (now rows) (ipidsOf (now words)) ⌝ }
     ensures { λ _. ⌜ Indexed guidBucket (now (rows .exit)) (ipidsOf (now (words .entry))) ⌝ }
 {
@@ -126,12 +126,7 @@ fn row_at(number: u8) -> usize
 
 // The row of the interface with an IPID, as `find::interface_row` gives it. Adds and releases enter no interface, so an IPID whose
 // bucket has 0 stays unknown. What the other numbers are is undecided: the IPID of a row that is tried is compared.
-fn row_of<'a>(
-    words: &'a [u64],
-    store: &'a [u8],
-    rows: &'a [u8; buckets::BUCKETS],
-    ipid: Guid,
-) -> usize
+fn row_of(words: &[u64], store: &[u8], rows: &[u8; buckets::BUCKETS], ipid: Guid) -> usize
     requires { ⌜ SoundTable (memory (now words) (now store)) × Indexed guidBucket (now rows) (ipidsOf (now words)) ⌝ }
     ensures { λ r. ⌜ Holds (λ e. r ≡ interfaceRow e ipid) (now (words .entry)) ⌝ }
 {
@@ -148,12 +143,7 @@ fn row_of<'a>(
 }
 
 // The same by the second bucket, then by row 255, whose number is that of row 254, then by a search.
-fn second_row<'a>(
-    words: &'a [u64],
-    store: &'a [u8],
-    rows: &'a [u8; buckets::BUCKETS],
-    ipid: Guid,
-) -> usize
+fn second_row(words: &[u64], store: &[u8], rows: &[u8; buckets::BUCKETS], ipid: Guid) -> usize
     requires { ⌜ SoundTable (memory (now words) (now store)) ⌝ }
     ensures { λ r. ⌜ Holds (λ e. r ≡ interfaceRow e ipid) (now (words .entry)) ⌝ }
 {
@@ -169,12 +159,7 @@ fn second_row<'a>(
 }
 
 // Where the interface at a row went, the numbers of later rows follow. Answers how many interfaces there are.
-fn follow_row<'a>(
-    words: &'a [u64],
-    rows: &'a mut [u8; buckets::BUCKETS],
-    row: usize,
-    before: usize,
-) -> usize
+fn follow_row(words: &[u64], rows: &mut [u8; buckets::BUCKETS], row: usize, before: usize) -> usize
     requires { ⌜ Whole (now words) × Indexed guidBucket (now rows) (ipidsOf (now words)) ⌝ }
     ensures { λ _. ⌜ Indexed guidBucket (now (rows .exit)) (ipidsOf (now (words .entry))) ⌝ }
 {
@@ -222,9 +207,9 @@ fn read_item(items: &[u8], k: usize) -> Counted
 }
 
 // An item at the row that its IPID has.
-fn item_step<'a>(
-    words: &'a mut [u64],
-    store: &'a [u8],
+fn item_step(
+    words: &mut [u64],
+    store: &[u8],
     back: bool,
     client: u32,
     item: Counted,

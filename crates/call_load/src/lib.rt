@@ -14,7 +14,7 @@ ghost use Rattle.table_view.specs.View.{memory, view, SoundTable, Performed};
 ghost use Rattle.call_load.specs.Loading.{SnapshotRead};
 
 // Whether 32 bytes of two slices are the same; no byte ends the loop, so that they are compared at once.
-fn same_block<'a>(a: &'a [u8], b: &'a [u8], at: usize) -> bool
+fn same_block(a: &[u8], b: &[u8], at: usize) -> bool
     requires { ⌜ (at + 32 ≤ length (now a)) × (at + 32 ≤ length (now b)) ⌝ }
     ensures { λ r. ⌜ (r ≡ true → sameWords (drop at (now (a .entry))) (drop at (now (b .entry))) ≡ sameWords (drop (at + 32) (now (a .entry))) (drop (at + 32) (now (b .entry)))) ⌝ }
 {
@@ -30,7 +30,7 @@ fn same_block<'a>(a: &'a [u8], b: &'a [u8], at: usize) -> bool
 }
 
 // How many bytes of two slices as long as each other are the same, in whole blocks from the start.
-fn same_blocks<'a>(a: &'a [u8], b: &'a [u8]) -> usize
+fn same_blocks(a: &[u8], b: &[u8]) -> usize
     requires { ⌜ length (now a) ≡ length (now b) ⌝ }
     ensures { λ r. ⌜ (r ≤ length (now (a .entry))) × (sameWords (now (a .entry)) (now (b .entry)) ≡ sameWords (drop r (now (a .entry))) (drop r (now (b .entry)))) ⌝ }
 {
@@ -45,7 +45,7 @@ fn same_blocks<'a>(a: &'a [u8], b: &'a [u8]) -> usize
 }
 
 // Whether two slices hold the same bytes.
-pub fn same_bytes<'a>(a: &'a [u8], b: &'a [u8]) -> bool
+pub fn same_bytes(a: &[u8], b: &[u8]) -> bool
     ensures { λ r. ⌜ r ≡ sameWords (now (a .entry)) (now (b .entry)) ⌝ }
 {
     if a.len() != b.len() {
@@ -62,7 +62,7 @@ pub fn same_bytes<'a>(a: &'a [u8], b: &'a [u8]) -> bool
 }
 
 // Copies words over as many others.
-fn copy_words<'a>(to: &'a mut [u64], from: &'a [u64])
+fn copy_words(to: &mut [u64], from: &[u64])
     requires { ⌜ length (now to) ≡ length (now from) ⌝ }
     ensures { λ _. ⌜ now (to .exit) ≡ now (from .entry) ⌝ }
 {
@@ -74,7 +74,7 @@ fn copy_words<'a>(to: &'a mut [u64], from: &'a [u64])
 }
 
 // Whether bytes are the snapshot of a sound table.
-fn is_snapshot_of<'a>(words: &'a [u64], store: &'a [u8], s: &'a [u8]) -> bool
+fn is_snapshot_of(words: &[u64], store: &[u8], s: &[u8]) -> bool
     requires { ⌜ SoundTable (memory (now words) (now store)) ⌝ }
     ensures { λ r. ⌜ r ≡ sameWords (snapshotBytes (view (memory (now (words .entry)) (now (store .entry))))) (now (s .entry)) ⌝ }
 {
@@ -85,7 +85,7 @@ fn is_snapshot_of<'a>(words: &'a [u64], store: &'a [u8], s: &'a [u8]) -> bool
 }
 
 // Reads a snapshot into a table; false where the bytes are the snapshot of no sound table.
-fn read_snapshot<'a>(words: &'a mut [u64], store: &'a mut [u8], s: &'a [u8]) -> bool
+fn read_snapshot(words: &mut [u64], store: &mut [u8], s: &[u8]) -> bool
     requires { ⌜ Whole (now words) × Whole (now store) ⌝ }
     ensures { λ r. ⌜ SnapshotRead (now (s .entry)) r (view (memory (now (words .exit)) (now (store .exit)))) ⌝ }
 {
@@ -99,7 +99,7 @@ fn read_snapshot<'a>(words: &'a mut [u64], store: &'a mut [u8], s: &'a [u8]) -> 
 }
 
 // Loads a snapshot: 0, or 1 where a length is wrong; 23. What the table held is forgotten. It looks at nothing of it but the lengths.
-pub fn load_snapshot<'a>(words: &'a mut [u64], store: &'a mut [u8], snapshot: &'a [u8]) -> u32
+pub fn load_snapshot(words: &mut [u64], store: &mut [u8], snapshot: &[u8]) -> u32
     ensures { λ r. ⌜
         Performed (Call.starting (Start.loadSnapshot (now (snapshot .entry)))) (memory (now (words .entry)) (now (store .entry))) (numbered r)
         (memory (now (words .exit)) (now (store .exit))) ⌝ }

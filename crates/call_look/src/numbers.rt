@@ -24,7 +24,7 @@ pub struct MemberCount {
 }
 
 // The call on a sound table.
-pub fn census_step<'a>(words: &'a [u64], store: &'a [u8]) -> LiveCounts
+pub fn census_step(words: &[u64], store: &[u8]) -> LiveCounts
     requires { ⌜ SoundTable (memory (now words) (now store)) ⌝ }
     ensures { λ r. ⌜
         Stepped (Call.looking Look.census) (memory (now (words .entry)) (now (store .entry))) (censusReply r)
@@ -40,7 +40,7 @@ pub fn census_step<'a>(words: &'a [u64], store: &'a [u8]) -> LiveCounts
 }
 
 // The call on a sound table.
-pub fn members_step<'a>(words: &'a [u64], store: &'a [u8], set: SetId) -> MemberCount
+pub fn members_step(words: &[u64], store: &[u8], set: SetId) -> MemberCount
     requires { ⌜ SoundTable (memory (now words) (now store)) ⌝ }
     ensures { λ r. ⌜
         Stepped (Call.looking (Look.members (set .0))) (memory (now (words .entry)) (now (store .entry))) (membersReply r)

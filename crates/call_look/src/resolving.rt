@@ -37,12 +37,7 @@ impl Resolved {
 }
 
 // The call on a sound table.
-pub fn resolve_step<'a>(
-    words: &'a [u64],
-    store: &'a [u8],
-    oxid: Oxid,
-    buffer: &'a mut [u8],
-) -> Resolved
+pub fn resolve_step(words: &[u64], store: &[u8], oxid: Oxid, buffer: &mut [u8]) -> Resolved
     requires { ⌜ SoundTable (memory (now words) (now store)) ⌝ }
     ensures { λ r. ⌜
         Stepped (Call.looking (Look.resolve (oxid .0) (now (buffer .entry)))) (memory (now (words .entry)) (now (store .entry)))
@@ -69,12 +64,12 @@ pub fn resolve_step<'a>(
 const FEW: usize = 64;
 
 // The call on a sound table.
-pub fn resolve_filtered_step<'a>(
-    words: &'a [u64],
-    store: &'a [u8],
+pub fn resolve_filtered_step(
+    words: &[u64],
+    store: &[u8],
     oxid: Oxid,
-    protocols: &'a [u16],
-    buffer: &'a mut [u8],
+    protocols: &[u16],
+    buffer: &mut [u8],
 ) -> Resolved
     requires { ⌜ SoundTable (memory (now words) (now store)) ⌝ }
     ensures { λ r. ⌜
@@ -93,12 +88,12 @@ pub fn resolve_filtered_step<'a>(
 }
 
 // The same with a search of the protocols for each binding.
-fn resolve_searched<'a>(
-    words: &'a [u64],
-    store: &'a [u8],
+fn resolve_searched(
+    words: &[u64],
+    store: &[u8],
     oxid: Oxid,
-    protocols: &'a [u16],
-    buffer: &'a mut [u8],
+    protocols: &[u16],
+    buffer: &mut [u8],
 ) -> Resolved
     requires { ⌜ SoundTable (memory (now words) (now store)) ⌝ }
     ensures { λ r. ⌜
@@ -126,12 +121,12 @@ fn resolve_searched<'a>(
 }
 
 // The same of protocols that are marked, within the limit: of them only the towers that the list has matter.
-fn resolve_marked<'a>(
-    words: &'a [u64],
-    store: &'a [u8],
+fn resolve_marked(
+    words: &[u64],
+    store: &[u8],
     oxid: Oxid,
-    marks: &'a [u64; filter::MARKS],
-    buffer: &'a mut [u8],
+    marks: &[u64; filter::MARKS],
+    buffer: &mut [u8],
 ) -> Resolved
     requires { ⌜ SoundTable (memory (now words) (now store)) ⌝ }
     ensures { λ r. ⌜
@@ -150,12 +145,12 @@ fn resolve_marked<'a>(
 }
 
 // The same of protocols in bytes, two for each, little-endian, in any place.
-pub fn resolve_filtered_bytes_step<'a>(
-    words: &'a [u64],
-    store: &'a [u8],
+pub fn resolve_filtered_bytes_step(
+    words: &[u64],
+    store: &[u8],
     oxid: Oxid,
-    protocols: &'a [u8],
-    buffer: &'a mut [u8],
+    protocols: &[u8],
+    buffer: &mut [u8],
 ) -> Resolved
     requires { ⌜ SoundTable (memory (now words) (now store)) ⌝ }
     ensures { λ r. ⌜

@@ -34,7 +34,7 @@ impl StopPlace {
 }
 
 // The list of exporter i, where it keeps the list rules.
-fn in_store<'a>(words: &'a [u64], store: &'a [u8], i: usize) -> StopPlace
+fn in_store(words: &[u64], store: &[u8], i: usize) -> StopPlace
     requires { ⌜
         Whole (now store) × (i < exporterCount (now words))
         × (listsKept (view (memory (now words) (now store))) ≡ true) ⌝ }
@@ -62,7 +62,7 @@ fn in_reference(own: Place) -> StopPlace
 }
 
 // The call on a sound table.
-pub fn next_stop_step<'a>(words: &'a [u64], store: &'a [u8], reference: &'a [u8]) -> StopPlace
+pub fn next_stop_step(words: &[u64], store: &[u8], reference: &[u8]) -> StopPlace
     requires { ⌜ SoundTable (memory (now words) (now store)) ⌝ }
     ensures { λ r. ⌜ StopFound (memory (now (words .entry)) (now (store .entry))) (now (reference .entry)) r ⌝ }
 {

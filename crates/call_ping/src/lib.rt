@@ -61,7 +61,7 @@ fn ping_row(words: &mut [u64], i: usize)
 }
 
 // The call on a sound table.
-pub fn simple_ping_step<'a>(words: &'a mut [u64], store: &'a [u8], set: SetId) -> u32
+pub fn simple_ping_step(words: &mut [u64], store: &[u8], set: SetId) -> u32
     requires { ⌜ SoundTable (memory (now words) (now store)) ⌝ }
     ensures { λ r. ⌜
         Stepped (Call.editing (Edit.simplePing (set .0))) (memory (now (words .entry)) (now (store .entry)))
@@ -142,12 +142,7 @@ struct Listed {
 const FEW: usize = 8;
 
 // Hints at the rows of the objects, where a list is not short.
-fn hint_listed<'a>(
-    words: &'a [u64],
-    hints: &'a mut [u8; buckets::BUCKETS],
-    adds: usize,
-    deletes: usize,
-)
+fn hint_listed(words: &[u64], hints: &mut [u8; buckets::BUCKETS], adds: usize, deletes: usize)
     requires { ⌜ Whole (now words) ⌝ }
 {
     if adds < FEW {
@@ -174,9 +169,9 @@ fn object_row(words: &[u64], hint: u8, oid: Oid) -> usize
 }
 
 // One more OID; one that is not live changes no member.
-fn update_member<'a>(
-    words: &'a [u64],
-    hints: &'a [u8; buckets::BUCKETS],
+fn update_member(
+    words: &[u64],
+    hints: &[u8; buckets::BUCKETS],
     listed: Listed,
     oid: Oid,
     member: bool,
@@ -200,11 +195,11 @@ fn update_member<'a>(
 }
 
 // The OIDs of a list; of one to be added no further than the first that is not live.
-fn update_members<'a>(
-    words: &'a [u64],
-    hints: &'a [u8; buckets::BUCKETS],
+fn update_members(
+    words: &[u64],
+    hints: &[u8; buckets::BUCKETS],
     members: Members,
-    ids: &'a [u64],
+    ids: &[u64],
     member: bool,
 ) -> Listed
     requires { ⌜ Whole (now words) × (proper (oidsOf (now words)) ≡ true) ⌝ }
@@ -226,11 +221,11 @@ fn update_members<'a>(
 }
 
 // The same of OIDs in bytes.
-fn update_members_bytes<'a>(
-    words: &'a [u64],
-    hints: &'a [u8; buckets::BUCKETS],
+fn update_members_bytes(
+    words: &[u64],
+    hints: &[u8; buckets::BUCKETS],
     members: Members,
-    bytes: &'a [u8],
+    bytes: &[u8],
     member: bool,
 ) -> Listed
     requires { ⌜ Whole (now words) × (proper (oidsOf (now words)) ≡ true) ⌝ }
@@ -328,13 +323,13 @@ impl Pinged {
 }
 
 // The call on a sound table.
-pub fn complex_ping_step<'a>(
-    words: &'a mut [u64],
-    store: &'a [u8],
+pub fn complex_ping_step(
+    words: &mut [u64],
+    store: &[u8],
     set: SetId,
     sequence: u16,
-    adds: &'a [u64],
-    deletes: &'a [u64],
+    adds: &[u64],
+    deletes: &[u64],
 ) -> Pinged
     requires { ⌜ SoundTable (memory (now words) (now store)) ⌝ }
     ensures { λ r. ⌜
@@ -359,13 +354,13 @@ pub fn complex_ping_step<'a>(
 }
 
 // The same of OIDs in bytes, eight for each, little-endian, in any place.
-pub fn complex_ping_bytes_step<'a>(
-    words: &'a mut [u64],
-    store: &'a [u8],
+pub fn complex_ping_bytes_step(
+    words: &mut [u64],
+    store: &[u8],
     set: SetId,
     sequence: u16,
-    adds: &'a [u8],
-    deletes: &'a [u8],
+    adds: &[u8],
+    deletes: &[u8],
 ) -> Pinged
     requires { ⌜ SoundTable (memory (now words) (now store)) ⌝ }
     ensures { λ r. ⌜
@@ -390,9 +385,9 @@ pub fn complex_ping_bytes_step<'a>(
 }
 
 // The rest of it, by the members that are left of the lists.
-fn ping_listed<'a>(
-    words: &'a mut [u64],
-    store: &'a [u8],
+fn ping_listed(
+    words: &mut [u64],
+    store: &[u8],
     set: SetId,
     sequence: u16,
     members: Members,

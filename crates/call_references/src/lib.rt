@@ -43,7 +43,7 @@ impl Released {
 }
 
 // The row of the interface with an IPID, as `find::interface_row` gives it; a row is tried first, which may be any number.
-pub fn interface_row<'a>(words: &'a [u64], store: &'a [u8], hint: u8, ipid: Guid) -> usize
+pub fn interface_row(words: &[u64], store: &[u8], hint: u8, ipid: Guid) -> usize
     requires { ⌜ SoundTable (memory (now words) (now store)) ⌝ }
     ensures { λ r. ⌜ Holds (λ e. r ≡ interfaceRow e ipid) (now (words .entry)) ⌝ }
 {
@@ -55,7 +55,7 @@ pub fn interface_row<'a>(words: &'a [u64], store: &'a [u8], hint: u8, ipid: Guid
 }
 
 // Whether the interface at a row, which may be any number, has an IPID.
-pub fn is_row<'a>(words: &'a [u64], store: &'a [u8], row: usize, ipid: Guid) -> bool
+pub fn is_row(words: &[u64], store: &[u8], row: usize, ipid: Guid) -> bool
     requires { ⌜ SoundTable (memory (now words) (now store)) ⌝ }
     ensures { λ r. ⌜ (r ≡ true → Holds (λ e. row ≡ interfaceRow e ipid) (now (words .entry))) ⌝ }
 {
@@ -75,9 +75,9 @@ fn is_same(a: Guid, b: Guid) -> bool
 }
 
 // The call on a sound table.
-pub fn add_step<'a>(
-    words: &'a mut [u64],
-    store: &'a [u8],
+pub fn add_step(
+    words: &mut [u64],
+    store: &[u8],
     client: u32,
     ipid: Guid,
     public: u32,
@@ -93,9 +93,9 @@ pub fn add_step<'a>(
 }
 
 // The same at the row that the IPID has.
-pub fn add_at<'a>(
-    words: &'a mut [u64],
-    store: &'a [u8],
+pub fn add_at(
+    words: &mut [u64],
+    store: &[u8],
     client: u32,
     ipid: Guid,
     i: usize,
@@ -162,9 +162,9 @@ fn drop_interface(words: &mut [u64], i: usize, object: Oid) -> u32
 }
 
 // The call on a sound table.
-pub fn release_step<'a>(
-    words: &'a mut [u64],
-    store: &'a [u8],
+pub fn release_step(
+    words: &mut [u64],
+    store: &[u8],
     client: u32,
     ipid: Guid,
     public: u32,
@@ -180,9 +180,9 @@ pub fn release_step<'a>(
 }
 
 // The same at the row that the IPID has.
-pub fn release_at<'a>(
-    words: &'a mut [u64],
-    store: &'a [u8],
+pub fn release_at(
+    words: &mut [u64],
+    store: &[u8],
     client: u32,
     ipid: Guid,
     i: usize,
@@ -225,7 +225,7 @@ pub fn release_at<'a>(
 }
 
 // The call on a sound table.
-pub fn drop_client_step<'a>(words: &'a mut [u64], store: &'a [u8], client: u32) -> u32
+pub fn drop_client_step(words: &mut [u64], store: &[u8], client: u32) -> u32
     requires { ⌜ SoundTable (memory (now words) (now store)) ⌝ }
     ensures { λ r. ⌜
         Stepped (Call.editing (Edit.dropClient client)) (memory (now (words .entry)) (now (store .entry)))

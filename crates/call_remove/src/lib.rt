@@ -10,7 +10,7 @@ ghost use Rattle.table_view.specs.View.{memory, SoundTable, Stepped};
 ghost use Rattle.call_remove.specs.Replies.{clockReply};
 
 // The call on a sound table.
-pub fn remove_exporter_step<'a>(words: &'a mut [u64], store: &'a mut [u8], oxid: Oxid) -> u32
+pub fn remove_exporter_step(words: &mut [u64], store: &mut [u8], oxid: Oxid) -> u32
     requires { ⌜ SoundTable (memory (now words) (now store)) ⌝ }
     ensures { λ r. ⌜
         Stepped (Call.editing (Edit.removeExporter (oxid .0))) (memory (now (words .entry)) (now (store .entry)))
@@ -50,7 +50,7 @@ impl Expired {
 }
 
 // The call on a sound table.
-pub fn clock_step<'a>(words: &'a mut [u64], store: &'a [u8], time: u64) -> Expired
+pub fn clock_step(words: &mut [u64], store: &[u8], time: u64) -> Expired
     requires { ⌜ SoundTable (memory (now words) (now store)) ⌝ }
     ensures { λ r. ⌜
         Stepped (Call.editing (Edit.clock time)) (memory (now (words .entry)) (now (store .entry)))

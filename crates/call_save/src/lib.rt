@@ -19,7 +19,7 @@ pub fn refused(number: u32) -> Written
 }
 
 // The call on a sound table.
-pub fn write_snapshot_step<'a>(words: &'a [u64], store: &'a [u8], buffer: &'a mut [u8]) -> Written
+pub fn write_snapshot_step(words: &[u64], store: &[u8], buffer: &mut [u8]) -> Written
     requires { ⌜ SoundTable (memory (now words) (now store)) ⌝ }
     ensures { λ r. ⌜
         Stepped (Call.looking (Look.writeSnapshot (now (buffer .entry)))) (memory (now (words .entry)) (now (store .entry)))

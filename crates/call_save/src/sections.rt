@@ -15,7 +15,7 @@ ghost use Rattle.snapshot_rows.specs.Rows.{ObjectsSorted};
 ghost use Rattle.call_save.specs.Sections.{sectionOf};
 
 // Two numbers: the clock and the next set number.
-fn put_numbers<'a>(words: &'a [u64], buffer: &'a mut [u8], at: usize) -> usize
+fn put_numbers(words: &[u64], buffer: &mut [u8], at: usize) -> usize
     requires { ⌜ Whole (now words) × Room (now buffer) at (section (encode 8) (clockOf (now words) ∷ nextOf (now words) ∷ [])) ⌝ }
     ensures { λ r. ⌜ Wrote (now (buffer .entry)) at (section (encode 8) (clockOf (now (words .entry)) ∷ nextOf (now (words .entry)) ∷ [])) (now (buffer .exit)) r ⌝ }
 {
@@ -27,13 +27,13 @@ fn put_numbers<'a>(words: &'a [u64], buffer: &'a mut [u8], at: usize) -> usize
 }
 
 // A section: the number of its rows, which are given in rising order, and the rows.
-fn put_section<'a>(
-    words: &'a [u64],
-    store: &'a [u8],
+fn put_section(
+    words: &[u64],
+    store: &[u8],
     section: Section,
-    objects: &'a [usize],
-    rows: &'a [usize],
-    buffer: &'a mut [u8],
+    objects: &[usize],
+    rows: &[usize],
+    buffer: &mut [u8],
     at: usize,
 ) -> usize
     requires { ⌜
@@ -53,12 +53,12 @@ fn put_section<'a>(
 }
 
 // A section whose rows are yet to be sorted.
-fn put_sorted<'a>(
-    words: &'a [u64],
-    store: &'a [u8],
+fn put_sorted(
+    words: &[u64],
+    store: &[u8],
     section: Section,
-    objects: &'a [usize],
-    buffer: &'a mut [u8],
+    objects: &[usize],
+    buffer: &mut [u8],
     at: usize,
 ) -> usize
     requires { ⌜
@@ -73,12 +73,7 @@ fn put_sorted<'a>(
 }
 
 // All sections; the objects' rows are given in rising order.
-fn put_entries<'a>(
-    words: &'a [u64],
-    store: &'a [u8],
-    objects: &'a [usize],
-    buffer: &'a mut [u8],
-) -> usize
+fn put_entries(words: &[u64], store: &[u8], objects: &[usize], buffer: &mut [u8]) -> usize
     requires { ⌜
         SoundTable (memory (now words) (now store)) × ObjectsSorted (now words) (now objects)
         × Room (now buffer) 0 (snapshotBytes (view (memory (now words) (now store)))) ⌝ }
@@ -92,7 +87,7 @@ fn put_entries<'a>(
 }
 
 // The snapshot at the front of a buffer that has room for it.
-pub fn put_snapshot<'a>(words: &'a [u64], store: &'a [u8], buffer: &'a mut [u8]) -> usize
+pub fn put_snapshot(words: &[u64], store: &[u8], buffer: &mut [u8]) -> usize
     requires { ⌜
         SoundTable (memory (now words) (now store))
         × Room (now buffer) 0 (snapshotBytes (view (memory (now words) (now store)))) ⌝ }

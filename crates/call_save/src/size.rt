@@ -28,7 +28,7 @@ fn member_count(words: &[u64]) -> usize
 
 // The counts of the five sections and the two numbers take 26 bytes, an exporter 26 and its list, an object 25, an interface 76, a
 // set 20 and 8 for each member.
-pub fn snapshot_length<'a>(words: &'a [u64], store: &'a [u8]) -> usize
+pub fn snapshot_length(words: &[u64], store: &[u8]) -> usize
     requires { ⌜ SoundTable (memory (now words) (now store)) ⌝ }
     ensures { λ r. ⌜ r ≡ length (snapshotBytes (view (memory (now (words .entry)) (now (store .entry))))) ⌝ }
 {

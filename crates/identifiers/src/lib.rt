@@ -76,7 +76,7 @@ fn enter(rows: &mut [u8], b: usize, k: usize, number: u8)
 
 // Whether the words of a column are proper; notes each. From the last word to the first: where one is not yet noted, no later word is
 // the same.
-pub fn note<'a>(rows: &'a mut [u8], col: &'a [u64]) -> bool
+pub fn note(rows: &mut [u8], col: &[u64]) -> bool
     requires { ⌜ (0 < length (now rows)) × (length (now col) < 256) ⌝ }
     ensures { λ r. ⌜ Noted (now (col .entry)) (now (rows .exit)) r ⌝ }
 {
@@ -146,7 +146,7 @@ fn tried_row(col: &[u64], number: u8, x: u64) -> usize
 }
 
 // The row of x by the index of a column; the column's length where x is not there.
-fn row_of<'a>(rows: &'a [u8], col: &'a [u64], x: u64) -> usize
+fn row_of(rows: &[u8], col: &[u64], x: u64) -> usize
     requires { ⌜ IndexedWords (now rows) (now col) ⌝ }
     ensures { λ r. ⌜ RowOf x (now (col .entry)) r ⌝ }
 {
@@ -167,7 +167,7 @@ fn row_of<'a>(rows: &'a [u8], col: &'a [u64], x: u64) -> usize
 }
 
 // Each word of a stands in the column.
-pub fn all_found<'a>(rows: &'a [u8], col: &'a [u64], a: &'a [u64]) -> bool
+pub fn all_found(rows: &[u8], col: &[u64], a: &[u64]) -> bool
     requires { ⌜ IndexedWords (now rows) (now col) ⌝ }
     ensures { λ r. ⌜ r ≡ every (among (now (col .entry))) (now (a .entry)) ⌝ }
 {
@@ -195,7 +195,7 @@ fn all_true(marks: &[bool]) -> bool
 }
 
 // Each word of a stands in the column, and each word of the column in a.
-pub fn all_paired<'a>(rows: &'a [u8], col: &'a [u64], a: &'a [u64]) -> bool
+pub fn all_paired(rows: &[u8], col: &[u64], a: &[u64]) -> bool
     requires { ⌜ IndexedWords (now rows) (now col) × (distinct eqb (now col) ≡ true) × (length (now col) ≤ 128) ⌝ }
     ensures { λ r. ⌜ r ≡ (every (among (now (col .entry))) (now (a .entry)) && every (among (now (a .entry))) (now (col .entry))) ⌝ }
 {
@@ -213,12 +213,12 @@ pub fn all_paired<'a>(rows: &'a [u8], col: &'a [u64], a: &'a [u64]) -> bool
 }
 
 // Whether g stands in two columns from an index on, or in two more from another on.
-fn stands_later<'a>(
-    lows: &'a [u64],
-    highs: &'a [u64],
+fn stands_later(
+    lows: &[u64],
+    highs: &[u64],
     next: usize,
-    lows2: &'a [u64],
-    highs2: &'a [u64],
+    lows2: &[u64],
+    highs2: &[u64],
     from: usize,
     g: Guid,
 ) -> bool
@@ -231,7 +231,7 @@ fn stands_later<'a>(
 }
 
 // Whether a GUID is noted, by the numbers of its two buckets.
-fn is_guid_noted<'a>(first: u8, second: u8, lows: &'a [u64], highs: &'a [u64], g: Guid) -> bool
+fn is_guid_noted(first: u8, second: u8, lows: &[u64], highs: &[u64], g: Guid) -> bool
     ensures { λ r. ⌜ r ≡ noted first second (λ i. sameGuid g (guidAt (now (lows .entry)) (now (highs .entry)) i)) ⌝ }
 {
     if first == 0 {
@@ -257,12 +257,12 @@ fn number_of(next: usize, most: usize) -> u8
 // Whether the GUIDs of two columns are proper before those of two more from an index on, which are noted; notes theirs as well.
 // The numbers lead to the latter columns, whose GUIDs before the index are those of the former. From the last GUID to the first:
 // where one is not yet noted, no later GUID is the same.
-pub fn enter_guids<'a>(
-    rows: &'a mut [u8; buckets::BUCKETS],
-    lows: &'a [u64],
-    highs: &'a [u64],
-    lows2: &'a [u64],
-    highs2: &'a [u64],
+pub fn enter_guids(
+    rows: &mut [u8; buckets::BUCKETS],
+    lows: &[u64],
+    highs: &[u64],
+    lows2: &[u64],
+    highs2: &[u64],
     from: usize,
 ) -> bool
     requires { ⌜ Entering (now rows) (now lows) (now highs) (now lows2) (now highs2) from ⌝ }

@@ -39,7 +39,7 @@ fn section(log: &mut Log, at: usize, s: &[u8]) -> usize {
 
 // Puts numbers one behind the other, each as wide as its hex digit of the widths says, the last digit first; where they end. The next one
 // covers the zeros of a narrow one.
-fn pack<'a>(to: &'a mut [u8], widths: u64, numbers: &'a [u64]) -> usize {
+fn pack(to: &mut [u8], widths: u64, numbers: &[u64]) -> usize {
     let mut at = 0;
     let mut left = widths;
     let mut k = 0;
@@ -61,7 +61,7 @@ fn packed(log: &mut Log, at: usize, widths: u64, numbers: &[u64]) -> usize {
 }
 
 // The three sections of a call: its code and numbers, its list, and a second list, which is empty; where they end.
-fn call<'a>(log: &mut Log, widths: u64, numbers: &'a [u64], list: &'a [u8]) -> usize {
+fn call(log: &mut Log, widths: u64, numbers: &[u64], list: &[u8]) -> usize {
     let from = end(log);
     let first = packed(log, from, widths, numbers);
     let second = section(log, first, list);
@@ -69,14 +69,7 @@ fn call<'a>(log: &mut Log, widths: u64, numbers: &'a [u64], list: &'a [u8]) -> u
 }
 
 // A record of a call by its code and numbers, its list, its answer by number and results, and the bytes that were shown.
-fn record<'a>(
-    log: &mut Log,
-    widths: u64,
-    numbers: &'a [u64],
-    list: &'a [u8],
-    results: &'a [u64],
-    shown: &'a [u8],
-) {
+fn record(log: &mut Log, widths: u64, numbers: &[u64], list: &[u8], results: &[u64], shown: &[u8]) {
     let answer = call(log, widths, numbers, list);
     let last = packed(log, answer, 0x88888, results);
     section(log, last, shown);
@@ -85,7 +78,7 @@ fn record<'a>(
 }
 
 // A record of a call that is given no list and shows nothing.
-fn plain<'a>(log: &mut Log, widths: u64, numbers: &'a [u64], results: &'a [u64]) {
+fn plain(log: &mut Log, widths: u64, numbers: &[u64], results: &[u64]) {
     record(log, widths, numbers, b"", results, b"");
 }
 
@@ -203,14 +196,14 @@ pub fn clock(log: &mut Log, time: u64, results: &[u64]) {
 }
 
 // A resolve by its code, with the list of that length that it wrote to a buffer.
-fn resolved<'a>(
+fn resolved(
     log: &mut Log,
     code: u64,
     oxid: Oxid,
-    protocols: &'a [u8],
+    protocols: &[u8],
     number: u32,
     unknown: Guid,
-    buffer: &'a [u8],
+    buffer: &[u8],
     length: usize,
 ) {
     let n = fields::within(buffer, length);
@@ -236,13 +229,13 @@ pub fn resolve(
 }
 
 // A resolve for protocols, two bytes each.
-pub fn resolve_filtered<'a>(
+pub fn resolve_filtered(
     log: &mut Log,
     oxid: Oxid,
-    protocols: &'a [u8],
+    protocols: &[u8],
     number: u32,
     unknown: Guid,
-    buffer: &'a [u8],
+    buffer: &[u8],
     length: usize,
 ) {
     resolved(log, 14, oxid, protocols, number, unknown, buffer, length);
@@ -258,7 +251,7 @@ pub fn members(log: &mut Log, set: SetId, number: u32, count: usize) {
 }
 
 // A next stop with the part that it showed.
-pub fn next_stop<'a>(log: &mut Log, reference: &'a [u8], number: u32, stop: &'a [u8]) {
+pub fn next_stop(log: &mut Log, reference: &[u8], number: u32, stop: &[u8]) {
     record(log, 0x1, &[17], reference, &[number as u64], stop);
 }
 

@@ -16,10 +16,10 @@ ghost use Prim.Native.Nat.{min};
 ghost use Rattle.replay_buffers.specs.Shown.{shownStep};
 
 // The step of a call by what it answers and shows.
-fn shown_step<'a>(
-    answer: &'a [u8],
-    shown: &'a [u8],
-    ours: &'a [u8],
+fn shown_step(
+    answer: &[u8],
+    shown: &[u8],
+    ours: &[u8],
     number: u32,
     a: u64,
     b: u64,

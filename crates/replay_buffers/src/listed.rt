@@ -15,13 +15,13 @@ ghost use Rattle.call_lists.specs.Listing.{wayOf};
 ghost use Rattle.replay_step.specs.Steps.{CallDone};
 
 // Code 8: items is the first list.
-pub fn add_list<'a>(
-    words: &'a mut [u64],
-    store: &'a [u8],
-    call: &'a [u8],
-    items: &'a [u8],
-    answer: &'a [u8],
-    shown: &'a [u8],
+pub fn add_list(
+    words: &mut [u64],
+    store: &[u8],
+    call: &[u8],
+    items: &[u8],
+    answer: &[u8],
+    shown: &[u8],
 ) -> Step
     requires { ⌜ SoundTable (memory (now words) (now store)) × (length (now answer) ≡ 8) ⌝ }
     ensures { λ r. ⌜
@@ -33,13 +33,13 @@ pub fn add_list<'a>(
 }
 
 // Code 9, likewise.
-pub fn release_list<'a>(
-    words: &'a mut [u64],
-    store: &'a [u8],
-    call: &'a [u8],
-    items: &'a [u8],
-    answer: &'a [u8],
-    shown: &'a [u8],
+pub fn release_list(
+    words: &mut [u64],
+    store: &[u8],
+    call: &[u8],
+    items: &[u8],
+    answer: &[u8],
+    shown: &[u8],
 ) -> Step
     requires { ⌜ SoundTable (memory (now words) (now store)) × (length (now answer) ≡ 8) ⌝ }
     ensures { λ r. ⌜
@@ -51,14 +51,14 @@ pub fn release_list<'a>(
 }
 
 // A list given back, or else added.
-fn count_list<'a>(
-    words: &'a mut [u64],
-    store: &'a [u8],
+fn count_list(
+    words: &mut [u64],
+    store: &[u8],
     back: bool,
-    call: &'a [u8],
-    items: &'a [u8],
-    answer: &'a [u8],
-    shown: &'a [u8],
+    call: &[u8],
+    items: &[u8],
+    answer: &[u8],
+    shown: &[u8],
 ) -> Step
     requires { ⌜ SoundTable (memory (now words) (now store)) × (length (now answer) ≡ 8) ⌝ }
     ensures { λ r. ⌜
@@ -78,15 +78,15 @@ fn count_list<'a>(
 const FEW: usize = 256;
 
 // The same in a buffer that has a byte for each item of a list that is not refused.
-fn count_within<'a>(
-    words: &'a mut [u64],
-    store: &'a [u8],
+fn count_within(
+    words: &mut [u64],
+    store: &[u8],
     back: bool,
-    call: &'a [u8],
-    items: &'a [u8],
-    answer: &'a [u8],
-    shown: &'a [u8],
-    buffer: &'a mut [u8],
+    call: &[u8],
+    items: &[u8],
+    answer: &[u8],
+    shown: &[u8],
+    buffer: &mut [u8],
 ) -> Step
     requires { ⌜
         SoundTable (memory (now words) (now store)) × (length (now answer) ≡ 8)
@@ -111,15 +111,15 @@ fn count_within<'a>(
 }
 
 // The same into a buffer of any length.
-fn count_into<'a>(
-    words: &'a mut [u64],
-    store: &'a [u8],
+fn count_into(
+    words: &mut [u64],
+    store: &[u8],
     back: bool,
     client: u32,
-    items: &'a [u8],
-    answer: &'a [u8],
-    shown: &'a [u8],
-    buffer: &'a mut [u8],
+    items: &[u8],
+    answer: &[u8],
+    shown: &[u8],
+    buffer: &mut [u8],
 ) -> Step
     requires { ⌜ SoundTable (memory (now words) (now store)) × (length (now answer) ≡ 8) ⌝ }
     ensures { λ r. ⌜

@@ -12,13 +12,7 @@ ghost use Rattle.table_view.specs.View.{memory, SoundTable};
 ghost use Rattle.replay_step.specs.Steps.{CallDone};
 
 // Code 13.
-pub fn resolve<'a>(
-    words: &'a [u64],
-    store: &'a [u8],
-    call: &'a [u8],
-    answer: &'a [u8],
-    shown: &'a [u8],
-) -> Step
+pub fn resolve(words: &[u64], store: &[u8], call: &[u8], answer: &[u8], shown: &[u8]) -> Step
     requires { ⌜ SoundTable (memory (now words) (now store)) × (length (now answer) ≡ 32) ⌝ }
     ensures { λ r. ⌜
         CallDone (looking (resolve (field (now (call .entry)) 1 8) (zeros (field (now (call .entry)) 9 8))))
@@ -32,13 +26,13 @@ pub fn resolve<'a>(
 }
 
 // The same into a buffer of any length.
-fn resolve_into<'a>(
-    words: &'a [u64],
-    store: &'a [u8],
+fn resolve_into(
+    words: &[u64],
+    store: &[u8],
     oxid: Oxid,
-    answer: &'a [u8],
-    shown: &'a [u8],
-    buffer: &'a mut [u8],
+    answer: &[u8],
+    shown: &[u8],
+    buffer: &mut [u8],
 ) -> Step
     requires { ⌜ SoundTable (memory (now words) (now store)) × (length (now answer) ≡ 32) ⌝ }
     ensures { λ r. ⌜
@@ -62,13 +56,13 @@ fn resolve_into<'a>(
 }
 
 // Code 14: protocols is the first list.
-pub fn resolve_filtered<'a>(
-    words: &'a [u64],
-    store: &'a [u8],
-    call: &'a [u8],
-    protocols: &'a [u8],
-    answer: &'a [u8],
-    shown: &'a [u8],
+pub fn resolve_filtered(
+    words: &[u64],
+    store: &[u8],
+    call: &[u8],
+    protocols: &[u8],
+    answer: &[u8],
+    shown: &[u8],
 ) -> Step
     requires { ⌜ SoundTable (memory (now words) (now store)) × (length (now answer) ≡ 32) ⌝ }
     ensures { λ r. ⌜
@@ -91,14 +85,14 @@ pub fn resolve_filtered<'a>(
 }
 
 // The same into a buffer of any length.
-fn resolve_filtered_into<'a>(
-    words: &'a [u64],
-    store: &'a [u8],
+fn resolve_filtered_into(
+    words: &[u64],
+    store: &[u8],
     oxid: Oxid,
-    protocols: &'a [u8],
-    answer: &'a [u8],
-    shown: &'a [u8],
-    buffer: &'a mut [u8],
+    protocols: &[u8],
+    answer: &[u8],
+    shown: &[u8],
+    buffer: &mut [u8],
 ) -> Step
     requires { ⌜ SoundTable (memory (now words) (now store)) × (length (now answer) ≡ 32) ⌝ }
     ensures { λ r. ⌜
@@ -122,13 +116,7 @@ fn resolve_filtered_into<'a>(
 }
 
 // Code 17: reference is the first list.
-pub fn next_stop<'a>(
-    words: &'a [u64],
-    store: &'a [u8],
-    reference: &'a [u8],
-    answer: &'a [u8],
-    shown: &'a [u8],
-) -> Step
+pub fn next_stop(words: &[u64], store: &[u8], reference: &[u8], answer: &[u8], shown: &[u8]) -> Step
     requires { ⌜ SoundTable (memory (now words) (now store)) × (length (now answer) ≡ 8) ⌝ }
     ensures { λ r. ⌜
         CallDone (looking (nextStop (now (reference .entry))))
@@ -145,13 +133,7 @@ pub fn next_stop<'a>(
 }
 
 // Code 18.
-pub fn write_snapshot<'a>(
-    words: &'a [u64],
-    store: &'a [u8],
-    call: &'a [u8],
-    answer: &'a [u8],
-    shown: &'a [u8],
-) -> Step
+pub fn write_snapshot(words: &[u64], store: &[u8], call: &[u8], answer: &[u8], shown: &[u8]) -> Step
     requires { ⌜ SoundTable (memory (now words) (now store)) × (length (now answer) ≡ 16) ⌝ }
     ensures { λ r. ⌜
         CallDone (looking (writeSnapshot (zeros (field (now (call .entry)) 1 8))))
@@ -164,13 +146,7 @@ pub fn write_snapshot<'a>(
 }
 
 // The same into a buffer of any length.
-fn write_into<'a>(
-    words: &'a [u64],
-    store: &'a [u8],
-    answer: &'a [u8],
-    shown: &'a [u8],
-    buffer: &'a mut [u8],
-) -> Step
+fn write_into(words: &[u64], store: &[u8], answer: &[u8], shown: &[u8], buffer: &mut [u8]) -> Step
     requires { ⌜ SoundTable (memory (now words) (now store)) × (length (now answer) ≡ 16) ⌝ }
     ensures { λ r. ⌜
         CallDone (looking (writeSnapshot (now (buffer .entry))))

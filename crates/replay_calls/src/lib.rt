@@ -6,12 +6,7 @@ ghost use Rattle.table_view.specs.View.{memory, SoundTable};
 
 // A row for an add or a release: the one of its IPID where there is one, noted under its bucket for a later record. What the hints
 // hold is undecided: whoever tries a row compares its IPID.
-pub fn noted_row<'a>(
-    words: &'a [u64],
-    store: &'a [u8],
-    hints: &'a mut [u8; buckets::BUCKETS],
-    call: &'a [u8],
-) -> u8
+pub fn noted_row(words: &[u64], store: &[u8], hints: &mut [u8; buckets::BUCKETS], call: &[u8]) -> u8
     requires { ⌜ SoundTable (memory (now words) (now store)) ⌝ }
 {
     let code = recording::byte(call, 0);

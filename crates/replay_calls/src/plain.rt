@@ -15,13 +15,7 @@ ghost use Rattle.table_view.specs.View.{memory, SoundTable};
 ghost use Rattle.replay_step.specs.Steps.{CallDone};
 
 // Code 12.
-pub fn clock<'a>(
-    words: &'a mut [u64],
-    store: &'a [u8],
-    call: &'a [u8],
-    answer: &'a [u8],
-    shown: &'a [u8],
-) -> Step
+pub fn clock(words: &mut [u64], store: &[u8], call: &[u8], answer: &[u8], shown: &[u8]) -> Step
     requires { ⌜ SoundTable (memory (now words) (now store)) × (length (now answer) ≡ 40) ⌝ }
     ensures { λ r. ⌜
         CallDone (editing (clock (field (now (call .entry)) 1 8))) (now (answer .entry)) (now (shown .entry)) (memory (now (words .entry)) (now (store .entry)))
@@ -40,12 +34,12 @@ pub fn clock<'a>(
 }
 
 // Code 7.
-pub fn drop_client<'a>(
-    words: &'a mut [u64],
-    store: &'a [u8],
-    call: &'a [u8],
-    answer: &'a [u8],
-    shown: &'a [u8],
+pub fn drop_client(
+    words: &mut [u64],
+    store: &[u8],
+    call: &[u8],
+    answer: &[u8],
+    shown: &[u8],
 ) -> Step
     requires { ⌜ SoundTable (memory (now words) (now store)) × (length (now answer) ≡ 8) ⌝ }
     ensures { λ r. ⌜
@@ -57,12 +51,12 @@ pub fn drop_client<'a>(
 }
 
 // Code 10.
-pub fn simple_ping<'a>(
-    words: &'a mut [u64],
-    store: &'a [u8],
-    call: &'a [u8],
-    answer: &'a [u8],
-    shown: &'a [u8],
+pub fn simple_ping(
+    words: &mut [u64],
+    store: &[u8],
+    call: &[u8],
+    answer: &[u8],
+    shown: &[u8],
 ) -> Step
     requires { ⌜ SoundTable (memory (now words) (now store)) × (length (now answer) ≡ 8) ⌝ }
     ensures { λ r. ⌜
@@ -74,13 +68,13 @@ pub fn simple_ping<'a>(
 }
 
 // Code 5. The hint is a row that is tried first, and may be any number.
-pub fn add<'a>(
-    words: &'a mut [u64],
-    store: &'a [u8],
+pub fn add(
+    words: &mut [u64],
+    store: &[u8],
     hint: u8,
-    call: &'a [u8],
-    answer: &'a [u8],
-    shown: &'a [u8],
+    call: &[u8],
+    answer: &[u8],
+    shown: &[u8],
 ) -> Step
     requires { ⌜ SoundTable (memory (now words) (now store)) × (length (now answer) ≡ 8) ⌝ }
     ensures { λ r. ⌜
@@ -103,13 +97,13 @@ pub fn add<'a>(
 }
 
 // Code 6, with such a hint.
-pub fn release<'a>(
-    words: &'a mut [u64],
-    store: &'a [u8],
+pub fn release(
+    words: &mut [u64],
+    store: &[u8],
     hint: u8,
-    call: &'a [u8],
-    answer: &'a [u8],
-    shown: &'a [u8],
+    call: &[u8],
+    answer: &[u8],
+    shown: &[u8],
 ) -> Step
     requires { ⌜ SoundTable (memory (now words) (now store)) × (length (now answer) ≡ 40) ⌝ }
     ensures { λ r. ⌜
@@ -140,12 +134,12 @@ pub fn release<'a>(
 }
 
 // Code 4.
-pub fn enter_interface<'a>(
-    words: &'a mut [u64],
-    store: &'a [u8],
-    call: &'a [u8],
-    answer: &'a [u8],
-    shown: &'a [u8],
+pub fn enter_interface(
+    words: &mut [u64],
+    store: &[u8],
+    call: &[u8],
+    answer: &[u8],
+    shown: &[u8],
 ) -> Step
     requires { ⌜ SoundTable (memory (now words) (now store)) × (length (now answer) ≡ 8) ⌝ }
     ensures { λ r. ⌜
@@ -162,7 +156,7 @@ pub fn enter_interface<'a>(
 }
 
 // Code 15.
-pub fn census<'a>(words: &'a [u64], store: &'a [u8], answer: &'a [u8], shown: &'a [u8]) -> Step
+pub fn census(words: &[u64], store: &[u8], answer: &[u8], shown: &[u8]) -> Step
     requires { ⌜ SoundTable (memory (now words) (now store)) × (length (now answer) ≡ 40) ⌝ }
     ensures { λ r. ⌜
         CallDone (looking census) (now (answer .entry)) (now (shown .entry)) (memory (now (words .entry)) (now (store .entry)))
@@ -181,12 +175,12 @@ pub fn census<'a>(words: &'a [u64], store: &'a [u8], answer: &'a [u8], shown: &'
 }
 
 // Code 2.
-pub fn remove_exporter<'a>(
-    words: &'a mut [u64],
-    store: &'a mut [u8],
-    call: &'a [u8],
-    answer: &'a [u8],
-    shown: &'a [u8],
+pub fn remove_exporter(
+    words: &mut [u64],
+    store: &mut [u8],
+    call: &[u8],
+    answer: &[u8],
+    shown: &[u8],
 ) -> Step
     requires { ⌜ SoundTable (memory (now words) (now store)) × (length (now answer) ≡ 8) ⌝ }
     ensures { λ r. ⌜
@@ -198,13 +192,13 @@ pub fn remove_exporter<'a>(
 }
 
 // Code 1: list is the first list.
-pub fn enter_exporter<'a>(
-    words: &'a mut [u64],
-    store: &'a mut [u8],
-    call: &'a [u8],
-    list: &'a [u8],
-    answer: &'a [u8],
-    shown: &'a [u8],
+pub fn enter_exporter(
+    words: &mut [u64],
+    store: &mut [u8],
+    call: &[u8],
+    list: &[u8],
+    answer: &[u8],
+    shown: &[u8],
 ) -> Step
     requires { ⌜ SoundTable (memory (now words) (now store)) × (length (now answer) ≡ 8) ⌝ }
     ensures { λ r. ⌜
@@ -219,12 +213,12 @@ pub fn enter_exporter<'a>(
 }
 
 // Code 3.
-pub fn enter_object<'a>(
-    words: &'a mut [u64],
-    store: &'a [u8],
-    call: &'a [u8],
-    answer: &'a [u8],
-    shown: &'a [u8],
+pub fn enter_object(
+    words: &mut [u64],
+    store: &[u8],
+    call: &[u8],
+    answer: &[u8],
+    shown: &[u8],
 ) -> Step
     requires { ⌜ SoundTable (memory (now words) (now store)) × (length (now answer) ≡ 8) ⌝ }
     ensures { λ r. ⌜
@@ -254,13 +248,7 @@ pub fn enter_object<'a>(
 }
 
 // Code 0.
-pub fn reset<'a>(
-    words: &'a mut [u64],
-    store: &'a [u8],
-    call: &'a [u8],
-    answer: &'a [u8],
-    shown: &'a [u8],
-) -> Step
+pub fn reset(words: &mut [u64], store: &[u8], call: &[u8], answer: &[u8], shown: &[u8]) -> Step
     requires { ⌜ SoundTable (memory (now words) (now store)) × (length (now answer) ≡ 8) ⌝ }
     ensures { λ r. ⌜
         CallDone (starting (reset (field (now (call .entry)) 1 8))) (now (answer .entry)) (now (shown .entry)) (memory (now (words .entry)) (now (store .entry)))
@@ -271,12 +259,12 @@ pub fn reset<'a>(
 }
 
 // Code 19: snapshot is the first list.
-pub fn load_snapshot<'a>(
-    words: &'a mut [u64],
-    store: &'a mut [u8],
-    snapshot: &'a [u8],
-    answer: &'a [u8],
-    shown: &'a [u8],
+pub fn load_snapshot(
+    words: &mut [u64],
+    store: &mut [u8],
+    snapshot: &[u8],
+    answer: &[u8],
+    shown: &[u8],
 ) -> Step
     requires { ⌜ SoundTable (memory (now words) (now store)) × (length (now answer) ≡ 8) ⌝ }
     ensures { λ r. ⌜
@@ -288,13 +276,7 @@ pub fn load_snapshot<'a>(
 }
 
 // Code 16.
-pub fn members<'a>(
-    words: &'a [u64],
-    store: &'a [u8],
-    call: &'a [u8],
-    answer: &'a [u8],
-    shown: &'a [u8],
-) -> Step
+pub fn members(words: &[u64], store: &[u8], call: &[u8], answer: &[u8], shown: &[u8]) -> Step
     requires { ⌜ SoundTable (memory (now words) (now store)) × (length (now answer) ≡ 16) ⌝ }
     ensures { λ r. ⌜
         CallDone (looking (members (field (now (call .entry)) 1 8))) (now (answer .entry)) (now (shown .entry)) (memory (now (words .entry)) (now (store .entry)))
@@ -305,14 +287,14 @@ pub fn members<'a>(
 }
 
 // Code 11: adds and deletes are the two lists.
-pub fn complex_ping<'a>(
-    words: &'a mut [u64],
-    store: &'a [u8],
-    call: &'a [u8],
-    adds: &'a [u8],
-    deletes: &'a [u8],
-    answer: &'a [u8],
-    shown: &'a [u8],
+pub fn complex_ping(
+    words: &mut [u64],
+    store: &[u8],
+    call: &[u8],
+    adds: &[u8],
+    deletes: &[u8],
+    answer: &[u8],
+    shown: &[u8],
 ) -> Step
     requires { ⌜ SoundTable (memory (now words) (now store)) × (length (now answer) ≡ 24) ⌝ }
     ensures { λ r. ⌜

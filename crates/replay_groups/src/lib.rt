@@ -13,14 +13,14 @@ ghost use Rattle.recording.specs.Recording.{wellFormed};
 ghost use Rattle.replay_groups.specs.Records.{sections, placed, InOrder, RecordDone};
 
 // Codes 0 to 4: a reset and entries.
-fn enter_group<'a>(
-    words: &'a mut [u64],
-    store: &'a mut [u8],
-    call: &'a [u8],
-    first: &'a [u8],
-    second: &'a [u8],
-    answer: &'a [u8],
-    shown: &'a [u8],
+fn enter_group(
+    words: &mut [u64],
+    store: &mut [u8],
+    call: &[u8],
+    first: &[u8],
+    second: &[u8],
+    answer: &[u8],
+    shown: &[u8],
 ) -> Step
     requires { ⌜ SoundTable (memory (now words) (now store)) × (wellFormed (sections (now call) (now first) (now second) (now answer) (now shown)) ≡ true) × (field (now call) 0 1 ≤ 4) ⌝ }
     ensures { λ r. ⌜
@@ -44,15 +44,15 @@ fn enter_group<'a>(
 }
 
 // Codes 5 to 9: counts, by item or list. The hint is a row that an add or a release tries first, and may be any number.
-fn count_group<'a>(
-    words: &'a mut [u64],
-    store: &'a [u8],
+fn count_group(
+    words: &mut [u64],
+    store: &[u8],
     hint: u8,
-    call: &'a [u8],
-    first: &'a [u8],
-    second: &'a [u8],
-    answer: &'a [u8],
-    shown: &'a [u8],
+    call: &[u8],
+    first: &[u8],
+    second: &[u8],
+    answer: &[u8],
+    shown: &[u8],
 ) -> Step
     requires { ⌜ SoundTable (memory (now words) (now store)) × (wellFormed (sections (now call) (now first) (now second) (now answer) (now shown)) ≡ true)
         × (5 ≤ field (now call) 0 1) × (field (now call) 0 1 ≤ 9) ⌝ }
@@ -77,14 +77,14 @@ fn count_group<'a>(
 }
 
 // Codes 10 to 12: pings and the clock.
-fn ping_group<'a>(
-    words: &'a mut [u64],
-    store: &'a [u8],
-    call: &'a [u8],
-    first: &'a [u8],
-    second: &'a [u8],
-    answer: &'a [u8],
-    shown: &'a [u8],
+fn ping_group(
+    words: &mut [u64],
+    store: &[u8],
+    call: &[u8],
+    first: &[u8],
+    second: &[u8],
+    answer: &[u8],
+    shown: &[u8],
 ) -> Step
     requires { ⌜ SoundTable (memory (now words) (now store)) × (wellFormed (sections (now call) (now first) (now second) (now answer) (now shown)) ≡ true)
         × (10 ≤ field (now call) 0 1) × (field (now call) 0 1 ≤ 12) ⌝ }
@@ -103,14 +103,14 @@ fn ping_group<'a>(
 }
 
 // Codes 13 to 17: calls that leave the table as it is.
-fn read_group<'a>(
-    words: &'a [u64],
-    store: &'a [u8],
-    call: &'a [u8],
-    first: &'a [u8],
-    second: &'a [u8],
-    answer: &'a [u8],
-    shown: &'a [u8],
+fn read_group(
+    words: &[u64],
+    store: &[u8],
+    call: &[u8],
+    first: &[u8],
+    second: &[u8],
+    answer: &[u8],
+    shown: &[u8],
 ) -> Step
     requires { ⌜ SoundTable (memory (now words) (now store)) × (wellFormed (sections (now call) (now first) (now second) (now answer) (now shown)) ≡ true)
         × (13 ≤ field (now call) 0 1) × (field (now call) 0 1 ≤ 17) ⌝ }
@@ -135,14 +135,14 @@ fn read_group<'a>(
 }
 
 // Codes 18 and 19: snapshots.
-fn snapshot_group<'a>(
-    words: &'a mut [u64],
-    store: &'a mut [u8],
-    call: &'a [u8],
-    first: &'a [u8],
-    second: &'a [u8],
-    answer: &'a [u8],
-    shown: &'a [u8],
+fn snapshot_group(
+    words: &mut [u64],
+    store: &mut [u8],
+    call: &[u8],
+    first: &[u8],
+    second: &[u8],
+    answer: &[u8],
+    shown: &[u8],
 ) -> Step
     requires { ⌜ SoundTable (memory (now words) (now store)) × (wellFormed (sections (now call) (now first) (now second) (now answer) (now shown)) ≡ true)
         × (18 ≤ field (now call) 0 1) ⌝ }
@@ -158,15 +158,15 @@ fn snapshot_group<'a>(
 }
 
 // A call by its sections.
-fn perform_call<'a>(
-    words: &'a mut [u64],
-    store: &'a mut [u8],
+fn perform_call(
+    words: &mut [u64],
+    store: &mut [u8],
     hint: u8,
-    call: &'a [u8],
-    first: &'a [u8],
-    second: &'a [u8],
-    answer: &'a [u8],
-    shown: &'a [u8],
+    call: &[u8],
+    first: &[u8],
+    second: &[u8],
+    answer: &[u8],
+    shown: &[u8],
 ) -> Step
     requires { ⌜ SoundTable (memory (now words) (now store)) × (wellFormed (sections (now call) (now first) (now second) (now answer) (now shown)) ≡ true) ⌝ }
     ensures { λ r. ⌜
@@ -190,11 +190,11 @@ fn perform_call<'a>(
 }
 
 // The record from at, whose sections end there. What the hints hold is undecided.
-pub fn perform<'a>(
-    words: &'a mut [u64],
-    store: &'a mut [u8],
-    hints: &'a mut [u8; buckets::BUCKETS],
-    s: &'a [u8],
+pub fn perform(
+    words: &mut [u64],
+    store: &mut [u8],
+    hints: &mut [u8; buckets::BUCKETS],
+    s: &[u8],
     at: usize,
     e: Ends,
 ) -> Step
@@ -203,8 +203,9 @@ pub fn perform<'a>(
         RecordDone (placed (now (s .entry)) at e) (memory (now (words .entry)) (now (store .entry)))
         r (memory (now (words .exit)) (now (store .exit))) ⌝ }
 {
-    let call = at + 8;
+    let from = at + 8;
     let call_end = e.call;
+    let call = &s[from..call_end];
     let first = call_end + 8;
     let first_end = e.first;
     let second = first_end + 8;
@@ -213,12 +214,12 @@ pub fn perform<'a>(
     let answer_end = e.answer;
     let shown = answer_end + 8;
     let shown_end = e.shown;
-    let hint = replay_calls::noted_row(words, store, hints, &s[call..call_end]);
+    let hint = replay_calls::noted_row(words, store, hints, call);
     perform_call(
         words,
         store,
         hint,
-        &s[call..call_end],
+        call,
         &s[first..first_end],
         &s[second..second_end],
         &s[answer..answer_end],

@@ -36,15 +36,7 @@ pub fn both(a: bool, b: bool) -> bool
 }
 
 // The step of a call that shows nothing, by what it answers.
-pub fn step_of<'a>(
-    answer: &'a [u8],
-    shown: &'a [u8],
-    number: u32,
-    a: u64,
-    b: u64,
-    c: u64,
-    d: u64,
-) -> Step
+pub fn step_of(answer: &[u8], shown: &[u8], number: u32, a: u64, b: u64, c: u64, d: u64) -> Step
     ensures { λ r. ⌜ r ≡ plainStep (now (answer .entry)) (now (shown .entry)) number a b c d ⌝ }
 {
     let same = answers(answer, number as u64, a, b, c, d);

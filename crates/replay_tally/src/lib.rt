@@ -68,7 +68,7 @@ fn granted_sum(call: &[u8], code: u8, old: u64) -> u64
 
 // The table's sum after an accepted call that takes, runs down or begins anew: of a release by what it took, as a recorded answer that
 // is ours says.
-fn taken_sum<'a>(words: &'a [u64], answer: &'a [u8], code: u8, agrees: bool, old: u64) -> u64
+fn taken_sum(words: &[u64], answer: &[u8], code: u8, agrees: bool, old: u64) -> u64
     requires { ⌜ Whole (now words)
         × (code ≡ 6 → agrees ≡ true → countsHeld (interfacesOf (now words)) + (field (now answer) 8 8 + field (now answer) 16 8) ≡ old) ⌝ }
     ensures { λ r. ⌜ r ≡ countsHeld (interfacesOf (now (words .entry))) ⌝ }
@@ -83,10 +83,10 @@ fn taken_sum<'a>(words: &'a [u64], answer: &'a [u8], code: u8, agrees: bool, old
 }
 
 // The table's sum after the call of a code, by the sum before it where that tells.
-pub fn sum_after<'a>(
-    words: &'a [u64],
-    call: &'a [u8],
-    answer: &'a [u8],
+pub fn sum_after(
+    words: &[u64],
+    call: &[u8],
+    answer: &[u8],
     code: u8,
     agrees: bool,
     accepted: bool,

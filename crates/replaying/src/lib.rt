@@ -26,7 +26,7 @@ fn refused(number: u32) -> Outcome
 }
 
 // A recorded shift replayed from a reset at 0: whether its answers are ours, and the tally.
-pub fn replay<'a>(words: &'a mut [u64], store: &'a mut [u8], s: &'a [u8]) -> Outcome
+pub fn replay(words: &mut [u64], store: &mut [u8], s: &[u8]) -> Outcome
     ensures { λ r. ⌜
         Replayed (memory (now (words .entry)) (now (store .entry))) (now (s .entry)) r (memory (now (words .exit)) (now (store .exit))) ⌝ }
 {

@@ -22,11 +22,11 @@ pub struct Turn {
 }
 
 // The record from at; held is the table's sum before it.
-fn take_turn<'a>(
-    words: &'a mut [u64],
-    store: &'a mut [u8],
-    hints: &'a mut [u8; buckets::BUCKETS],
-    s: &'a [u8],
+fn take_turn(
+    words: &mut [u64],
+    store: &mut [u8],
+    hints: &mut [u8; buckets::BUCKETS],
+    s: &[u8],
     at: usize,
     held: u64,
     tally: Tally,
@@ -41,12 +41,13 @@ fn take_turn<'a>(
     let d = replay_groups::perform(words, store, hints, s, at, e);
     let from = at + 8;
     let to = e.call;
-    let code = recording::byte(&s[from..to], 0);
+    let call = &s[from..to];
+    let code = recording::byte(call, 0);
     let answer = e.second + 8;
     let answer_end = e.answer;
     let sum = replay_tally::sum_after(
         words,
-        &s[from..to],
+        call,
         &s[answer..answer_end],
         code,
         d.agrees,
@@ -63,7 +64,7 @@ fn take_turn<'a>(
 }
 
 // A recording that is not refused, from a reset at 0.
-pub fn replay_records<'a>(words: &'a mut [u64], store: &'a mut [u8], s: &'a [u8]) -> Outcome
+pub fn replay_records(words: &mut [u64], store: &mut [u8], s: &[u8]) -> Outcome
     requires { ⌜ Whole (now words) × Whole (now store) × (recordingAnswer (now s) ≡ 0) ⌝ }
     ensures { λ r. ⌜
         Replayed (memory (now (words .entry)) (now (store .entry))) (now (s .entry)) r (memory (now (words .exit)) (now (store .exit))) ⌝ }

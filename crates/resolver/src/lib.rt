@@ -30,7 +30,7 @@ ghost use Rattle.call_look.specs.NextStop.{StopFound, StopPart};
 ghost use Rattle.call_save.specs.Replies.{writtenReply};
 
 // Empties the table and sets its clock: 0, or 1 (lengths only).
-pub fn reset<'a>(words: &'a mut [u64], store: &'a [u8], time: u64) -> u32
+pub fn reset(words: &mut [u64], store: &[u8], time: u64) -> u32
     ensures { λ r. ⌜
         Performed (Call.starting (Start.reset time)) (memory (now (words .entry)) (now (store .entry))) (numbered r)
         (memory (now (words .exit)) (now (store .entry))) ⌝ }
@@ -39,12 +39,12 @@ pub fn reset<'a>(words: &'a mut [u64], store: &'a [u8], time: u64) -> u32
 }
 
 // Enters an exporter with its remote-unknown IPID and its binding list: 0, or 1; 3; 13; 14; 19; 9.
-pub fn enter_exporter<'a>(
-    words: &'a mut [u64],
-    store: &'a mut [u8],
+pub fn enter_exporter(
+    words: &mut [u64],
+    store: &mut [u8],
     oxid: Oxid,
     unknown: Guid,
-    list: &'a [u8],
+    list: &[u8],
 ) -> u32
     ensures { λ r. ⌜
         Performed (Call.editing (Edit.enterExporter (oxid .0) unknown (now (list .entry)))) (memory (now (words .entry)) (now (store .entry)))
@@ -57,9 +57,9 @@ pub fn enter_exporter<'a>(
 }
 
 // Enters an object with its first interface: 0, or 1; 3; 4; 7; 9.
-pub fn enter_object<'a>(
-    words: &'a mut [u64],
-    store: &'a [u8],
+pub fn enter_object(
+    words: &mut [u64],
+    store: &[u8],
     oid: Oid,
     oxid: Oxid,
     ipid: Guid,
@@ -78,9 +78,9 @@ pub fn enter_object<'a>(
 }
 
 // Enters an interface of a live object: 0, or 1; 3; 5; 7; 9.
-pub fn enter_interface<'a>(
-    words: &'a mut [u64],
-    store: &'a [u8],
+pub fn enter_interface(
+    words: &mut [u64],
+    store: &[u8],
     oid: Oid,
     ipid: Guid,
     iid: Guid,
@@ -97,7 +97,7 @@ pub fn enter_interface<'a>(
 }
 
 // Removes an exporter with its objects, their interfaces and memberships: 0, or 1; 4.
-pub fn remove_exporter<'a>(words: &'a mut [u64], store: &'a mut [u8], oxid: Oxid) -> u32
+pub fn remove_exporter(words: &mut [u64], store: &mut [u8], oxid: Oxid) -> u32
     ensures { λ r. ⌜
         Performed (Call.editing (Edit.removeExporter (oxid .0))) (memory (now (words .entry)) (now (store .entry)))
         (numbered r) (memory (now (words .exit)) (now (store .exit))) ⌝ }
@@ -109,7 +109,7 @@ pub fn remove_exporter<'a>(words: &'a mut [u64], store: &'a mut [u8], oxid: Oxid
 }
 
 // Sets the clock. Sets and pinged objects that were not heard for 360 seconds or more go: 0, or 1; 2.
-pub fn clock<'a>(words: &'a mut [u64], store: &'a [u8], time: u64) -> Expired
+pub fn clock(words: &mut [u64], store: &[u8], time: u64) -> Expired
     ensures { λ r. ⌜
         Performed (Call.editing (Edit.clock time)) (memory (now (words .entry)) (now (store .entry)))
         (clockReply r) (memory (now (words .exit)) (now (store .entry))) ⌝ }
@@ -121,9 +121,9 @@ pub fn clock<'a>(words: &'a mut [u64], store: &'a [u8], time: u64) -> Expired
 }
 
 // Adds to the public count of an interface and to the private one of a client: 0, or 1; 20; 6; 8.
-pub fn add<'a>(
-    words: &'a mut [u64],
-    store: &'a [u8],
+pub fn add(
+    words: &mut [u64],
+    store: &[u8],
     client: u32,
     ipid: Guid,
     public: u32,
@@ -141,9 +141,9 @@ pub fn add<'a>(
 
 // Gives references back: the public count and the client's private one fall by the smaller of the asked number and themselves. An
 // interface without references goes, and an object without interfaces, from its sets too. 0, or 1; 20; 6.
-pub fn release<'a>(
-    words: &'a mut [u64],
-    store: &'a [u8],
+pub fn release(
+    words: &mut [u64],
+    store: &[u8],
     client: u32,
     ipid: Guid,
     public: u32,
@@ -160,7 +160,7 @@ pub fn release<'a>(
 }
 
 // Drops every private reference of a client. What is left without references goes as in a release: 0, or 1; 20.
-pub fn drop_client<'a>(words: &'a mut [u64], store: &'a [u8], client: u32) -> u32
+pub fn drop_client(words: &mut [u64], store: &[u8], client: u32) -> u32
     ensures { λ r. ⌜
         Performed (Call.editing (Edit.dropClient client)) (memory (now (words .entry)) (now (store .entry)))
         (numbered r) (memory (now (words .exit)) (now (store .entry))) ⌝ }
@@ -173,12 +173,12 @@ pub fn drop_client<'a>(words: &'a mut [u64], store: &'a [u8], client: u32) -> u3
 
 // Adds references by a list of items for a client, and writes the number of each item to its byte of buffer, whose rest is kept:
 // 0, or 1; 20; 13; 10; 15. An item's own number is 0, 6 or 8, and does not stop the rest.
-pub fn add_list<'a>(
-    words: &'a mut [u64],
-    store: &'a [u8],
+pub fn add_list(
+    words: &mut [u64],
+    store: &[u8],
     client: u32,
-    items: &'a [u8],
-    buffer: &'a mut [u8],
+    items: &[u8],
+    buffer: &mut [u8],
 ) -> u32
     ensures { λ r. ⌜
         Performed (Call.countList adding client (now (items .entry)) (now (buffer .entry))) (memory (now (words .entry)) (now (store .entry)))
@@ -192,12 +192,12 @@ pub fn add_list<'a>(
 }
 
 // Gives references back by a list of items, likewise.
-pub fn release_list<'a>(
-    words: &'a mut [u64],
-    store: &'a [u8],
+pub fn release_list(
+    words: &mut [u64],
+    store: &[u8],
     client: u32,
-    items: &'a [u8],
-    buffer: &'a mut [u8],
+    items: &[u8],
+    buffer: &mut [u8],
 ) -> u32
     ensures { λ r. ⌜
         Performed (Call.countList releasing client (now (items .entry)) (now (buffer .entry))) (memory (now (words .entry)) (now (store .entry)))
@@ -211,7 +211,7 @@ pub fn release_list<'a>(
 }
 
 // Pings a set: 0, or 1; 11.
-pub fn simple_ping<'a>(words: &'a mut [u64], store: &'a [u8], set: SetId) -> u32
+pub fn simple_ping(words: &mut [u64], store: &[u8], set: SetId) -> u32
     ensures { λ r. ⌜
         Performed (Call.editing (Edit.simplePing (set .0))) (memory (now (words .entry)) (now (store .entry)))
         (numbered r) (memory (now (words .exit)) (now (store .entry))) ⌝ }
@@ -224,13 +224,13 @@ pub fn simple_ping<'a>(words: &'a mut [u64], store: &'a [u8], set: SetId) -> u32
 
 // Adds objects to a set, takes objects out of it and pings it; for set 0 a set is made: 0, or 1; 10; of a set other than 0: 11; 12; 5;
 // of set 0: 5; 9; 18.
-pub fn complex_ping<'a>(
-    words: &'a mut [u64],
-    store: &'a [u8],
+pub fn complex_ping(
+    words: &mut [u64],
+    store: &[u8],
     set: SetId,
     sequence: u16,
-    adds: &'a [u64],
-    deletes: &'a [u64],
+    adds: &[u64],
+    deletes: &[u64],
 ) -> Pinged
     ensures { λ r. ⌜
         Performed (Call.editing (Edit.complexPing (set .0) sequence (now (adds .entry)) (now (deletes .entry))))
@@ -243,7 +243,7 @@ pub fn complex_ping<'a>(
 }
 
 // The live number of each kind: 0, or 1.
-pub fn census<'a>(words: &'a [u64], store: &'a [u8]) -> LiveCounts
+pub fn census(words: &[u64], store: &[u8]) -> LiveCounts
     ensures { λ r. ⌜
         Performed (Call.looking Look.census) (memory (now (words .entry)) (now (store .entry))) (censusReply r)
         (memory (now (words .entry)) (now (store .entry))) ⌝ }
@@ -261,7 +261,7 @@ pub fn census<'a>(words: &'a [u64], store: &'a [u8]) -> LiveCounts
 }
 
 // The number of members of a set: 0, or 1; 11.
-pub fn members<'a>(words: &'a [u64], store: &'a [u8], set: SetId) -> MemberCount
+pub fn members(words: &[u64], store: &[u8], set: SetId) -> MemberCount
     ensures { λ r. ⌜
         Performed (Call.looking (Look.members (set .0))) (memory (now (words .entry)) (now (store .entry))) (membersReply r)
         (memory (now (words .entry)) (now (store .entry))) ⌝ }
@@ -276,7 +276,7 @@ pub fn members<'a>(words: &'a [u64], store: &'a [u8], set: SetId) -> MemberCount
 }
 
 // Writes an exporter's binding list at the front of buffer and keeps the rest: 0, or 1; 4; 15.
-pub fn resolve<'a>(words: &'a [u64], store: &'a [u8], oxid: Oxid, buffer: &'a mut [u8]) -> Resolved
+pub fn resolve(words: &[u64], store: &[u8], oxid: Oxid, buffer: &mut [u8]) -> Resolved
     ensures { λ r. ⌜
         Performed (Call.looking (Look.resolve (oxid .0) (now (buffer .entry)))) (memory (now (words .entry)) (now (store .entry)))
         (resolveReply r (now (buffer .exit))) (memory (now (words .entry)) (now (store .entry))) ⌝ }
@@ -288,12 +288,12 @@ pub fn resolve<'a>(words: &'a [u64], store: &'a [u8], oxid: Oxid, buffer: &'a mu
 }
 
 // The same of the list with only the string bindings whose tower is requested: 0, or 1; 10; 4; 15.
-pub fn resolve_filtered<'a>(
-    words: &'a [u64],
-    store: &'a [u8],
+pub fn resolve_filtered(
+    words: &[u64],
+    store: &[u8],
     oxid: Oxid,
-    protocols: &'a [u16],
-    buffer: &'a mut [u8],
+    protocols: &[u16],
+    buffer: &mut [u8],
 ) -> Resolved
     ensures { λ r. ⌜
         Performed (Call.looking (Look.resolveFiltered (oxid .0) (now (protocols .entry)) (now (buffer .entry)))) (memory (now (words .entry)) (now (store .entry)))
@@ -306,7 +306,7 @@ pub fn resolve_filtered<'a>(
 }
 
 // Where the next stop stands: 0, or 1; the reference's 13, 14, 21 or 22; 14 for a custom reference.
-pub fn next_stop_place<'a>(words: &'a [u64], store: &'a [u8], reference: &'a [u8]) -> StopPlace
+pub fn next_stop_place(words: &[u64], store: &[u8], reference: &[u8]) -> StopPlace
     ensures { λ r. ⌜ StopFound (memory (now (words .entry)) (now (store .entry))) (now (reference .entry)) r ⌝ }
 {
     if !table_judge::sound(words, store) {
@@ -316,7 +316,7 @@ pub fn next_stop_place<'a>(words: &'a [u64], store: &'a [u8], reference: &'a [u8
 }
 
 // The number of the next stop, as above.
-pub fn next_stop_answer<'a>(words: &'a [u64], store: &'a [u8], reference: &'a [u8]) -> u32
+pub fn next_stop_answer(words: &[u64], store: &[u8], reference: &[u8]) -> u32
     ensures { λ r. ⌜
         r ≡ replyTo view (Call.looking (Look.nextStop (now (reference .entry)))) (memory (now (words .entry)) (now (store .entry))) .number ⌝ }
 {
@@ -325,7 +325,7 @@ pub fn next_stop_answer<'a>(words: &'a [u64], store: &'a [u8], reference: &'a [u
 
 // The next stop, a part of the store or of the reference; no bytes where it is refused. A part of the store is lent until a call changes
 // the store.
-pub fn next_stop<'a>(words: &'a [u64], store: &'a [u8], reference: &'a [u8]) -> &'a [u8]
+pub fn next_stop<'a>(words: &[u64], store: &'a [u8], reference: &'a [u8]) -> &'a [u8]
     ensures { λ r. ⌜
         StopPart (memory (now (words .entry)) (now (store .entry))) (now (reference .entry))
         (store .entry .ptr) (reference .entry .ptr) (r .ptr) (now r) ⌝ }
@@ -340,7 +340,7 @@ pub fn next_stop<'a>(words: &'a [u64], store: &'a [u8], reference: &'a [u8]) -> 
 }
 
 // Writes the snapshot of the table at the front of buffer and keeps the rest: 0 and the snapshot's length, or 1; 15.
-pub fn write_snapshot<'a>(words: &'a [u64], store: &'a [u8], buffer: &'a mut [u8]) -> Written
+pub fn write_snapshot(words: &[u64], store: &[u8], buffer: &mut [u8]) -> Written
     ensures { λ r. ⌜
         Performed (Call.looking (Look.writeSnapshot (now (buffer .entry)))) (memory (now (words .entry)) (now (store .entry)))
         (writtenReply r (now (buffer .exit))) (memory (now (words .entry)) (now (store .entry))) ⌝ }
@@ -352,7 +352,7 @@ pub fn write_snapshot<'a>(words: &'a [u64], store: &'a [u8], buffer: &'a mut [u8
 }
 
 // Loads a snapshot: 0, or 1 (lengths only); 23.
-pub fn load_snapshot<'a>(words: &'a mut [u64], store: &'a mut [u8], snapshot: &'a [u8]) -> u32
+pub fn load_snapshot(words: &mut [u64], store: &mut [u8], snapshot: &[u8]) -> u32
     ensures { λ r. ⌜
         Performed (Call.starting (Start.loadSnapshot (now (snapshot .entry)))) (memory (now (words .entry)) (now (store .entry))) (numbered r)
         (memory (now (words .exit)) (now (store .exit))) ⌝ }

@@ -18,10 +18,10 @@ pub fn print_all(out: &mut Buffer, s: &[u8]) {
 }
 
 // The number of entries of the section at a place, and the entries; where it ends.
-fn print_section<'a>(
-    out: &'a mut Buffer,
-    what: &'a [u8],
-    s: &'a [u8],
+fn print_section(
+    out: &mut Buffer,
+    what: &[u8],
+    s: &[u8],
     from: usize,
     section: Section,
     clock: u64,

@@ -45,7 +45,7 @@ fn no_row() -> Row
 }
 
 // Whether an exporter with a list can be added.
-fn has_room<'a>(words: &'a [u64], store: &'a [u8], list: &'a [u8]) -> bool
+fn has_room(words: &[u64], store: &[u8], list: &[u8]) -> bool
     requires { ⌜
         Whole (now words) × Whole (now store)
         × (fits Exporters (view (memory (now words) (now store))) ≡ true) ⌝ }
@@ -57,7 +57,7 @@ fn has_room<'a>(words: &'a [u64], store: &'a [u8], list: &'a [u8]) -> bool
 }
 
 // OXID, remote-unknown IPID, list length, list.
-fn read_exporter<'a>(words: &'a mut [u64], store: &'a mut [u8], s: &'a [u8]) -> Row
+fn read_exporter(words: &mut [u64], store: &mut [u8], s: &[u8]) -> Row
     requires { ⌜ Whole (now words) × Whole (now store) × (fits Exporters (view (memory (now words) (now store))) ≡ true) ⌝ }
     ensures { λ r. ⌜
         RowRead Exporters (now (s .entry)) (view (memory (now (words .entry)) (now (store .entry)))) r
@@ -80,7 +80,7 @@ fn read_exporter<'a>(words: &'a mut [u64], store: &'a mut [u8], s: &'a [u8]) -> 
 }
 
 // OID, OXID, no-ping mark, time last heard.
-fn read_object<'a>(words: &'a mut [u64], s: &'a [u8]) -> Row
+fn read_object(words: &mut [u64], s: &[u8]) -> Row
     requires { ⌜ Whole (now words) × Holds (λ e. fits Objects e ≡ true) (now words) ⌝ }
     ensures { λ r. ⌜
         ((t : List ℕ) →
@@ -101,7 +101,7 @@ fn read_object<'a>(words: &'a mut [u64], s: &'a [u8]) -> Row
 }
 
 // IPID, IID, OID, the public and the eight private counts.
-fn read_interface<'a>(words: &'a mut [u64], s: &'a [u8]) -> Row
+fn read_interface(words: &mut [u64], s: &[u8]) -> Row
     requires { ⌜ Whole (now words) ⌝ }
     ensures { λ r. ⌜
         ((t : List ℕ) →
@@ -132,7 +132,7 @@ fn read_interface<'a>(words: &'a mut [u64], s: &'a [u8]) -> Row
 }
 
 // Whether object j is member k of the n members of a set's row.
-fn is_member<'a>(words: &'a [u64], j: usize, s: &'a [u8], k: usize, n: usize) -> bool
+fn is_member(words: &[u64], j: usize, s: &[u8], k: usize, n: usize) -> bool
     requires { ⌜ Whole (now words) × (j < objectCount (now words)) × (n < 65536) ⌝ }
     ensures { λ r. ⌜ r ≡ (ltb k n && eqb (getD (oidsOf (now (words .entry))) j 0) (field (now (s .entry)) (20 + 8 * k) 8)) ⌝ }
 {
@@ -162,7 +162,7 @@ fn with_member(members: Members, j: usize, member: bool) -> Members
 }
 
 // The rows of the n members of a set's row, which stand in the order of the objects.
-fn find_members<'a>(words: &'a [u64], s: &'a [u8], n: usize) -> Found
+fn find_members(words: &[u64], s: &[u8], n: usize) -> Found
     requires { ⌜ Whole (now words) × (n < 65536) ⌝ }
     ensures { λ r. ⌜ MembersFound (oidsOf (now (words .entry))) (membersIn (now (s .entry)) n) r ⌝ }
 {
@@ -183,7 +183,7 @@ fn find_members<'a>(words: &'a [u64], s: &'a [u8], n: usize) -> Found
 }
 
 // Number, sequence number, ping time, member count and OIDs.
-fn read_set<'a>(words: &'a mut [u64], s: &'a [u8]) -> Row
+fn read_set(words: &mut [u64], s: &[u8]) -> Row
     requires { ⌜ Whole (now words) × Holds (λ e. fits Sets e ≡ true) (now words) ⌝ }
     ensures { λ r. ⌜
         ((t : List ℕ) →
@@ -209,7 +209,7 @@ fn read_set<'a>(words: &'a mut [u64], s: &'a [u8]) -> Row
 }
 
 // The row of a section at the front of bytes, added where it fits.
-pub fn read_row<'a>(words: &'a mut [u64], store: &'a mut [u8], section: Section, s: &'a [u8]) -> Row
+pub fn read_row(words: &mut [u64], store: &mut [u8], section: Section, s: &[u8]) -> Row
     requires { ⌜ Whole (now words) × Whole (now store) × (fits section (view (memory (now words) (now store))) ≡ true) ⌝ }
     ensures { λ r. ⌜
         RowRead section (now (s .entry)) (view (memory (now (words .entry)) (now (store .entry)))) r

@@ -21,13 +21,7 @@ pub struct Place {
 }
 
 // A section from at on: its count, then its rows.
-fn read_section<'a>(
-    words: &'a mut [u64],
-    store: &'a mut [u8],
-    section: Section,
-    s: &'a [u8],
-    at: usize,
-) -> Place
+fn read_section(words: &mut [u64], store: &mut [u8], section: Section, s: &[u8], at: usize) -> Place
     requires { ⌜
         Whole (now words) × Whole (now store) × (at ≤ length (now s)) × (length (now s) ≤ longestSnapshot)
         × (fits section (view (memory (now words) (now store))) ≡ true) ⌝ }
@@ -56,7 +50,7 @@ fn read_section<'a>(
 }
 
 // The four sections of rows, from at on, into a table without entries.
-fn read_sections<'a>(words: &'a mut [u64], store: &'a mut [u8], s: &'a [u8], at: usize) -> bool
+fn read_sections(words: &mut [u64], store: &mut [u8], s: &[u8], at: usize) -> bool
     requires { ⌜
         Whole (now words) × Whole (now store) × (length (now s) ≤ longestSnapshot) × (at ≡ min 18 (length (now s)))
         × (field (now s) 0 2 ≡ 2) × (view (memory (now words) (now store)) ≡ begun (now s)) ⌝ }
@@ -79,7 +73,7 @@ fn read_sections<'a>(words: &'a mut [u64], store: &'a mut [u8], s: &'a [u8], at:
 }
 
 // The entries in bytes, into a table; false only where the bytes are no snapshot. Some that are none are read too.
-pub fn read_table<'a>(words: &'a mut [u64], store: &'a mut [u8], s: &'a [u8]) -> bool
+pub fn read_table(words: &mut [u64], store: &mut [u8], s: &[u8]) -> bool
     requires { ⌜ Whole (now words) × Whole (now store) ⌝ }
     ensures { λ r. ⌜ TableRead (now (s .entry)) r (view (memory (now (words .exit)) (now (store .exit)))) ⌝ }
 {

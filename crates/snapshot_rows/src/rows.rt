@@ -16,13 +16,7 @@ ghost use Rattle.snapshot_rows.specs.Writing.{Room, Wrote};
 ghost use Rattle.snapshot_rows.specs.Rows.{exporterBytesAt, objectBytesAt, interfaceBytesAt, countBytesAt, memberBytesAt, setBytesAt, ObjectsSorted, rowCount, rowBytes};
 
 // Exporter i: OXID, remote-unknown IPID, list length, list.
-fn put_exporter<'a>(
-    words: &'a [u64],
-    store: &'a [u8],
-    i: usize,
-    buffer: &'a mut [u8],
-    at: usize,
-) -> usize
+fn put_exporter(words: &[u64], store: &[u8], i: usize, buffer: &mut [u8], at: usize) -> usize
     requires { ⌜
         SoundTable (memory (now words) (now store)) × (i < exporterCount (now words))
         × Room (now buffer) at (exporterBytesAt (now words) (now store) i) ⌝ }
@@ -51,7 +45,7 @@ fn put_flag(buffer: &mut [u8], at: usize, flag: bool)
 }
 
 // Object i: OID, OXID, no-ping mark, time last heard.
-fn put_object<'a>(words: &'a [u64], i: usize, buffer: &'a mut [u8], at: usize) -> usize
+fn put_object(words: &[u64], i: usize, buffer: &mut [u8], at: usize) -> usize
     requires { ⌜ Whole (now words) × (i < objectCount (now words)) × Room (now buffer) at (objectBytesAt (now words) i) ⌝ }
     ensures { λ r. ⌜ Wrote (now (buffer .entry)) at (objectBytesAt (now (words .entry)) i) (now (buffer .exit)) r ⌝ }
 {
@@ -65,7 +59,7 @@ fn put_object<'a>(words: &'a [u64], i: usize, buffer: &'a mut [u8], at: usize) -
 }
 
 // The counts of interface i: the public one, and those of clients 0 to 7.
-fn put_counts<'a>(words: &'a [u64], i: usize, buffer: &'a mut [u8], at: usize) -> usize
+fn put_counts(words: &[u64], i: usize, buffer: &mut [u8], at: usize) -> usize
     requires { ⌜
         Whole (now words) × (i < interfaceCount (now words))
         × Room (now buffer) at (inRow (countBytesAt (now words) i) (tabulate 9 (λ k. k))) ⌝ }
@@ -82,7 +76,7 @@ fn put_counts<'a>(words: &'a [u64], i: usize, buffer: &'a mut [u8], at: usize) -
 }
 
 // Interface i: IPID, IID, OID, counts.
-fn put_interface<'a>(words: &'a [u64], i: usize, buffer: &'a mut [u8], at: usize) -> usize
+fn put_interface(words: &[u64], i: usize, buffer: &mut [u8], at: usize) -> usize
     requires { ⌜ Whole (now words) × (i < interfaceCount (now words)) × Room (now buffer) at (interfaceBytesAt (now words) i) ⌝ }
     ensures { λ r. ⌜ Wrote (now (buffer .entry)) at (interfaceBytesAt (now (words .entry)) i) (now (buffer .exit)) r ⌝ }
 {
@@ -94,13 +88,7 @@ fn put_interface<'a>(words: &'a [u64], i: usize, buffer: &'a mut [u8], at: usize
 }
 
 // The OID of the object at row j, where it is a member.
-fn put_member<'a>(
-    words: &'a [u64],
-    members: Members,
-    j: usize,
-    buffer: &'a mut [u8],
-    at: usize,
-) -> usize
+fn put_member(words: &[u64], members: Members, j: usize, buffer: &mut [u8], at: usize) -> usize
     requires { ⌜ Whole (now words) × (j < objectCount (now words)) × Room (now buffer) at (memberBytesAt (now words) members j) ⌝ }
     ensures { λ r. ⌜ Wrote (now (buffer .entry)) at (memberBytesAt (now (words .entry)) members j) (now (buffer .exit)) r ⌝ }
 {
@@ -113,11 +101,11 @@ fn put_member<'a>(
 }
 
 // The OIDs of members, in the order of the objects' rows.
-fn put_members<'a>(
-    words: &'a [u64],
+fn put_members(
+    words: &[u64],
     members: Members,
-    rows: &'a [usize],
-    buffer: &'a mut [u8],
+    rows: &[usize],
+    buffer: &mut [u8],
     at: usize,
 ) -> usize
     requires { ⌜
@@ -135,13 +123,7 @@ fn put_members<'a>(
 }
 
 // Set i: number, sequence number, time of the last ping, number of members, their OIDs in the order of the objects' rows.
-fn put_set<'a>(
-    words: &'a [u64],
-    rows: &'a [usize],
-    i: usize,
-    buffer: &'a mut [u8],
-    at: usize,
-) -> usize
+fn put_set(words: &[u64], rows: &[usize], i: usize, buffer: &mut [u8], at: usize) -> usize
     requires { ⌜ ObjectsSorted (now words) (now rows) × (i < setCount (now words)) × Room (now buffer) at (setBytesAt (now words) i) ⌝ }
     ensures { λ r. ⌜ Wrote (now (buffer .entry)) at (setBytesAt (now (words .entry)) i) (now (buffer .exit)) r ⌝ }
 {
@@ -155,13 +137,13 @@ fn put_set<'a>(
 }
 
 // Row i of a section. The objects' rows are given in rising order.
-pub fn put_row<'a>(
-    words: &'a [u64],
-    store: &'a [u8],
+pub fn put_row(
+    words: &[u64],
+    store: &[u8],
     section: Section,
-    objects: &'a [usize],
+    objects: &[usize],
     i: usize,
-    buffer: &'a mut [u8],
+    buffer: &mut [u8],
     at: usize,
 ) -> usize
     requires { ⌜

@@ -101,7 +101,7 @@ pub fn word_at(col: &[u64], i: usize) -> u64
 }
 
 // The GUID whose halves stand at i; a half is 0 past its column's end.
-pub fn guid_at<'a>(lows: &'a [u64], highs: &'a [u64], i: usize) -> Guid
+pub fn guid_at(lows: &[u64], highs: &[u64], i: usize) -> Guid
     ensures { λ r. ⌜ r ≡ guidAt (now (lows .entry)) (now (highs .entry)) i ⌝ }
 {
     Guid {
@@ -111,7 +111,7 @@ pub fn guid_at<'a>(lows: &'a [u64], highs: &'a [u64], i: usize) -> Guid
 }
 
 // Whether g stands at i.
-pub fn is_guid_at<'a>(lows: &'a [u64], highs: &'a [u64], i: usize, g: Guid) -> bool
+pub fn is_guid_at(lows: &[u64], highs: &[u64], i: usize, g: Guid) -> bool
     ensures { λ r. ⌜ r ≡ sameGuid g (guidAt (now (lows .entry)) (now (highs .entry)) i) ⌝ }
 {
     if g.low != word_at(lows, i) {
@@ -121,7 +121,7 @@ pub fn is_guid_at<'a>(lows: &'a [u64], highs: &'a [u64], i: usize, g: Guid) -> b
 }
 
 // The first index of g from an index on.
-fn guid_index_from<'a>(lows: &'a [u64], highs: &'a [u64], from: usize, g: Guid) -> usize
+fn guid_index_from(lows: &[u64], highs: &[u64], from: usize, g: Guid) -> usize
     ensures { λ r. ⌜ r ≡ from + firstIndex (sameGuid g) (drop from (guids (now (lows .entry)) (now (highs .entry)))) ⌝ }
 {
     let mut i = from;
@@ -135,19 +135,19 @@ fn guid_index_from<'a>(lows: &'a [u64], highs: &'a [u64], from: usize, g: Guid) 
 }
 
 // The first index of g, or the length of lows where it is not there.
-pub fn guid_index_of<'a>(lows: &'a [u64], highs: &'a [u64], g: Guid) -> usize
+pub fn guid_index_of(lows: &[u64], highs: &[u64], g: Guid) -> usize
     ensures { λ r. ⌜ r ≡ firstIndex (sameGuid g) (guids (now (lows .entry)) (now (highs .entry))) ⌝ }
 {
     guid_index_from(lows, highs, 0, g)
 }
 
-pub fn has_guid_from<'a>(lows: &'a [u64], highs: &'a [u64], from: usize, g: Guid) -> bool
+pub fn has_guid_from(lows: &[u64], highs: &[u64], from: usize, g: Guid) -> bool
     ensures { λ r. ⌜ r ≡ some (sameGuid g) (drop from (guids (now (lows .entry)) (now (highs .entry)))) ⌝ }
 {
     guid_index_from(lows, highs, from, g) < lows.len()
 }
 
-pub fn has_guid<'a>(lows: &'a [u64], highs: &'a [u64], g: Guid) -> bool
+pub fn has_guid(lows: &[u64], highs: &[u64], g: Guid) -> bool
     ensures { λ r. ⌜ r ≡ some (sameGuid g) (guids (now (lows .entry)) (now (highs .entry))) ⌝ }
 {
     has_guid_from(lows, highs, 0, g)

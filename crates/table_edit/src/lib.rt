@@ -159,13 +159,7 @@ pub fn append_set(words: &mut [u64])
 }
 
 // An exporter, with its list behind the live ones.
-pub fn append_exporter<'a>(
-    words: &'a mut [u64],
-    store: &'a mut [u8],
-    oxid: Oxid,
-    unknown: Guid,
-    list: &'a [u8],
-)
+pub fn append_exporter(words: &mut [u64], store: &mut [u8], oxid: Oxid, unknown: Guid, list: &[u8])
     requires { ⌜
         Whole (now words) × Whole (now store) × (exporterCount (now words) < exporterPlaces)
         × (listAnswer (now list) ≡ 0)
@@ -188,7 +182,7 @@ pub fn append_exporter<'a>(
 }
 
 // Takes exporter i out; the later lists move down to where its list began.
-pub fn remove_exporter<'a>(words: &'a mut [u64], store: &'a mut [u8], i: usize)
+pub fn remove_exporter(words: &mut [u64], store: &mut [u8], i: usize)
     requires { ⌜
         Whole (now words) × Whole (now store) × (i < exporterCount (now words))
         × (listStart (now store) (exporterCount (now words)) ≤ storeBytes) ⌝ }

@@ -16,7 +16,7 @@ ghost use Rattle.rules.specs.Sound.{proper, properGuids, interfacesHeld, setMem
 ghost use Rattle.rules.specs.Sound.{interfaceObjectsLive, objectsHaveInterfaces, namingClauses, objectClauses, interfaceClauses, setClauses};
 
 // Each exporter's list keeps the list rules and is no longer than it may be; it begins where the one before it ends.
-fn lists_kept<'a>(words: &'a [u64], store: &'a [u8]) -> bool
+fn lists_kept(words: &[u64], store: &[u8]) -> bool
     requires { ⌜ Whole (now words) × Whole (now store) ⌝ }
     ensures { λ r. ⌜ r ≡ listsKept (view (memory (now (words .entry)) (now (store .entry)))) ⌝ }
 {
@@ -126,7 +126,7 @@ fn interfaces_held(words: &[u64]) -> bool
 }
 
 // Remote-unknown and interface IPIDs are one kind: none is nil, and no two are the same. Leaves an index of the latter.
-fn ipids_proper<'a>(words: &'a [u64], rows: &'a mut [u8; buckets::BUCKETS]) -> bool
+fn ipids_proper(words: &[u64], rows: &mut [u8; buckets::BUCKETS]) -> bool
     requires { ⌜ Whole (now words) × (length (now rows) ≡ 4096) ⌝ }
     ensures { λ r. ⌜
         Holds (λ e. r ≡ properGuids (ipids e)) (now (words .entry))
@@ -144,7 +144,7 @@ fn ipids_proper<'a>(words: &'a [u64], rows: &'a mut [u8; buckets::BUCKETS]) -> b
     identifiers::enter_guids(rows, unknown_lows, unknown_highs, lows, highs, 0)
 }
 
-fn interfaces_sound<'a>(words: &'a [u64], rows: &'a mut [u8; buckets::BUCKETS]) -> bool
+fn interfaces_sound(words: &[u64], rows: &mut [u8; buckets::BUCKETS]) -> bool
     requires { ⌜ Whole (now words) × (length (now rows) ≡ 4096) ⌝ }
     ensures { λ r. ⌜
         Holds (λ e. r ≡ holding (interfaceClauses e)) (now (words .entry))
@@ -201,7 +201,7 @@ fn sets_sound(words: &[u64]) -> bool
 }
 
 // Whether a lent table is sound: both lengths are 8,192, and every clause holds of the live entries.
-pub fn sound<'a>(words: &'a [u64], store: &'a [u8]) -> bool
+pub fn sound(words: &[u64], store: &[u8]) -> bool
     ensures { λ r. ⌜ r ≡ soundMemory (memory (now (words .entry)) (now (store .entry))) ⌝ }
 {
     let mut rows = [0u8; buckets::BUCKETS];
@@ -209,11 +209,7 @@ pub fn sound<'a>(words: &'a [u64], store: &'a [u8]) -> bool
 }
 
 // The same; leaves an index of the interfaces' IPIDs where it is.
-pub fn sound_indexed<'a>(
-    words: &'a [u64],
-    store: &'a [u8],
-    rows: &'a mut [u8; buckets::BUCKETS],
-) -> bool
+pub fn sound_indexed(words: &[u64], store: &[u8], rows: &mut [u8; buckets::BUCKETS]) -> bool
     requires { ⌜ length (now rows) ≡ 4096 ⌝ }
     ensures { λ r. ⌜
         (r ≡ soundMemory (memory (now (words .entry)) (now (store .entry))))

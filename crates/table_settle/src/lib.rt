@@ -38,7 +38,7 @@ fn hinted(hints: &[u8], b: usize) -> usize {
 }
 
 // Notes the row of each interface under the bucket of the OID that it names, as `find::hint_objects` does for objects.
-fn hint_served<'a>(words: &'a [u64], hints: &'a mut [u8])
+fn hint_served(words: &[u64], hints: &mut [u8])
     requires { ⌜ Whole (now words) × (length (now hints) ≡ 4096) ⌝ }
 {
     let n = find::interface_count(words);
@@ -51,7 +51,7 @@ fn hint_served<'a>(words: &'a [u64], hints: &'a mut [u8])
 }
 
 // Whether an interface names an object; a row is tried first.
-fn is_served<'a>(words: &'a [u64], hints: &'a [u8], oid: Oid) -> bool
+fn is_served(words: &[u64], hints: &[u8], oid: Oid) -> bool
     requires { ⌜ Whole (now words) ⌝ }
     ensures { λ r. ⌜ Holds (λ e. r ≡ some (λ (i : Interface). eqb (oid .0) (i .object)) (e .interfaces)) (now (words .entry)) ⌝ }
 {
@@ -66,7 +66,7 @@ fn is_served<'a>(words: &'a [u64], hints: &'a [u8], oid: Oid) -> bool
 }
 
 // Whether an object is live; a row is tried first.
-fn is_live<'a>(words: &'a [u64], hints: &'a [u8; buckets::BUCKETS], oid: Oid) -> bool
+fn is_live(words: &[u64], hints: &[u8; buckets::BUCKETS], oid: Oid) -> bool
     requires { ⌜ Whole (now words) ⌝ }
     ensures { λ r. ⌜ Holds (λ e. r ≡ isLiveObject e (oid .0)) (now (words .entry)) ⌝ }
 {
@@ -81,7 +81,7 @@ fn is_live<'a>(words: &'a [u64], hints: &'a [u8; buckets::BUCKETS], oid: Oid) ->
 }
 
 // Whether object i stays.
-fn is_staying<'a>(words: &'a [u64], i: usize, why: Leaving, hints: &'a [u8]) -> bool
+fn is_staying(words: &[u64], i: usize, why: Leaving, hints: &[u8]) -> bool
     requires { ⌜ Whole (now words) × (i < objectCount (now words)) ⌝ }
     ensures { λ r. ⌜ Holds (λ e. r ≡ stays why e (getD (e .objects) i noObject)) (now (words .entry)) ⌝ }
 {
@@ -93,7 +93,7 @@ fn is_staying<'a>(words: &'a [u64], i: usize, why: Leaving, hints: &'a [u8]) -> 
 }
 
 // Takes object i out, unless it stays.
-fn leave<'a>(words: &'a mut [u64], i: usize, why: Leaving, hints: &'a [u8])
+fn leave(words: &mut [u64], i: usize, why: Leaving, hints: &[u8])
     requires { ⌜
         Whole (now words) × (i < objectCount (now words)) × (membersBelow (now words) ≡ true)
         × (distinct eqb (oidsOf (now words)) ≡ true) ⌝ }
@@ -106,7 +106,7 @@ fn leave<'a>(words: &'a mut [u64], i: usize, why: Leaving, hints: &'a [u8])
 }
 
 // Takes the objects out that do not stay.
-fn drop_objects<'a>(words: &'a mut [u64], why: Leaving, hints: &'a [u8])
+fn drop_objects(words: &mut [u64], why: Leaving, hints: &[u8])
     requires { ⌜
         Whole (now words) × (membersBelow (now words) ≡ true)
         × (distinct eqb (oidsOf (now words)) ≡ true) ⌝ }
@@ -122,7 +122,7 @@ fn drop_objects<'a>(words: &'a mut [u64], why: Leaving, hints: &'a [u8])
 }
 
 // Takes interface i out, unless its object is live.
-fn leave_interface<'a>(words: &'a mut [u64], i: usize, hints: &'a [u8; buckets::BUCKETS])
+fn leave_interface(words: &mut [u64], i: usize, hints: &[u8; buckets::BUCKETS])
     requires { ⌜ Whole (now words) × (i < interfaceCount (now words)) ⌝ }
     ensures { λ _. ⌜ Became (interfaceLeftAt i) (now (words .entry)) (now (words .exit)) ⌝ }
 {
@@ -148,7 +148,7 @@ fn drop_interfaces(words: &mut [u64])
 }
 
 // Objects that do not stay go, with their interfaces and memberships.
-fn remove_hinted<'a>(words: &'a mut [u64], why: Leaving, hints: &'a [u8])
+fn remove_hinted(words: &mut [u64], why: Leaving, hints: &[u8])
     requires { ⌜
         Whole (now words) × (membersBelow (now words) ≡ true)
         × (distinct eqb (oidsOf (now words)) ≡ true) × Holds (λ e. interfaceObjectsLive e ≡ true) (now words) ⌝ }

@@ -129,7 +129,7 @@ pub fn object_row(words: &[u64], oid: Oid) -> usize
 }
 
 // Notes the row of each object under its bucket. What the hints then hold is undecided: whoever tries a row compares its OID.
-pub fn hint_objects<'a>(words: &'a [u64], hints: &'a mut [u8; buckets::BUCKETS])
+pub fn hint_objects(words: &[u64], hints: &mut [u8; buckets::BUCKETS])
     requires { ⌜ Whole (now words) ⌝ }
 {
     let n = object_count(words);
@@ -403,7 +403,7 @@ pub fn list_start(store: &[u8], i: usize) -> usize
 }
 
 // The binding list of exporter i, where the lists keep the list rules.
-pub fn list<'a>(words: &'a [u64], store: &'a [u8], i: usize) -> &'a [u8]
+pub fn list<'a>(words: &[u64], store: &'a [u8], i: usize) -> &'a [u8]
     requires { ⌜
         Whole (now store) × (i < exporterCount (now words))
         × (listsKept (view (memory (now words) (now store))) ≡ true) ⌝ }

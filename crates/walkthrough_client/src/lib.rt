@@ -40,7 +40,7 @@ fn join(log: &mut Log, words: &mut Words, store: &Store, block: Block) -> SetId 
 }
 
 // Reads the reference and asks for addresses; its block.
-fn look_up<'a>(log: &mut Log, words: &'a Words, store: &'a Store, reference: &'a [u8]) -> Block {
+fn look_up<'a>(log: &mut Log, words: &Words, store: &'a Store, reference: &'a [u8]) -> Block {
     let block = read(reference);
     next_stop(log, words, store, reference);
     resolve(log, words, store, block.oxid);
@@ -61,7 +61,7 @@ fn read(reference: &[u8]) -> Block {
     block
 }
 
-fn next_stop<'a>(log: &mut Log, words: &'a Words, store: &'a Store, reference: &'a [u8]) {
+fn next_stop<'a>(log: &mut Log, words: &Words, store: &'a Store, reference: &'a [u8]) {
     let place = resolver::next_stop_place(words, store, reference);
     let stop = resolver::next_stop(words, store, reference);
     recorder::next_stop(log, reference, place.answer, stop);
@@ -78,7 +78,7 @@ fn directed(place: StopPlace, stop: &[u8]) {
     say::address(stop);
 }
 
-fn resolve<'a>(log: &mut Log, words: &'a Words, store: &'a Store, oxid: Oxid) {
+fn resolve(log: &mut Log, words: &Words, store: &Store, oxid: Oxid) {
     let mut list = [0u8; limits::LONGEST_LIST];
     let r = resolver::resolve(words, store, oxid, &mut list);
     recorder::resolve(log, oxid, r.answer, r.unknown, &list, r.length);
@@ -108,7 +108,7 @@ fn refused(number: u32) {
 }
 
 // Asks for addresses of one protocol alone, UDP, which the server does not offer.
-fn resolve_udp<'a>(log: &mut Log, words: &'a Words, store: &'a Store, oxid: Oxid) {
+fn resolve_udp(log: &mut Log, words: &Words, store: &Store, oxid: Oxid) {
     let mut list = [0u8; limits::LONGEST_LIST];
     let r = resolver::resolve_filtered(words, store, oxid, &[8], &mut list);
     recorder::resolve_filtered(log, oxid, b"\x08\x00", r.answer, r.unknown, &list, r.length);
@@ -196,7 +196,7 @@ fn come_back(log: &mut Log, words: &mut Words, store: &Store, set: SetId) {
 // A reference is read after its exporter left.
 pub fn come_late<'a>(
     log: &mut Log,
-    words: &'a Words,
+    words: &Words,
     store: &'a Store,
     reference: &'a [u8; walkthrough_server::REFERENCE],
 ) {
@@ -204,15 +204,15 @@ pub fn come_late<'a>(
     next_stop(log, words, store, reference);
 }
 
-fn add<'a>(
+fn add(
     log: &mut Log,
     words: &mut Words,
-    store: &'a Store,
+    store: &Store,
     client: u32,
     ipid: Guid,
     public: u32,
     private: u32,
-    what: &'a [u8],
+    what: &[u8],
 ) {
     let number = resolver::add(words, store, client, ipid, public, private);
     recorder::add(log, client, ipid, public, private, number);
@@ -294,7 +294,7 @@ fn released(r: Released) {
     );
 }
 
-fn count<'a>(log: &mut Log, words: &'a Words, store: &'a Store, set: SetId) {
+fn count(log: &mut Log, words: &Words, store: &Store, set: SetId) {
     let r = resolver::members(words, store, set);
     recorder::members(log, set, r.answer, r.count);
     say::results(

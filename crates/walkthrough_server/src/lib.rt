@@ -129,7 +129,7 @@ fn write_with(list: &[u8], reference: &mut [u8; REFERENCE]) {
 }
 
 // The snapshot of the box that goes.
-pub fn save<'a>(log: &mut Log, words: &'a Words, store: &'a Store, snapshot: &'a mut [u8]) {
+pub fn save(log: &mut Log, words: &Words, store: &Store, snapshot: &mut [u8]) {
     let r = resolver::write_snapshot(words, store, snapshot);
     recorder::write_snapshot(log, r.answer, snapshot, r.length);
     say::results(
@@ -165,7 +165,7 @@ pub fn close(log: &mut Log, words: &mut Words, store: &mut Store) {
 }
 
 // What is live.
-pub fn census<'a>(log: &mut Log, words: &'a Words, store: &'a Store) {
+pub fn census(log: &mut Log, words: &Words, store: &Store) {
     let r = resolver::census(words, store);
     let results = [
         r.answer as u64,

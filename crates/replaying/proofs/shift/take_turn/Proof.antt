@@ -34,14 +34,14 @@ order c = in-order _ _ _ (placed-there c)
 add-from : tie.Need-add-from
 add-from c = let o = order (c .before .before .before .before .before .before .before .before) in omega arith
 
-sub-byte : tie.Need-sub-byte
-sub-byte c = let o = order (c .before .before .before .before .before .before .before .before) in omega arith
+sub-call : tie.Need-sub-call
+sub-call c = let o = order (c .before .before .before .before .before .before .before .before) in omega arith
 
-part-byte-start : tie.Need-part-byte-start
-part-byte-start c = let o = order (c .before .before .before .before .before .before .before .before) in omega arith
+part-call-start : tie.Need-part-call-start
+part-call-start c = let o = order (c .before .before .before .before .before .before .before .before) in omega arith
 
-part-byte-end : tie.Need-part-byte-end
-part-byte-end c = let o = order (c .before .before .before .before .before .before .before .before) in omega arith
+part-call-end : tie.Need-part-call-end
+part-call-end c = let o = order (c .before .before .before .before .before .before .before .before) in omega arith
 
 add-answer : tie.Need-add-answer
 add-answer c = let o = order (c .before .before .before .before .before .before .before .before .before .before .before) in omega arith
@@ -55,33 +55,24 @@ part-sum-after-start c = let o = order (c .before .before .before .before .befor
 part-sum-after-end : tie.Need-part-sum-after-end
 part-sum-after-end c = let o = order (c .before .before .before .before .before .before .before .before .before .before .before .before) in omega arith
 
-sub-sum-after-2 : tie.Need-sub-sum-after-2
-sub-sum-after-2 c = let d = c .before .before .before .before .before .before .before .before .before in let o = order (d .before .before .before .before) in omega arith
-
-part-sum-after-start-2 : tie.Need-part-sum-after-start-2
-part-sum-after-start-2 c = let d = c .before .before .before .before .before .before .before .before .before in let o = order (d .before .before .before .before) in omega arith
-
-part-sum-after-end-2 : tie.Need-part-sum-after-end-2
-part-sum-after-end-2 c = let d = c .before .before .before .before .before .before .before .before .before in let o = order (d .before .before .before .before) in omega arith
-
 sum-after-requires : tie.Need-sum-after-requires
 sum-after-requires c κs =
-    let after = c .before .before .before .before .before .before .before .before .before .before in
+    let after = c .before .before .before .before .before .before .before .before .before in
     let there = after .before .before .before .before in
     let did = after .perform in
     let p = there .before .before .before .before .pre in
     let fits = ap wellFormed (by-places _ _ _ (placed-there there)) ∙ p .2 in
-    (did .ensures .words, rw (c .before .before .before .before .byte .ensures) (sum-told _ _ _ _ _ (p .0) fits (did .ensures) (p .3)))
+    (did .ensures .words, rw (c .before .before .before .byte .ensures) (sum-told _ _ _ _ _ (p .0) fits (did .ensures) (p .3)))
 
 returns : tie.Need-returns
 returns c =
-    let after = c .before .before .before .before .before .before .before .before .before .before .before .before in
+    let after = c .before .before .before .before .before .before .before .before .before .before .before in
     let there = after .before .before .before .before in
     let s = there .before .before .before .before in
     let a = s .args in
     let p = by-places _ _ _ (placed-there there) in
     let did = after .perform in
-    let code = c .before .before .before .before .before .before .byte in
+    let code = c .before .before .before .before .before .byte in
     let done =
     subst
     (λ (x : Sections). RecordDone x (memory (a .words .now) (a .store .now)) (did .result) (memory (did .last .0) (did .last .1 .0)))
@@ -107,17 +98,14 @@ take-turn-spec =
     (λ c κs. search needs)
     perform-requires
     add-from
-    sub-byte
-    part-byte-start
-    part-byte-end
+    sub-call
+    part-call-start
+    part-call-end
     (λ c κs. search needs)
     add-answer
     sub-sum-after
     part-sum-after-start
     part-sum-after-end
-    sub-sum-after-2
-    part-sum-after-start-2
-    part-sum-after-end-2
     sum-after-requires
     (λ c κs. search needs)
     (λ c. search needs)

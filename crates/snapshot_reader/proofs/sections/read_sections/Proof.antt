@@ -74,13 +74,27 @@ read-section-requires-4 : tie.Need-read-section-requires-4
 read-section-requires-4 c κs =
     let r = after-3 (c .before .before) in
     let st = start (first (second (c .before .before))) in
-    (omega arith, omega arith, r .inside, st .pre .2, ap (fits Sets) (r .entries) ∙ sets-none _)
+    let third = c .before .before .before .before .before in
+    let second = third .before .before .before .before .before .before .before .before .before in
+    let first = second .before .before .before .before .before .before .before .before .before in (
+      omega (arith, first .before .before .words .given, second .before .before .words2 .given, third .before .before .words3 .given),
+      omega (arith, first .store .given, second .store2 .given, third .store3 .given),
+      r .inside,
+      st .pre .2,
+      ap (fits Sets) (r .entries) ∙ sets-none _,
+    )
 
 same-length-7 : tie.Need-same-length-7
 same-length-7 c =
     let third = c .before .before .before .before .before .before .before .before .before .before .before .before in
     let second = third .before .before .before .before .before .before .before .before .before in
     omega (arith, second .before .before .before .before .before .before .before .before .before .words .given, second .words2 .given, third .words3 .given, c .before .before .before .words4 .given)
+
+same-length-8 : tie.Need-same-length-8
+same-length-8 c =
+    let third = c .before .before .before .before .before .before .before .before .before .before in
+    let second = third .before .before .before .before .before .before .before .before .before in
+    omega (arith, second .before .before .before .before .before .before .before .before .before .store .given, second .store2 .given, third .store3 .given, c .before .store4 .given)
 
 returns-4 : tie.Need-returns-4
 returns-4 c =
@@ -110,5 +124,5 @@ read-sections-spec =
     returns-3
     read-section-requires-4
     same-length-7
-    (λ c. search needs)
+    same-length-8
     returns-4)
