@@ -8,7 +8,7 @@ no name of src/ is in camel case. Where a lemma already had the new name of a de
 import os
 import re
 
-SEGMENT = re.compile(r"[A-Za-z_][A-Za-z0-9_'₀-₉]*")
+SEGMENT = re.compile(r"(?<![\w'])[A-Za-z_][A-Za-z0-9_'₀-₉]*")
 CAMEL = re.compile(r"^[a-z][a-z0-9]*([A-Z][A-Za-z0-9]*)+'*[₀-₉]*$")
 # lemmas and locals that had, with a dash, what is now a definition's name
 LEMMAS = ("too_many passes_count walked_to written_in quiet_step by_form count_at row_before front_length list_length too_long in_order"
@@ -44,6 +44,8 @@ def main():
     texts = {it: read(it) for it in paths}
     words = {s for p, t in texts.items() if p.endswith(".antt") for s in SEGMENT.findall(code(t))}
     camel = {it for it in words if CAMEL.match(it)}
+    if not camel:
+        return
     # port.py gave some of them their new spelling already, but not in pages and edits
     camel |= {s for p, t in texts.items() if p.endswith((".md", ".edit")) for s in SEGMENT.findall(t) if CAMEL.match(s) and snake(s) in words}
     bare = re.compile(r"(?<![\w'.\-])(" + "|".join(LEMMAS) + r")(?![\w'\-])")

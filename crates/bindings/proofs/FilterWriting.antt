@@ -12,7 +12,7 @@ use Rattle.fields.specs.Fields.{encode, written, Bytes}
 use Rattle.fields.proofs.Fields.{first_field, then-field, then-bytes, take_rest}
 use Rattle.kinds.specs.Refusals.{order}
 use Rattle.kinds.proofs.Refusing.{ne-differ}
-use Rattle.bindings.specs.Bindings.{words, bindings_of, joined, is_bare, count, split, part_words, list_length_lem, list_answer}
+use Rattle.bindings.specs.Bindings.{words, bindings_of, joined, is_bare, count, split, part_words, list_length, list_answer}
 use Rattle.bindings.specs.ListBytes.{word_bytes, parts_bytes}
 use Rattle.bindings.specs.Filter.{requested, filtered, filter_answer, write_filtered}
 use Rattle.bindings.specs.declared.Part.TheVariants.{Strings, Security}
@@ -76,7 +76,7 @@ module _ (protocols s : List ℕ) (done : list_answer s ≡ 0) (some : count s �
         ∙ (rw (size_of, length-words s (4 + 2 * split s) (count s - split s), bytes-append kept (0 ∷ []), string-end) (simp append_assoc))
 
     rest-size : length (drop (2 + 2 * split s) s) ≡ 2 + 2 * (count s - split s)
-    unfolding list_length_lem
+    unfolding list_length
     rest-size =
         let w = (accepted s done).whole in
         let l = (accepted s done).held.below in
@@ -117,7 +117,7 @@ module _ (protocols s : List ℕ) (done : list_answer s ≡ 0) (some : count s �
 
       -- N of the filtered list has 16 bits
       pub filtered-count : R + 1 + (N - K) < 65536
-      unfolding list_length_lem
+      unfolding list_length
       filtered-count =
           let q : R ≡ length (joined (requested protocols (words s 4 (split s)))) = rw k at r in
           let a = filtered-shorter protocols s b done in

@@ -13,7 +13,7 @@ use Rattle.fields.specs.Fields.{Bytes}
 use Rattle.lists.specs.Lists.{keep, some}
 use Rattle.lists.proofs.Lists.{keep_all, keep-map, keep-none}
 use Rattle.lists.proofs.Tests.{and_left, and_right}
-use Rattle.bindings.specs.Bindings.{bindings_of, joined, same_words, is_part, is_bare, count, split, part_words, list_length_lem, list_answer}
+use Rattle.bindings.specs.Bindings.{bindings_of, joined, same_words, is_part, is_bare, count, split, part_words, list_length, list_answer}
 use Rattle.bindings.specs.Layout.{Binding, AllProper, binding_words, part_layout}
 use Rattle.bindings.specs.ListBytes.{Words16, parts_bytes, of_part}
 use Rattle.bindings.specs.Filter.{is_requested, requested, filtered, all_requested, FilteredKeeps, FilteredSame, FilteredNone}
@@ -197,7 +197,7 @@ module _ (protocols s : List ℕ) where
 
     -- it is no longer than the stored list
     pub filtered-shorter : length (filtered protocols s) ≤ length s
-    unfolding kept_words list_length_lem
+    unfolding kept_words list_length
     filtered-shorter =
         by_bool (is_bare s)
         (λ e. rw (filtered-bare e) (omega arith))

@@ -13,7 +13,7 @@ use Rattle.kinds.specs.Refusals.{order}
 use Rattle.kinds.proofs.Refusing.{true-false, by-test, passed, passed_on}
 use Rattle.fields.proofs.Fields.{field-front}
 use Rattle.bindings.specs.Bindings.{words, first_binding, bindings_up_to, bindings_of, is_part, count, split, part_start, part_size}
-use Rattle.bindings.specs.Bindings.{part_words, is_bare, two_parts, list_length_lem, front_answer, list_answer, place, binding_at}
+use Rattle.bindings.specs.Bindings.{part_words, is_bare, two_parts, list_length, front_answer, list_answer, place, binding_at}
 use Rattle.bindings.specs.declared.Part.{Part}
 use Rattle.bindings.specs.declared.Part.TheVariants.{Strings, Security}
 use Rattle.bindings.specs.declared.Place.{Place}
@@ -39,7 +39,7 @@ not-bare s h = refuted (is_bare s) (λ e. let z = bare s e in h z.0 z.1)
 
 -- the list at the front of s is accepted
 pub record Front (s : List ℕ) : Type 0 where
-  pub enough : list_length_lem s ≤ length s
+  pub enough : list_length s ≤ length s
   pub parts : two_parts s ≡ true
   pub below : split s ≤ count s
   pub part : is_bare s ≡ false → (p : Part) → is_part p (part_words s p) ≡ true
@@ -53,7 +53,7 @@ or_cases : (a b : Bool) → (a || b) ≡ true → (a ≡ true) ⊎ (b ≡ true)
 or_cases true b e = inl refl
 or_cases false b e = inr e
 
-front-held : (s : List ℕ) → list_length_lem s ≤ length s → two_parts s ≡ true → Front s
+front-held : (s : List ℕ) → list_length s ≤ length s → two_parts s ≡ true → Front s
 unfolding two_parts
 front-held s h e =
     ⊎_elim
@@ -89,20 +89,20 @@ pub front : (s : List ℕ) → front_answer s ≡ 0 → Front s
 unfolding front_answer
 front s done =
     let a = passed (ltb (length s) 4) 13 _ (omega arith) done in
-    let b = passed (ltb (length s) (list_length_lem s)) 13 _ (omega arith) a.1 in
+    let b = passed (ltb (length s) (list_length s)) 13 _ (omega arith) a.1 in
     let d = passed (not (two_parts s)) 14 _ (omega arith) b.1 in
-    front-held s (ltb-false (length s) (list_length_lem s) b.0) (not-false (two_parts s) d.0)
+    front-held s (ltb-false (length s) (list_length s) b.0) (not-false (two_parts s) d.0)
 
 -- and conversely
-pub front-done : (s : List ℕ) → list_length_lem s ≤ length s → two_parts s ≡ true → front_answer s ≡ 0
-unfolding front_answer order list_length_lem
+pub front-done : (s : List ℕ) → list_length s ≤ length s → two_parts s ≡ true → front_answer s ≡ 0
+unfolding front_answer order list_length
 front-done s h e =
     let l : 4 ≤ length s = omega arith in
     rw (le-ltb (length s) 4 l, le-ltb (length s) (4 + 2 * count s) h, e)
 
 -- s is accepted as a whole list
 pub record Accepted (s : List ℕ) : Type 0 where
-  pub whole : length s ≡ list_length_lem s
+  pub whole : length s ≡ list_length s
   pub front : front_answer s ≡ 0
   pub held : Front s
 
@@ -110,9 +110,9 @@ pub accepted : (s : List ℕ) → list_answer s ≡ 0 → Accepted s
 unfolding list_answer
 accepted s done =
     let a = passed_on (front_answer s) _ done in
-    let b = passed (ltb (list_length_lem s) (length s)) 14 _ (omega arith) a.1 in
+    let b = passed (ltb (list_length s) (length s)) 14 _ (omega arith) a.1 in
     let f = front s a.0 in
-    let q = ltb-false (list_length_lem s) (length s) b.0 in
+    let q = ltb-false (list_length s) (length s) b.0 in
     record {
       whole = omega arith;
       front = a.0;
@@ -120,11 +120,11 @@ accepted s done =
     }
 
 -- and conversely
-pub accept : (s : List ℕ) → length s ≡ list_length_lem s → front_answer s ≡ 0 → list_answer s ≡ 0
+pub accept : (s : List ℕ) → length s ≡ list_length s → front_answer s ≡ 0 → list_answer s ≡ 0
 unfolding list_answer order
 accept s h e =
-    let l : length s ≤ list_length_lem s = omega arith in
-    rw (e, le-ltb (list_length_lem s) (length s) l)
+    let l : length s ≤ list_length s = omega arith in
+    rw (e, le-ltb (list_length s) (length s) l)
 
 -- ---- a binding lies within its list
 
@@ -149,8 +149,8 @@ within-place m (suc n) p (w ∷ ws) (suc k) at h =
     (λ e. within-place m n p (after p (w ∷ ws)) k (at + 2 * length (first_binding p (w ∷ ws))) (omega arith))
 
 -- the words of a part lie within the list
-pub part-within : (s : List ℕ) (p : Part) → Front s → part_start s p + 2 * part_size s p ≤ list_length_lem s
-unfolding list_length_lem
+pub part-within : (s : List ℕ) (p : Part) → Front s → part_start s p + 2 * part_size s p ≤ list_length s
+unfolding list_length
 part-within s Strings f = let h = f.below in omega arith
 part-within s Security f = let h = f.below in omega arith
 
@@ -184,12 +184,12 @@ module _ (l rest : List ℕ) (h : 4 ≤ length l) where
   pub split-before : split (l ++ rest) ≡ split l
   split-before = field-front l rest 2 2 (omega arith)
 
-  pub length_before : list_length_lem (l ++ rest) ≡ list_length_lem l
-  unfolding list_length_lem
+  pub length_before : list_length (l ++ rest) ≡ list_length l
+  unfolding list_length
   length_before = rw count-before
 
-  pub parts-before : list_length_lem l ≤ length l → split l ≤ count l → two_parts (l ++ rest) ≡ two_parts l
-  unfolding two_parts list_length_lem
+  pub parts-before : list_length l ≤ length l → split l ≤ count l → two_parts (l ++ rest) ≡ two_parts l
+  unfolding two_parts list_length
   parts-before e b =
       let f : 4 + 2 * split l ≤ length l = omega arith in
       let g : 4 + 2 * split l + 2 * (count l - split l) ≤ length l = omega arith in
@@ -198,36 +198,36 @@ module _ (l rest : List ℕ) (h : 4 ≤ length l) where
 -- a whole list is accepted at the front of longer bytes, and its length is read there
 module _ (l rest : List ℕ) (done : list_answer l ≡ 0) where
   room : 4 ≤ length l
-  unfolding list_length_lem
+  unfolding list_length
   room = let w = (accepted l done).whole in omega arith
 
-  pub list-front-length : list_length_lem (l ++ rest) ≡ length l
+  pub list-front-length : list_length (l ++ rest) ≡ length l
   list-front-length = length_before l rest room ∙ sym (accepted l done).whole
 
   pub list-front : front_answer (l ++ rest) ≡ 0
   list-front =
       let f = (accepted l done).held in
-      let e : list_length_lem (l ++ rest) ≤ length (l ++ rest) = omega (arith, list-front-length, length-append l rest) in
+      let e : list_length (l ++ rest) ≤ length (l ++ rest) = omega (arith, list-front-length, length-append l rest) in
       front-done (l ++ rest) e (parts-before l rest room f.enough f.below ∙ f.parts)
 
   -- the bytes of that length are the list
-  pub list-front-taken : take (list_length_lem (l ++ rest)) (l ++ rest) ≡ l
+  pub list-front-taken : take (list_length (l ++ rest)) (l ++ rest) ≡ l
   list-front-taken = rw list-front-length (take-append_seam l rest)
 
 -- the list at the front is a whole list
-pub front-list : (s : List ℕ) → front_answer s ≡ 0 → list_answer (take (list_length_lem s) s) ≡ 0
-unfolding list_length_lem
+pub front-list : (s : List ℕ) → front_answer s ≡ 0 → list_answer (take (list_length s) s) ≡ 0
+unfolding list_length
 front-list s done =
     let f = front s done in
-    let l = take (list_length_lem s) s in
-    let rest = drop (list_length_lem s) s in
-    let e : l ++ rest ≡ s = take-append-drop (list_length_lem s) s in
-    let n : length l ≡ list_length_lem s = length-take-le (list_length_lem s) s f.enough in
+    let l = take (list_length s) s in
+    let rest = drop (list_length s) s in
+    let e : l ++ rest ≡ s = take-append-drop (list_length s) s in
+    let n : length l ≡ list_length s = length-take-le (list_length s) s f.enough in
     let r : 4 ≤ length l = omega arith in
     let c : count l ≡ count s = sym (count-before l rest r) ∙ ap count e in
     let v : split l ≡ split s = sym (split-before l rest r) ∙ ap split e in
-    let w : list_length_lem l ≡ length l = omega arith in
-    let q : list_length_lem l ≤ length l = omega arith in
+    let w : list_length l ≡ length l = omega arith in
+    let q : list_length l ≤ length l = omega arith in
     let b : split l ≤ count l = let x = f.below in omega arith in
     let g : two_parts l ≡ true = sym (parts-before l rest r q b) ∙ ap two_parts e ∙ f.parts in
     accept l (sym w) (front-done l q g)

@@ -12,7 +12,7 @@ use lib.Seq.{take_at, drop_at, drop-drop, drop-cons}
 use Rattle.kinds.proofs.Refusing.{by-test}
 use Rattle.fields.specs.Fields.{bytes_number, encode, field, Bytes}
 use Rattle.fields.proofs.Fields.{length-encode, field-as, field-then, field_next}
-use Rattle.bindings.specs.Bindings.{words, bindings_of, joined, is_part, is_bare, count, split, part_start, part_words, two_parts, list_length_lem, list_answer, refusal, place, binding_at}
+use Rattle.bindings.specs.Bindings.{words, bindings_of, joined, is_part, is_bare, count, split, part_start, part_words, two_parts, list_length, list_answer, refusal, place, binding_at}
 use Rattle.bindings.specs.Layout.{Binding, binding_words, part_layout, IsLayout}
 use Rattle.bindings.specs.ListBytes.{Words16, word_bytes, parts_bytes, bare_list, list_bytes, Listable, IsList, of_part, binding_start, Holds, ListsExactly, BindingK}
 use Rattle.bindings.specs.declared.Part.{Part}
@@ -119,11 +119,11 @@ module _ (a b : List ℕ) where
 
     -- where both are parts, it is accepted
     pub parts-accepted : is_part Strings a ≡ true → is_part Security b ≡ true → list_answer (parts_bytes a b) ≡ 0
-    unfolding list_length_lem
+    unfolding list_length
     parts-accepted f g =
         let n = parts-count in
         let k = parts-split in
-        let whole : length (parts_bytes a b) ≡ list_length_lem (parts_bytes a b) = omega (arith, parts-length) in
+        let whole : length (parts_bytes a b) ≡ list_length (parts_bytes a b) = omega (arith, parts-length) in
         let below : split (parts_bytes a b) ≤ count (parts_bytes a b) = omega arith in
         accept (parts_bytes a b) whole
         (front-done (parts_bytes a b) (omega arith)
@@ -131,7 +131,7 @@ module _ (a b : List ℕ) where
 
 -- an accepted list is the list of the words of its parts, the list without words included
 pub list-remade : (s : List ℕ) → Bytes s → list_answer s ≡ 0 → s ≡ parts_bytes (part_words s Strings) (part_words s Security)
-unfolding parts_bytes list_length_lem
+unfolding parts_bytes list_length
 list-remade s b done =
     let a = accepted s done in
     let w = a.whole in
@@ -180,7 +180,7 @@ pub same-fit : (a b : List ℕ) → a ≡ b → Words16 a → Words16 b
 same-fit a b e h i = rw (← e) (h i)
 
 bare-accepted : list_answer bare_list ≡ 0
-unfolding list_length_lem field bytes_number two_parts
+unfolding list_length field bytes_number two_parts
 bare-accepted = accept bare_list refl (front-done bare_list (omega arith) refl)
 
 pub list-accepted : (s : List ℕ) → IsList s → list_answer s ≡ 0

@@ -17,7 +17,7 @@ use Rattle.lists.proofs.Tests.{same_or_not}
 use Rattle.rules.specs.Entries.{Entries, public_of, private_of}
 use Rattle.rules.specs.Calls.{Counting, adding, releasing, Reply, numbered}
 use Rattle.rules.specs.Items.{Item, item_at, item_call, item_count}
-use Rattle.rules.specs.Rules.{is_live_interface, interface_of, passes_count_lem, no_client, refusals, number, next}
+use Rattle.rules.specs.Rules.{is_live_interface, interface_of, passes_count, no_client, refusals, number, next}
 use Rattle.rules.specs.Contract.{Memory}
 use Rattle.rules.proofs.Stepping.{reply-number, step-sound}
 use Rattle.rules.proofs.OneByOne.{item-done}
@@ -37,7 +37,7 @@ item-byte : (w : Counting) (c : ℕ) (t : Item) (e : Entries) → number (item_c
 unfolding number refusals order
 item-byte adding c t e =
     small (no_client c) (not (is_live_interface e t.ipid))
-    (passes_count_lem (public_of (interface_of e t.ipid) + t.public) || passes_count_lem (private_of c (interface_of e t.ipid) + t.private))
+    (passes_count (public_of (interface_of e t.ipid) + t.public) || passes_count (private_of c (interface_of e t.ipid) + t.private))
 item-byte releasing c t e = small (no_client c) (not (is_live_interface e t.ipid)) false
 
 pub item-stepped : (w : Counting) (c : ℕ) (t : Item) {m m' : Memory} {x : Reply} → SoundTable m → Stepped (item_call w c t) m x m'

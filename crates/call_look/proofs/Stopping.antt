@@ -10,7 +10,7 @@ use lib.Dec.{eqb, ltb}
 use lib.ListN.{length, take, get_or}
 use Rattle.kinds.specs.Refusals.{order, ◌gives◌, differ}
 use Rattle.kinds.proofs.Refusing.{eq-differ, ne-differ}
-use Rattle.bindings.specs.Bindings.{list_length_lem}
+use Rattle.bindings.specs.Bindings.{list_length}
 use Rattle.bindings.specs.declared.Place.{Place}
 use Rattle.references.specs.References.{is_custom, reference_at, reference_answer, tail_place}
 use Rattle.references.specs.declared.Reference.{Reference}
@@ -61,7 +61,7 @@ module _ (reference : List ℕ) {x : Place} (own : x ≡ tail_place reference) w
 -- ---- the list of a live exporter, in the store
 
 module _ (ws s : List ℕ) (i : ℕ) (live : i < exporter_count ws) (kept : lists_kept (view (memory ws s)) ≡ true) where
-  bindings-size : length (get_or (exporters_of ws s) i no_exporter).bindings ≡ list_length_lem (list_from s i)
+  bindings-size : length (get_or (exporters_of ws s) i no_exporter).bindings ≡ list_length (list_from s i)
   bindings-size = rw (exporter-at ws s i no_exporter live) (list-size ws s kept i live)
 
   -- it lies in the store

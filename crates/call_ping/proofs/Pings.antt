@@ -7,7 +7,7 @@ use Rattle.lists.specs.Lists.{every}
 use Rattle.lists.proofs.Tests.{true-or-false}
 use Rattle.rules.specs.Entries.{PingSet, Entries, set_row, set_places}
 use Rattle.rules.specs.Calls.{Call, Edit}
-use Rattle.rules.specs.Rules.{no_set, set_of, is_live_set, is_live_object, too_many_lem, stale_sequence, refusals, number, next}
+use Rattle.rules.specs.Rules.{no_set, set_of, is_live_set, is_live_object, too_many, stale_sequence, refusals, number, next}
 use Rattle.rules.proofs.ByRow.{set-row}
 use Rattle.table_view.specs.View.{sets_of, memory, view}
 use Rattle.call_ping.specs.Pinging.{is_ping_set, early_rows, late_rows}
@@ -23,7 +23,7 @@ complex-rows : (s n : ℕ) (adds dels : List ℕ) (e : Entries)
     → number (Call.editing (Edit.complex_ping s n adds dels)) e ≡ order (passes (order (early_rows s n (length adds) (length dels) e)) ∷ not (every (is_live_object e) adds) gives 5 ∷ late_rows s e)
 unfolding number refusals order
 complex-rows s n adds dels e =
-    parts (too_many_lem adds) (too_many_lem dels) (eqb s 0) (not (is_live_set e s)) (stale_sequence (set_of e s).sequence n) (not (every (is_live_object e) adds))
+    parts (too_many adds) (too_many dels) (eqb s 0) (not (is_live_set e s)) (stale_sequence (set_of e s).sequence n) (not (every (is_live_object e) adds))
     (leb set_places (length e.sets)) (eqb e.next (2 ^ 64 - 1))
   where
     parts : (a d z g t l f u : Bool)

@@ -110,10 +110,10 @@ pub fn add_at(
     let counts = find::interface_counts(words, i, client as usize);
     let more_public = counts.public as u64 + public as u64;
     let more_private = counts.private as u64 + private as u64;
-    if 0x_f_f_f_f_f_f_f_f < more_public {
+    if 0xFFFFFFFF < more_public {
         return answer::COUNT_OVERFLOW;
     }
-    if 0x_f_f_f_f_f_f_f_f < more_private {
+    if 0xFFFFFFFF < more_private {
         return answer::COUNT_OVERFLOW;
     }
     set_counts(words, i, client, more_public as u32, more_private as u32);

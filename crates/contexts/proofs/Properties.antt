@@ -210,14 +210,14 @@ property-after s k =
 
 pub record PropertyWritable (p : Property) (x : List ℕ) (n : ℕ) : Type 0 where
   pub flags : is_property_flags p.flags ≡ true
-  pub small : length x ≤ 0x_f_f_f_f_f_f_f_f
+  pub small : length x ≤ 0xFFFFFFFF
   pub room : 40 + length x ≤ n
 
 pub property-writable : (p : Property) (x : List ℕ) (n : ℕ) → write_property_answer p x n ≡ 0 → PropertyWritable p x n
 unfolding write_property_answer
 property-writable p x n done =
     let a = passed (not (is_property_flags p.flags)) 14 _ (omega arith) done in
-    let b = passed (ltb 0x_f_f_f_f_f_f_f_f (length x)) 14 _ (omega arith) a.1 in
+    let b = passed (ltb 0xFFFFFFFF (length x)) 14 _ (omega arith) a.1 in
     let d = passed (ltb n (40 + length x)) 15 _ (omega arith) b.1 in
     record { flags = not-false _ a.0; small = ltb-false _ _ b.0; room = ltb-false _ _ d.0 }
 

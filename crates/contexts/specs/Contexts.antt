@@ -13,7 +13,7 @@ use Rattle.contexts.specs.declared.ReadProperty.{ReadProperty}
 
 -- {0000033b-0000-0000-c000-000000000046}, the context marshaler (000, section 1.9)
 abbrev pub context_marshaler : Guid
-context_marshaler = record { low = 0x33_b; high = 0x46000000000000_c0 }
+context_marshaler = record { low = 0x33B; high = 0x46000000000000C0 }
 
 abbrev pub is_marshaler : Guid → Bool
 is_marshaler g = eqb g.low context_marshaler.low && eqb g.high context_marshaler.high
@@ -157,7 +157,7 @@ unfoldable pub write_property_answer : Property → List ℕ → ℕ → ℕ
 write_property_answer p x n =
     order
     (not (is_property_flags p.flags) gives 14
-    ∷ ltb 0x_f_f_f_f_f_f_f_f (length x) gives 14
+    ∷ ltb 0xFFFFFFFF (length x) gives 14
     ∷ ltb n (40 + length x) gives 15
     ∷ [])
 

@@ -56,8 +56,8 @@ impl Property {
 pub fn is_marshaler(g: Guid) -> bool
     ensures { result ≡ is_marshaler g }
 {
-    if g.low == 0x33_b {
-        return g.high == 0x46000000000000_c0;
+    if g.low == 0x33B {
+        return g.high == 0x46000000000000C0;
     }
     false
 }
@@ -329,7 +329,7 @@ impl Property {
         if !is_property_flags(self.flags) {
             return answer::LAYOUT;
         }
-        if 0x_f_f_f_f_f_f_f_f < content.len() {
+        if 0xFFFFFFFF < content.len() {
             return answer::LAYOUT;
         }
         if n < 40 + content.len() {

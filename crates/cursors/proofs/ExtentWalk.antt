@@ -12,7 +12,7 @@ use Rattle.kinds.specs.Refusals.{order}
 use Rattle.kinds.proofs.Refusing.{same_test, passed, passed_on}
 use Rattle.lists.proofs.Tests.{true-or-false}
 use Rattle.fields.specs.Fields.{field, rounded}
-use Rattle.extensions.specs.Extensions.{size_at, next_at, extent_answer, extents_answer, start_of, count_at_lem, extents_start, extensions_count, extensions_answer, walk, no_extension, extension_from, extension_at}
+use Rattle.extensions.specs.Extensions.{size_at, next_at, extent_answer, extents_answer, start_of, count_at, extents_start, extensions_count, extensions_answer, walk, no_extension, extension_from, extension_at}
 use Rattle.extensions.specs.declared.Extension.{Extension}
 use Rattle.extensions.proofs.ArrayWalk.{walk-answer, held, accepted, extents-none, some-array}
 use Rattle.headers.specs.Headers.{this_walk, this_extension}
@@ -169,16 +169,16 @@ from-cursor s =
     (λ c g q k. stopped s c.pointer c.at c.left g q k)
 
 -- an accepted header has its extensions where the cursor says
-good_start : (s : List ℕ) (at : ℕ) → extensions_answer s at ≡ 0 → (field s at 4 ≡ 0 → ⊥) → Good s (at + 20) (extents_start s at) (count_at_lem s at)
+good_start : (s : List ℕ) (at : ℕ) → extensions_answer s at ≡ 0 → (field s at 4 ≡ 0 → ⊥) → Good s (at + 20) (extents_start s at) (count_at s at)
 good_start s at ok z =
     let a = accepted s at ok in
     let f = a.front z in (
       ⊎_elim
-          (λ t. (extents-none s (extents_start s at) (count_at_lem s at) (eqb-true _ _ t)).0)
+          (λ t. (extents-none s (extents_start s at) (count_at s at) (eqb-true _ _ t)).0)
           (λ n.
-          let q : count_at_lem s at ≡ 0 → ⊥ = eqb-false _ _ n in
+          let q : count_at s at ≡ 0 → ⊥ = eqb-false _ _ n in
           a.extents z (some-array s at 0 f (omega arith)))
-          (true-or-false (eqb (count_at_lem s at) 0)),
+          (true-or-false (eqb (count_at s at) 0)),
       λ h. let d = (a.counted z (some-array s at 0 f h)).room in omega arith,
     )
 
@@ -193,7 +193,7 @@ extensions-walked s at k ok =
     (λ f.
     let z : field s at 4 ≡ 0 → ⊥ = eqb-false _ _ f in
     rw (eq-eqb _ _ ok, f)
-    (from-cursor s (record { answer = 0; pointer = at + 20; at = extents_start s at; left = count_at_lem s at }) (good_start s at ok z) k))
+    (from-cursor s (record { answer = 0; pointer = at + 20; at = extents_start s at; left = count_at s at }) (good_start s at ok z) k))
     (true-or-false (eqb (field s at 4) 0))
 
 -- ---- of an ORPCTHIS

@@ -10,7 +10,7 @@ use lib.ListN.{length, length-append}
 use Rattle.kinds.proofs.Refusing.{true-false, by-test}
 use Rattle.lists.proofs.Tests.{true-or-false}
 use Rattle.fields.specs.Fields.{field}
-use Rattle.bindings.specs.Bindings.{words, first_binding, bindings_of, part_start, part_size, list_length_lem, refusal, place, binding_at, binding_from}
+use Rattle.bindings.specs.Bindings.{words, first_binding, bindings_of, part_start, part_size, list_length, refusal, place, binding_at, binding_from}
 use Rattle.bindings.specs.declared.Part.{Part}
 use Rattle.bindings.specs.declared.Part.TheVariants.{Strings, Security}
 use Rattle.bindings.specs.declared.Place.{Place}
@@ -151,7 +151,7 @@ module _ (s : List ℕ) (p : Part) (at n : ℕ) (there : at + 2 * n ≤ length s
 
 -- a part of an accepted list lies in it
 within : (s : List ℕ) (p : Part) → Accepted s → part_start s p + 2 * part_size s p ≤ length s
-unfolding list_length_lem
+unfolding list_length
 within s Strings a = let h = a.held in omega arith
 within s Security a = let h = a.held in omega arith
 

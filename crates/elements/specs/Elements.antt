@@ -7,7 +7,7 @@ use Rattle.fields.specs.Fields.{field, encode, guid_at, guid_bytes, zeros, all_z
 
 -- "MEOW"
 abbrev pub signature : ℕ
-signature = 0x574_f454_d
+signature = 0x574F454D
 
 abbrev pub is_nil : Guid → Bool
 is_nil g = eqb g.low 0 && eqb g.high 0

@@ -5,7 +5,7 @@ ghost use Rattle.elements.specs.Elements.{is_nil, is_reference, element_front, e
 use kinds::{Guid, answer};
 
 // "MEOW", the signature of a reference.
-pub const SIGNATURE: u32 = 0x574_f454_d;
+pub const SIGNATURE: u32 = 0x574F454D;
 
 // Whether both halves of an identifier are zero.
 pub fn is_nil(g: Guid) -> bool

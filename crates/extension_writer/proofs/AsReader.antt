@@ -12,7 +12,7 @@ use Rattle.kinds.proofs.Refusing.{true-false}
 use Rattle.fields.specs.Fields.{field, encode, zeros}
 use Rattle.fields.proofs.Fields.{length-encode, field-as}
 use Rattle.extensions.specs.Extensions.{pairs, Extent, Array, extents_bytes, pointers_bytes, pointed_bytes, array_bytes, pointers_answer}
-use Rattle.extensions.specs.Extensions.{count_at_lem, array_at, counted_answer, pointed_answer, front_answer, array_answer, extensions_answer}
+use Rattle.extensions.specs.Extensions.{count_at, array_at, counted_answer, pointed_answer, front_answer, array_answer, extensions_answer}
 use Rattle.extension_writer.specs.Writing.{entry_writable, extents_writable, writable}
 use Rattle.extension_writer.specs.Statements.{Fits, AllNarrow, WriterAsReader}
 use Rattle.bindings.proofs.ListBytes.{by_bool}
@@ -35,7 +35,7 @@ null-pointer s p (e ∷ es) rest h (AllNarrow.more n l ms) w d =
 -- the fields of an array
 record Own (s : List ℕ) (at : ℕ) (a : Array) (rest : List ℕ) : Type 0 where
   header : field s at 4 ≡ a.header
-  count : count_at_lem s at ≡ length a.extents
+  count : count_at s at ≡ length a.extents
   reserved : field s (at + 8) 4 ≡ 0
   pointer : array_at s at ≡ a.pointer
   room : at + 16 ≤ length s

@@ -13,7 +13,7 @@ use Rattle.kinds.proofs.Refusing.{true-false}
 use Rattle.fields.specs.Fields.{field, encode, guid_at, guid_bytes, GuidFits, all_zero, longest, rounded, zeros}
 use Rattle.fields.proofs.Fields.{length-encode, length-guid, field-as, guid-as, zeros-zero}
 use Rattle.extensions.specs.Extensions.{pairs, Extent, Array, extent_bytes, extents_bytes, pointers_bytes, pointed_bytes, array_bytes, padding_answer, pointers_answer}
-use Rattle.extensions.specs.Extensions.{size_at, next_at, extent_answer, extents_answer, start_of, extents_at, count_at_lem, array_at, extents_start, counted_answer}
+use Rattle.extensions.specs.Extensions.{size_at, next_at, extent_answer, extents_answer, start_of, extents_at, count_at, array_at, extents_start, counted_answer}
 use Rattle.extensions.specs.Extensions.{pointed_answer, front_answer, array_answer, extensions_answer, array_end, extensions_end, extensions_count, extensions_at}
 use Rattle.extension_writer.specs.Writing.{extents_writable, writable}
 use Rattle.extension_writer.specs.Statements.{AllFit, Fits, ReadAs, ReadBack}
@@ -139,7 +139,7 @@ null-read s at a rest h d w z =
 -- an array's own fields
 record Own (s : List ℕ) (at : ℕ) (a : Array) (rest : List ℕ) : Type 0 where
   header : field s at 4 ≡ a.header
-  count : count_at_lem s at ≡ length a.extents
+  count : count_at s at ≡ length a.extents
   pointer : array_at s at ≡ a.pointer
   front : front_answer s at ≡ 0
   room : at + 16 ≤ length s
@@ -160,7 +160,7 @@ own_read s at a rest h f l y d =
     let room : at + 16 ≤ length s = rw k at q.room in
     let eight : at + 8 ≤ length s = omega arith in
     let twelve : at + 12 ≤ length s = omega arith in
-    let count : count_at_lem s at ≡ n = field-as s (at + 4) 4 n c.here c.room (few n l).0 in
+    let count : count_at s at ≡ n = field-as s (at + 4) 4 n c.here c.room (few n l).0 in
     let reserved : field s (at + 8) 4 ≡ 0 = field-as s (at + 8) 4 0 r.here r.room (omega arith) in
     let pointer : array_at s at ≡ a.pointer = field-as s (at + 12) 4 a.pointer q.here q.room f.pointer in
     let some : (eqb a.pointer 0 && not (eqb n 0)) ≡ false =
@@ -177,10 +177,10 @@ own_read s at a rest h f l y d =
 -- what its pointer points to
 record Pointed (s : List ℕ) (at : ℕ) (es : List Extent) (rest : List ℕ) : Type 0 where
   answer : pointed_answer s at ≡ 0
-  same : extents_at s (at + 20) (extents_start s at) (count_at_lem s at) ≡ es
-  next : drop (start_of s (extents_start s at) (count_at_lem s at)) s ≡ rest
+  same : extents_at s (at + 20) (extents_start s at) (count_at s at) ≡ es
+  next : drop (start_of s (extents_start s at) (count_at s at)) s ≡ rest
 
-pointed-read : (s : List ℕ) (at : ℕ) (es : List Extent) (rest : List ℕ) → at + 16 ≤ length s → count_at_lem s at ≡ length es → length es ≤ 32 → extents_writable es ≡ true → AllFit es
+pointed-read : (s : List ℕ) (at : ℕ) (es : List Extent) (rest : List ℕ) → at + 16 ≤ length s → count_at s at ≡ length es → length es ≤ 32 → extents_writable es ≡ true → AllFit es
     → drop (at + 16) s ≡ pointed_bytes es ++ rest → Pointed s at es rest
 unfolding pointed_bytes pointed_answer counted_answer padding_answer order
 pointed-read s at es rest h c l w g d =
@@ -208,7 +208,7 @@ unfolding extensions_answer array_answer extensions_at extensions_end array_end 
 bare-read s at a rest z y n o =
     let room = o.room in
     let four : at + 4 ≤ length s = omega arith in
-    let none : count_at_lem s at ≡ 0 = o.count ∙ ap length n in
+    let none : count_at s at ≡ 0 = o.count ∙ ap length n in
     let p : array_at s at ≡ 0 = o.pointer ∙ y in
     record {
       answer = rw (le-leb _ _ four, o.header, ne_eqb _ _ z, o.front, p);

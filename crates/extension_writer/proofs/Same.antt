@@ -11,7 +11,7 @@ use lib.Seq.{drop-cons, length-take-le}
 use Rattle.kinds.proofs.Refusing.{passed, passed_on}
 use Rattle.fields.specs.Fields.{bytes_number, field, Bytes, longest}
 use Rattle.fields.proofs.Fields.{field_in, field_out}
-use Rattle.extensions.specs.Extensions.{pointers_answer, size_at, next_at, extents_answer, count_at_lem, array_at, extents_start, extensions_count, extents_at, extensions_at}
+use Rattle.extensions.specs.Extensions.{pointers_answer, size_at, next_at, extents_answer, count_at, array_at, extents_start, extensions_count, extents_at, extensions_at}
 use Rattle.extension_writer.specs.Writing.{entry_writable, extents_writable, writable}
 use Rattle.extension_writer.specs.Statements.{ReadIsWritable}
 use Rattle.bindings.proofs.ListBytes.{by_bool}
@@ -63,8 +63,8 @@ read-is-writable s at b done =
     (λ e.
     let z = eqb-false _ _ e in
     let f = a.front z in
-    let len = count-extents s (at + 20) (extents_start s at) (count_at_lem s at) in
-    let most : count_at_lem s at ≤ 32 = f.few in
+    let len = count-extents s (at + 20) (extents_start s at) (count_at s at) in
+    let most : count_at s at ≤ 32 = f.few in
     by_bool (eqb (array_at s at) 0)
     (λ t.
     let n = f.some (eqb-true _ _ t) in
@@ -73,4 +73,4 @@ read-is-writable s at b done =
     let y = eqb-false _ _ t in
     let i : at + 16 + 4 ≡ at + 20 = omega arith in
     let ps = rw i at (a.counted z y).pointers in
-    rw (e, len, t, le-leb _ _ most) (extents-writable s (at + 20) (extents_start s at) (count_at_lem s at) b ps (a.extents z y))))
+    rw (e, len, t, le-leb _ _ most) (extents-writable s (at + 20) (extents_start s at) (count_at s at) b ps (a.extents z y))))

@@ -34,7 +34,7 @@ fn entry_writable(pointer: u64, size: u64) -> bool
     if pointer == 0 {
         return false;
     }
-    if 0x_f_f_f_f_f_f_f_f < pointer {
+    if 0xFFFFFFFF < pointer {
         return false;
     }
     size <= fields::LONGEST

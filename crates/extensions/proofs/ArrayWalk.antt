@@ -12,8 +12,8 @@ use Rattle.kinds.proofs.Refusing.{true-false, by-test, differ-false, passed, pas
 use Rattle.lists.proofs.Tests.{and_left, and_right}
 use Rattle.fields.specs.Fields.{field, all_zero, rounded}
 use Rattle.extensions.specs.Extensions.{pairs, padding_answer, pointers_answer, size_at, extent_answer, next_at, extents_answer, start_of}
-use Rattle.extensions.specs.Extensions.{count_at_lem, array_at, extents_start, counted_answer, extensions_count, no_extension, pointed_answer, front_answer}
-use Rattle.extensions.specs.Extensions.{array_answer, extensions_answer, array_end, extensions_end, walked_to_lem, walk, extension_from, extension_at}
+use Rattle.extensions.specs.Extensions.{count_at, array_at, extents_start, counted_answer, extensions_count, no_extension, pointed_answer, front_answer}
+use Rattle.extensions.specs.Extensions.{array_answer, extensions_answer, array_end, extensions_end, walked_to, walk, extension_from, extension_at}
 use Rattle.extensions.specs.declared.Extension.{Extension}
 use Rattle.extensions.specs.declared.Walked.{Walked}
 
@@ -22,16 +22,16 @@ both_true a b e = (and_left a b e, and_right a b e)
 
 -- ---- an answer and an end
 
-pub walked_stop : {r : ℕ} (n to : ℕ) → r ≡ n → (r ≡ 0 → ⊥) → ◌≡◌ {A = Walked} (record { answer = r; to = 0 }) (walked_to_lem n to)
+pub walked_stop : {r : ℕ} (n to : ℕ) → r ≡ n → (r ≡ 0 → ⊥) → ◌≡◌ {A = Walked} (record { answer = r; to = 0 }) (walked_to n to)
 walked_stop {r} n to e h = rw (← e, ne_eqb r 0 h)
 
-pub walked-done : {r : ℕ} (n to : ℕ) → n ≡ 0 → r ≡ to → ◌≡◌ {A = Walked} (record { answer = 0; to = r }) (walked_to_lem n to)
+pub walked-done : {r : ℕ} (n to : ℕ) → n ≡ 0 → r ≡ to → ◌≡◌ {A = Walked} (record { answer = 0; to = r }) (walked_to n to)
 walked-done {r} n to e h = rw (e, h)
 
-pub walked-answer : (n to : ℕ) → (walked_to_lem n to).answer ≡ n
+pub walked-answer : (n to : ℕ) → (walked_to n to).answer ≡ n
 walked-answer n to = by-test (λ (x : Walked). x.answer ≡ n) (eqb n 0) _ _ (λ e. sym (eqb-true _ _ e)) (λ e. refl)
 
-pub walked_to_lem : (n to : ℕ) → n ≡ 0 → (walked_to_lem n to).to ≡ to
+pub walked_to_lem : (n to : ℕ) → n ≡ 0 → (walked_to n to).to ≡ to
 walked_to_lem n to e = rw e
 
 -- ---- pointers
@@ -194,11 +194,11 @@ counted s at n done =
 -- ---- the array
 
 module _ (s : List ℕ) (at : ℕ) where
-  pub pointed-stop : (counted_answer s (at + 16) (count_at_lem s at) ≡ 0 → ⊥) → pointed_answer s at ≡ counted_answer s (at + 16) (count_at_lem s at)
+  pub pointed-stop : (counted_answer s (at + 16) (count_at s at) ≡ 0 → ⊥) → pointed_answer s at ≡ counted_answer s (at + 16) (count_at s at)
   unfolding pointed_answer order
   pointed-stop e = rw (ne_eqb _ _ e)
 
-  pub pointed-rest : counted_answer s (at + 16) (count_at_lem s at) ≡ 0 → pointed_answer s at ≡ extents_answer s (extents_start s at) (count_at_lem s at)
+  pub pointed-rest : counted_answer s (at + 16) (count_at s at) ≡ 0 → pointed_answer s at ≡ extents_answer s (extents_start s at) (count_at s at)
   unfolding pointed_answer order
   pointed-rest e = rw e (last_row _)
 
@@ -207,11 +207,11 @@ module _ (s : List ℕ) (at : ℕ) where
   array-stop e = rw (ne_eqb _ _ e)
 
   module _ (front : front_answer s at ≡ 0) where
-    pub array-null : array_at s at ≡ 0 → walked_to_lem (array_answer s at) (array_end s at) ≡ record { answer = 0; to = at + 16 }
+    pub array-null : array_at s at ≡ 0 → walked_to (array_answer s at) (array_end s at) ≡ record { answer = 0; to = at + 16 }
     unfolding array_answer array_end order
     array-null e = rw (front, e)
 
-    pub array-rest : (array_at s at ≡ 0 → ⊥) → walked_to_lem (array_answer s at) (array_end s at) ≡ walked_to_lem (pointed_answer s at) (start_of s (extents_start s at) (count_at_lem s at))
+    pub array-rest : (array_at s at ≡ 0 → ⊥) → walked_to (array_answer s at) (array_end s at) ≡ walked_to (pointed_answer s at) (start_of s (extents_start s at) (count_at s at))
     unfolding array_answer array_end order
     array-rest e = rw (front, ne_eqb _ _ e, last_row (pointed_answer s at))
 
@@ -224,16 +224,16 @@ module _ (s : List ℕ) (at : ℕ) where
     unfolding walk extensions_answer extensions_end order
     walk-null e = rw (room, e)
 
-    pub walk-rest : (field s at 4 ≡ 0 → ⊥) → walk s at ≡ walked_to_lem (array_answer s at) (array_end s at)
+    pub walk-rest : (field s at 4 ≡ 0 → ⊥) → walk s at ≡ walked_to (array_answer s at) (array_end s at)
     unfolding walk extensions_answer extensions_end order
     walk-rest e = rw (room, ne_eqb _ _ e, last_row (array_answer s at))
 
 -- what an answer 0 of the array's own fields says
 pub record Fronted (s : List ℕ) (at : ℕ) : Type 0 where
   pub room : at + 16 ≤ length s
-  pub few : count_at_lem s at ≤ 32
+  pub few : count_at s at ≤ 32
   pub reserved : field s (at + 8) 4 ≡ 0
-  pub some : array_at s at ≡ 0 → count_at_lem s at ≡ 0
+  pub some : array_at s at ≡ 0 → count_at s at ≡ 0
 
 and-false : (a b : Bool) → (a && b) ≡ false → a ≡ true → b ≡ false
 and-false true b e h = e
@@ -243,11 +243,11 @@ pub fronted : (s : List ℕ) (at : ℕ) → front_answer s at ≡ 0 → Fronted 
 unfolding front_answer
 fronted s at done =
     let a = passed (not (leb (at + 8) (length s))) 13 _ (omega arith) done in
-    let b = passed (ltb 32 (count_at_lem s at)) 14 _ (omega arith) a.1 in
+    let b = passed (ltb 32 (count_at s at)) 14 _ (omega arith) a.1 in
     let d = passed (not (leb (at + 12) (length s))) 13 _ (omega arith) b.1 in
     let e = passed (differ (field s (at + 8) 4) 0) 14 _ (omega arith) d.1 in
     let f = passed (not (leb (at + 16) (length s))) 13 _ (omega arith) e.1 in
-    let g = passed (eqb (array_at s at) 0 && differ (count_at_lem s at) 0) 14 _ (omega arith) f.1 in
+    let g = passed (eqb (array_at s at) 0 && differ (count_at s at) 0) 14 _ (omega arith) f.1 in
     record {
       room = leb-true _ _ (not-false _ f.0);
       few = ltb-false _ _ b.0;
@@ -264,8 +264,8 @@ walk-answer s at = walked-answer _ _
 pub record Accepted (s : List ℕ) (at : ℕ) : Type 0 where
   pub room : at + 4 ≤ length s
   pub front : (field s at 4 ≡ 0 → ⊥) → Fronted s at
-  pub counted : (field s at 4 ≡ 0 → ⊥) → (array_at s at ≡ 0 → ⊥) → Counted s (at + 16) (count_at_lem s at)
-  pub extents : (field s at 4 ≡ 0 → ⊥) → (array_at s at ≡ 0 → ⊥) → extents_answer s (extents_start s at) (count_at_lem s at) ≡ 0
+  pub counted : (field s at 4 ≡ 0 → ⊥) → (array_at s at ≡ 0 → ⊥) → Counted s (at + 16) (count_at s at)
+  pub extents : (field s at 4 ≡ 0 → ⊥) → (array_at s at ≡ 0 → ⊥) → extents_answer s (extents_start s at) (count_at s at) ≡ 0
 
 behind : (s : List ℕ) (at : ℕ) → extensions_answer s at ≡ 0 → (field s at 4 ≡ 0 → ⊥) → array_answer s at ≡ 0
 unfolding extensions_answer
@@ -278,12 +278,12 @@ own : (s : List ℕ) (at : ℕ) → array_answer s at ≡ 0 → front_answer s a
 unfolding array_answer
 own s at done = (passed_on _ _ done).0
 
-pointed : (s : List ℕ) (at : ℕ) → array_answer s at ≡ 0 → (array_at s at ≡ 0 → ⊥) → (counted_answer s (at + 16) (count_at_lem s at) ≡ 0) × (extents_answer s (extents_start s at) (count_at_lem s at) ≡ 0)
+pointed : (s : List ℕ) (at : ℕ) → array_answer s at ≡ 0 → (array_at s at ≡ 0 → ⊥) → (counted_answer s (at + 16) (count_at s at) ≡ 0) × (extents_answer s (extents_start s at) (count_at s at) ≡ 0)
 unfolding array_answer pointed_answer
 pointed s at done y =
     let a = passed_on (front_answer s at) _ done in
     let d : cond (eqb (array_at s at) 0) 0 (pointed_answer s at) ≡ 0 = (passed_on _ _ a.1).0 in
-    let b = passed_on (counted_answer s (at + 16) (count_at_lem s at)) _ (rw (ne_eqb _ _ y) at d) in
+    let b = passed_on (counted_answer s (at + 16) (count_at s at)) _ (rw (ne_eqb _ _ y) at d) in
     (b.0, (passed_on _ _ b.1).0)
 
 within : (s : List ℕ) (at : ℕ) → extensions_answer s at ≡ 0 → at + 4 ≤ length s
@@ -295,7 +295,7 @@ accepted s at done =
     record {
       room = within s at done;
       front = λ z. fronted s at (own s at (behind s at done z));
-      counted = λ z y. counted s (at + 16) (count_at_lem s at) (pointed s at (behind s at done z) y).0;
+      counted = λ z y. counted s (at + 16) (count_at s at) (pointed s at (behind s at done z) y).0;
       extents = λ z y. (pointed s at (behind s at done z) y).1;
     }
 
@@ -313,7 +313,7 @@ unfolding start_of
 start-held s at n zero h e = (extents-first s at n (omega arith) e).0
 start-held s at n (suc k) h e = start-held s (next_at s at) (n - 1) k (omega arith) (extents-first s at n (omega arith) e).1
 
-pub some-array : (s : List ℕ) (at k : ℕ) → Fronted s at → k < count_at_lem s at → array_at s at ≡ 0 → ⊥
+pub some-array : (s : List ℕ) (at k : ℕ) → Fronted s at → k < count_at s at → array_at s at ≡ 0 → ⊥
 some-array s at k f h z = let e = f.some z in omega arith
 
 pub record Lies (n : ℕ) (x : Extension) : Type 0 where
@@ -333,14 +333,14 @@ lies s at k =
     by-test (Lies (length s)) (eqb (extensions_answer s at) 0) _ _
     (λ e.
     let a = accepted s at (eqb-true _ _ e) in
-    by-test (λ (n : ℕ). Lies (length s) (cond (ltb k n) (extension_from s (at + 20) (extents_start s at) k) (no_extension 24))) (eqb (field s at 4) 0) 0 (count_at_lem s at)
+    by-test (λ (n : ℕ). Lies (length s) (cond (ltb k n) (extension_from s (at + 20) (extents_start s at) k) (no_extension 24))) (eqb (field s at 4) 0) 0 (count_at s at)
     (λ z. rw (le-ltb k 0 (omega arith)) (lies-none _ _))
     (λ z.
     let y = eqb-false _ _ z in
-    by-test (Lies (length s)) (ltb k (count_at_lem s at)) _ _
+    by-test (Lies (length s)) (ltb k (count_at s at)) _ _
     (λ t.
-    let q = ltb-true k (count_at_lem s at) t in
+    let q = ltb-true k (count_at s at) t in
     let w = some-array s at k (a.front y) q in
-    lies-from s (at + 20) (extents_start s at) (count_at_lem s at) k q (a.extents y w))
+    lies-from s (at + 20) (extents_start s at) (count_at s at) k q (a.extents y w))
     (λ t. lies-none _ _)))
     (λ e. lies-none _ _)

@@ -13,7 +13,7 @@ use Rattle.fields.specs.Fields.{field, encode, guid_at, guid_bytes, Bytes, all_z
 use Rattle.fields.proofs.Fields.{field_next, guid-then, zero-zeros}
 use Rattle.bindings.proofs.ListBytes.{by_bool}
 use Rattle.extensions.specs.Extensions.{pairs, Extent, extent_bytes, extents_bytes, pointers_bytes, pointed_bytes, array_bytes, size_at, next_at, extents_answer, start_of}
-use Rattle.extensions.specs.Extensions.{count_at_lem, array_at, extents_start, array_end, extensions_answer, extensions_end, extensions_count, extents_at, extensions_at, extension_from, extension_at}
+use Rattle.extensions.specs.Extensions.{count_at, array_at, extents_start, array_end, extensions_answer, extensions_end, extensions_count, extents_at, extensions_at, extension_from, extension_at}
 use Rattle.extensions.specs.Statements.{BytesBack, OneForm, Shows, ExtensionK}
 use Rattle.extensions.proofs.ArrayWalk.{Held, held, Accepted, accepted, extents-first}
 
@@ -79,11 +79,11 @@ module _ (s : List ℕ) (at : ℕ) (b : Bytes s) (done : extensions_answer s at 
   ok = accepted s at done
 
   pointed-back : (field s at 4 ≡ 0 → ⊥) → (array_at s at ≡ 0 → ⊥)
-      → drop (at + 16) s ≡ pointed_bytes (extents_at s (at + 20) (extents_start s at) (count_at_lem s at)) ++ drop (start_of s (extents_start s at) (count_at_lem s at)) s
+      → drop (at + 16) s ≡ pointed_bytes (extents_at s (at + 20) (extents_start s at) (count_at s at)) ++ drop (start_of s (extents_start s at) (count_at s at)) s
   unfolding pointed_bytes
   pointed-back z y =
       let c = ok.counted z y in
-      let n = count_at_lem s at in
+      let n = count_at s at in
       let es = extents_at s (at + 20) (extents_start s at) n in
       let end = drop (start_of s (extents_start s at) n) s in
       let room = c.room in
@@ -100,13 +100,13 @@ module _ (s : List ℕ) (at : ℕ) (b : Bytes s) (done : extensions_answer s at 
 
   -- the array's own fields before what its pointer points to
   own_back : (field s at 4 ≡ 0 → ⊥) → (rest : List ℕ) → drop (at + 16) s ≡ rest
-      → drop at s ≡ encode 4 (field s at 4) ++ (encode 4 (count_at_lem s at) ++ (encode 4 0 ++ (encode 4 (array_at s at) ++ rest)))
+      → drop at s ≡ encode 4 (field s at 4) ++ (encode 4 (count_at s at) ++ (encode 4 0 ++ (encode 4 (array_at s at) ++ rest)))
   own_back z rest e =
       let f = ok.front z in
       let room = f.room in
       let p : drop (at + 12) s ≡ encode 4 (array_at s at) ++ rest = field_next s (at + 12) 4 (at + 16) rest b (omega arith) room e in
       let r : drop (at + 8) s ≡ encode 4 (field s (at + 8) 4) ++ (encode 4 (array_at s at) ++ rest) = field_next s (at + 8) 4 (at + 12) _ b (omega arith) (omega arith) p in
-      let c : drop (at + 4) s ≡ encode 4 (count_at_lem s at) ++ (encode 4 (field s (at + 8) 4) ++ (encode 4 (array_at s at) ++ rest)) = field_next s (at + 4) 4 (at + 8) _ b (omega arith) (omega arith) r in
+      let c : drop (at + 4) s ≡ encode 4 (count_at s at) ++ (encode 4 (field s (at + 8) 4) ++ (encode 4 (array_at s at) ++ rest)) = field_next s (at + 4) 4 (at + 8) _ b (omega arith) (omega arith) r in
       rw f.reserved at (field_next s at 4 (at + 4) _ b refl (omega arith) c)
 
   layout-back : drop at s ≡ array_bytes (extensions_at s at) ++ drop (extensions_end s at) s
@@ -120,10 +120,10 @@ module _ (s : List ℕ) (at : ℕ) (b : Bytes s) (done : extensions_answer s at 
       let f = ok.front z in
       by_bool (eqb (array_at s at) 0)
       (λ t.
-      let len = count-extents s (at + 20) (extents_start s at) (count_at_lem s at) in
+      let len = count-extents s (at + 20) (extents_start s at) (count_at s at) in
       rw (e, t, len) (own_back z _ refl ∙ simp (append_assoc, append-nil)))
       (λ t.
-      let len = count-extents s (at + 20) (extents_start s at) (count_at_lem s at) in
+      let len = count-extents s (at + 20) (extents_start s at) (count_at s at) in
       rw (e, t, len) (own_back z _ (pointed-back z (eqb-false _ _ t)) ∙ simp append_assoc)))
 
 pub bytes_back : BytesBack
@@ -153,7 +153,7 @@ end-within s at done =
     let y = eqb-false _ _ t in
     let r = (a.counted z y).room in
     let h : extents_start s at ≤ length s = omega arith in
-    start-within s (extents_start s at) (count_at_lem s at) h (a.extents z y)))
+    start-within s (extents_start s at) (count_at s at) h (a.extents z y)))
 
 module _ (s : List ℕ) (at : ℕ) (b : Bytes s) (done : extensions_answer s at ≡ 0) where
   -- the header's length is that of its layout

@@ -38,7 +38,7 @@ rounded n = (n + 7) / 8 * 8
 
 -- the largest size whose rounded size fits four bytes
 abbrev pub longest : ℕ
-longest = 0x_f_f_f_f_f_f_f8
+longest = 0xFFFFFFF8
 
 -- the identifier in the 16 bytes from at
 abbrev pub guid_at : List ℕ → ℕ → Guid

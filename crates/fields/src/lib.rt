@@ -14,7 +14,7 @@ pub struct Written {
 }
 
 // The largest size whose rounded size fits four bytes.
-pub const LONGEST: u64 = 0x_f_f_f_f_f_f_f8;
+pub const LONGEST: u64 = 0xFFFFFFF8;
 
 // A size rounded up to a multiple of 8.
 pub fn rounded(n: u32) -> u64

@@ -77,15 +77,15 @@ quiet-count h seen zero q = inl refl
 quiet-count h seen (suc n) q = inr (below h seen n q)
 
 -- one byte
-abbrev quiet_step_lem : Reading → ℕ → Reading
-quiet_step_lem r b =
+abbrev quiet_step : Reading → ℕ → Reading
+quiet_step r b =
     let f = r.state in
     record {
       state = record { head = set f.head f.seen b; kept = f.kept; seen = f.seen + 1; low = b; mode = f.mode; over = f.over };
       waiting = r.waiting;
     }
 
-quiet_step_lem : (r : Reading) (b n : ℕ) → Quiet r.state.head r.state.seen (suc n) → step r b ≡ quiet_step_lem r b
+quiet_step_lem : (r : Reading) (b n : ℕ) → Quiet r.state.head r.state.seen (suc n) → step r b ≡ quiet_step r b
 unfolding step step_in step_head
 quiet_step_lem r b n q =
     let m = below r.state.head r.state.seen n q in
@@ -106,7 +106,7 @@ quiet-pushed (b ∷ bs) r size q =
     let head = rw (add-zero seen, p) at (written-more h seen 0 b bs room) in
     let count : seen + 1 + length bs ≡ seen + suc (length bs) = omega arith in
     rw (quiet_step_lem r b (length bs) q)
-    (quiet-pushed bs (quiet_step_lem r b) (length-set h seen b ∙ size) (quiet_next h seen (length bs) q b size)
+    (quiet-pushed bs (quiet_step r b) (length-set h seen b ∙ size) (quiet_next h seen (length bs) q b size)
     ∙ (rw (head, count, low-more r.state.low b bs)))
 
 -- ---- for the code: f is the state after the bytes before at

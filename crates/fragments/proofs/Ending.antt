@@ -12,12 +12,12 @@ use Rattle.kinds.specs.Refusals.{Row, ◌gives◌, differ, passes, order}
 use Rattle.kinds.proofs.Refusing.{by-test, same_test, true-false, or-false, differ-false, passed, passed_on, last_row}
 use Rattle.fields.specs.Fields.{field, Bytes, guid_at, stored}
 use Rattle.fields.proofs.Fields.{drop-bytes, field-drop, take_rest}
-use Rattle.bindings.specs.Bindings.{joined, count, split, two_parts, list_length_lem, front_answer, list_answer}
+use Rattle.bindings.specs.Bindings.{joined, count, split, two_parts, list_length, front_answer, list_answer}
 use Rattle.bindings.proofs.ListBytes.{by_bool, field_bound}
 use Rattle.contexts.specs.Contexts.{is_marshaler}
 use Rattle.elements.specs.Elements.{signature}
 use Rattle.references.specs.References.{is_form, is_custom, is_extended, fixed_size, reference_at, head_answer, object_answer}
-use Rattle.references.specs.References.{plain_answer, form_answer, layout_by, layout_answer, names_nil, reference_answer, tail_of_lem}
+use Rattle.references.specs.References.{plain_answer, form_answer, layout_by, layout_answer, names_nil, reference_answer, tail_of}
 use Rattle.references.proofs.Forms.{size-most, Headed, headed, accepted, tail-start, tail-end}
 use Rattle.list_walk.specs.Walk.{both_closed}
 use Rattle.fragments.specs.Fragments.{AnyCuts, AsRead, Reading, is_plain, is_nil_reference, plain_reference, plain_tail, whole_answer, finished_by, list_end, read_end, end_answer, finished, final_after}
@@ -111,9 +111,9 @@ module _ (l : ℕ) (s : List ℕ) (r : Reading) (f : Follows l s r) (bytes : Byt
       )
 
   -- all words have come
-  closed_parts : is_custom (field s 4 4) ≡ false → list_length_lem (drop (fixed_size (field s 4 4)) s) ≤ length (drop (fixed_size (field s 4 4)) s)
+  closed_parts : is_custom (field s 4 4) ≡ false → list_length (drop (fixed_size (field s 4 4)) s) ≤ length (drop (fixed_size (field s 4 4)) s)
       → both_closed (count (drop (fixed_size (field s 4 4)) s)) (split (drop (fixed_size (field s 4 4)) s)) r.state.mode ≡ two_parts (drop (fixed_size (field s 4 4)) s)
-  unfolding list_length_lem walk_of
+  unfolding list_length walk_of
   closed_parts c h =
       let t = drop (fixed_size (field s 4 4)) s in
       let m : r.state.mode ≡ walk_of t = f.mode ∙ (rw (flags, ne_eqb _ _ (nonzero-form (field s 4 4) named), c)) in
@@ -122,7 +122,7 @@ module _ (l : ℕ) (s : List ℕ) (r : Reading) (f : Follows l s r) (bytes : Byt
 
   pub list-end : is_custom (field s 4 4) ≡ false
       → list_end r.state.head (fixed_size (field s 4 4)) (r.state.seen - fixed_size (field s 4 4)) r.state.mode ≡ list_answer (drop (fixed_size (field s 4 4)) s)
-  unfolding list_end list_answer front_answer list_length_lem
+  unfolding list_end list_answer front_answer list_length
   list-end c =
       let t = drop (fixed_size (field s 4 4)) s in
       let bound = field_bound t 0 (drop-bytes s (fixed_size (field s 4 4)) bytes) in
@@ -133,11 +133,11 @@ module _ (l : ℕ) (s : List ℕ) (r : Reading) (f : Follows l s r) (bytes : Byt
       rw (h.0, h.1)
       (same_row _ _ _ _ 13 (below (4 + 2 * count t) (omega arith))
       (λ e2.
-      let room : list_length_lem t ≤ length t = ltb-false _ _ e2 in
+      let room : list_length t ≤ length t = ltb-false _ _ e2 in
       same_row _ _ _ _ 14 (ap not (closed_parts c room))
       (λ e3. same_row _ _ _ _ 14 (above (4 + 2 * count t) (omega arith)) (λ _. refl) ∙ sym (pass-none _))
       ∙ sym (pass-rows (not (two_parts t)) 14 _ _ (omega arith)))
-      ∙ sym (pass-rows (ltb (length t) (list_length_lem t)) 13 _ _ (omega arith))))
+      ∙ sym (pass-rows (ltb (length t) (list_length t)) 13 _ _ (omega arith))))
       ∙ sym (pass-rows (ltb (length t) 4) 13 _ _ (omega arith))
 
   -- the fixed fields
@@ -442,7 +442,7 @@ as_number s x m =
     (λ c. plain-custom s x c ∙ read-other s x c (rw c at m))
     (plain-listed s x)
 
-as-tail : (s : List ℕ) → is_extended (field s 4 4) ≡ false → reference_answer s ≡ 0 → plain_tail s ≡ tail_of_lem s
+as-tail : (s : List ℕ) → is_extended (field s 4 4) ≡ false → reference_answer s ≡ 0 → plain_tail s ≡ tail_of s
 as-tail s x done =
     rw (tail-start s done, tail-end s done, x) (sym (take_rest s (fixed_size (field s 4 4))))
 

@@ -17,7 +17,7 @@ use Rattle.lists.proofs.Distinct.{eqb-decides, some-same-keep}
 use Rattle.rules.specs.Entries.{Object, PingSet, Entries, set_numbers, with_next, with_objects, with_sets, heard_at, pinged_at, with_sequence, with_members}
 use Rattle.rules.specs.Calls.{editing, simple_ping, complex_ping}
 use Rattle.rules.specs.Sound.{sound}
-use Rattle.rules.specs.Rules.{number, next, refusals, is_live_set, no_set, set_of, too_many_lem, at_set, ping, new_members, make_set}
+use Rattle.rules.specs.Rules.{number, next, refusals, is_live_set, no_set, set_of, too_many, at_set, ping, new_members, make_set}
 use Rattle.rules.proofs.Groups.{grouped, sound-grouped}
 use Rattle.rules.proofs.PingingKeeps.{set-made}
 use Rattle.history.specs.History.{remaining, ObjectLife, SetLife, History, at_zero, interfaces_at_zero, exporter_removed, unheard, object_gone, live_exporters}
@@ -322,7 +322,7 @@ made-live e =
 complex-accepted : (e : Entries) (s n : ℕ) (adds dels : List ℕ) → eqb s 0 ≡ false → number (editing (complex_ping s n adds dels)) e ≡ 0 → is_live_set e s ≡ true
 unfolding number refusals
 complex-accepted e s n adds dels z a =
-    let r = (passed (too_many_lem adds || too_many_lem dels) 10 _ (omega arith) a).1 in
+    let r = (passed (too_many adds || too_many dels) 10 _ (omega arith) a).1 in
     not-false (is_live_set e s) (passed _ 11 _ (omega arith) (rw z at r)).0
 
 -- complex ping

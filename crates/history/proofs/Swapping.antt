@@ -21,7 +21,7 @@ use Rattle.rules.proofs.Stepping.{reply-number}
 use Rattle.rules.proofs.Swapping.{snapshot-fields, swaps, loads}
 use Rattle.table_view.specs.View.{view, sound_memory, Performed}
 use Rattle.table_view.proofs.Fitting.{view-fits}
-use Rattle.history.specs.Swapping.{LoadsExactly, written_in_lem, BoxesSwap}
+use Rattle.history.specs.Swapping.{LoadsExactly, written_in, BoxesSwap}
 use Rattle.history.proofs.Runs.{fit-reply, accepted-fits, accepted-reply, replied}
 
 -- the number of a load, by whether the bytes are a snapshot
@@ -67,12 +67,12 @@ unfolding reply number refusals results accepted_reply refused_reply
 write-alike b e f q = rw q
 
 -- an accepted write is of the snapshot
-written-front : (b : List ℕ) (e : Entries) (w : Reply) → w ≡ reply (looking (write_snapshot b)) e → w.number ≡ 0 → written_in_lem w ≡ snapshot_bytes e
+written-front : (b : List ℕ) (e : Entries) (w : Reply) → w ≡ reply (looking (write_snapshot b)) e → w.number ≡ 0 → written_in w ≡ snapshot_bytes e
 unfolding reply results accepted_reply
 written-front b e w a z =
     let n : number (looking (write_snapshot b)) e ≡ 0 = sym (reply-number (looking (write_snapshot b)) e) ∙ sym (ap (λ (q : Reply). q.number) a) ∙ z in
     let d : w ≡ accepted_reply (looking (write_snapshot b)) e = a ∙ rw n in
-    ap written_in_lem d ∙ take_at (snapshot_bytes e) (drop (length (snapshot_bytes e)) b) (length (snapshot_bytes e)) refl
+    ap written_in d ∙ take_at (snapshot_bytes e) (drop (length (snapshot_bytes e)) b) (length (snapshot_bytes e)) refl
 
 pub boxes-swap : BoxesSwap
 boxes-swap b m m' n n' w r l p z ww ws q =
@@ -80,8 +80,8 @@ boxes-swap b m m' n n' w r l p z ww ws q =
     let a = accepted-reply (looking (write_snapshot b)) m m' w p z in
     let x = written-front b (view m) w a z in
     let c = swaps (view m) (table-fields view m t).entries (view-fits m l) in
-    let y = answered-number (written_in_lem w) n n' r ww ws q ∙ ap (λ (s : List ℕ). number_by (is_snapshot s)) x ∙ ap number_by c.accepted in
-    let v = left (written_in_lem w) n n' r ww ws q y ∙ ap entries_of x ∙ c.entries in
+    let y = answered-number (written_in w) n n' r ww ws q ∙ ap (λ (s : List ℕ). number_by (is_snapshot s)) x ∙ ap number_by c.accepted in
+    let v = left (written_in w) n n' r ww ws q y ∙ ap entries_of x ∙ c.entries in
     record {
       loaded = y;
       entries = v;

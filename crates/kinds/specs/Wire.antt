@@ -8,6 +8,6 @@ wire_code n =
     (cond (eqb n 4) 1910
     (cond (eqb n 5) 1911
     (cond (eqb n 11) 1912
-    (cond (eqb n 6) 0x800401_f_b
+    (cond (eqb n 6) 0x800401FB
     (cond (eqb n 16) 0x80010110
     0x80004005)))))

@@ -9,7 +9,7 @@ use lib.Dec.{eqb, ltb}
 use lib.ListN.{length}
 use Rattle.kinds.proofs.Refusing.{by-test, or-false, passed, passed_on}
 use Rattle.fields.specs.declared.Written.{Written}
-use Rattle.bindings.specs.Bindings.{front_answer, list_length_lem}
+use Rattle.bindings.specs.Bindings.{front_answer, list_length}
 use Rattle.list_writer.specs.Writing.{fits, made_list, write_list_answer, write_list}
 use Rattle.contexts.specs.Contexts.{is_property_flags, properties_answer, write_property_answer, write_property, write_context_answer, write_context}
 use Rattle.contexts.specs.declared.Context.{Context}
@@ -26,13 +26,13 @@ use Rattle.headers.specs.Headers.{highest_minor, this_written, this_writing, tha
 use Rattle.headers.specs.declared.OrpcThis.{OrpcThis}
 use Rattle.places.specs.Lengths.{LengthsInside}
 
-front_length_lem : (s : List ℕ) → cond (eqb (front_answer s) 0) (list_length_lem s) 0 ≤ length s
+front_length_lem : (s : List ℕ) → cond (eqb (front_answer s) 0) (list_length s) 0 ≤ length s
 unfolding front_answer
 front_length_lem s =
     by-test (λ (x : ℕ). x ≤ length s) (eqb (front_answer s) 0) _ _
     (λ t.
     let a = passed (ltb (length s) 4) 13 _ (omega arith) (eqb-true _ _ t) in
-    let b = passed (ltb (length s) (list_length_lem s)) 13 _ (omega arith) a.1 in
+    let b = passed (ltb (length s) (list_length s)) 13 _ (omega arith) a.1 in
     ltb-false _ _ b.0)
     (λ f. omega arith)
 
@@ -52,7 +52,7 @@ property-length p x n =
     by-test (λ (r : Written). r.length ≤ n) (eqb (write_property_answer p x n) 0) _ _
     (λ t.
     let a = passed (not (is_property_flags p.flags)) 14 _ (omega arith) (eqb-true _ _ t) in
-    let b = passed (ltb 0x_f_f_f_f_f_f_f_f (length x)) 14 _ (omega arith) a.1 in
+    let b = passed (ltb 0xFFFFFFFF (length x)) 14 _ (omega arith) a.1 in
     let c = passed (ltb n (40 + length x)) 15 _ (omega arith) b.1 in
     ltb-false _ _ c.0)
     (λ f. omega arith)

@@ -37,4 +37,4 @@ unfolding value_answer tail_answer order
 too_long_lem r t x e z l = rw (e, z, long-given _ r.element x l)
 
 pub writer-refuses : WriterRefuses
-writer-refuses = record { flags = other-flags; list = broken-list; too_long_lem = too_long_lem }
+writer-refuses = record { flags = other-flags; list = broken-list; too_long = too_long_lem }

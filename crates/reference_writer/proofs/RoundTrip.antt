@@ -14,11 +14,11 @@ use Rattle.kinds.specs.declared.Guid.{Guid}
 use Rattle.kinds.proofs.Refusing.{by-test, eq-differ, accepted-by, passed, passed_on, last_row}
 use Rattle.fields.specs.Fields.{field, encode, guid_at, guid_bytes, stored, Bytes, GuidFits, rounded, longest}
 use Rattle.fields.proofs.Fields.{guid-fits, field_bound, drop-bytes, part_of, field-part, guid-part, field-then, field_next, guid-then, take_rest, written-front, field-drop}
-use Rattle.bindings.specs.Bindings.{list_length_lem, front_answer, list_answer}
+use Rattle.bindings.specs.Bindings.{list_length, front_answer, list_answer}
 use Rattle.bindings.proofs.ListAnswers.{list-front, list-front-length, front-list}
 use Rattle.references.specs.References.{no_guid, no_block, block_at, extended_signature, is_form, is_extended, fixed_size, list_end, element_start, content_start}
 use Rattle.references.specs.References.{content_length, content_of, reference_at, head_answer, object_answer, plain_answer, extended_front, extended_answer, form_answer}
-use Rattle.references.specs.References.{layout_by, layout_answer, tail_end, tail_place, tail_of_lem, refused, read_reference, has_nil, nil_given, names_nil, reference_answer}
+use Rattle.references.specs.References.{layout_by, layout_answer, tail_end, tail_place, tail_of, refused, read_reference, has_nil, nil_given, names_nil, reference_answer}
 use Rattle.reference_writer.specs.Writing.{block_bytes, header_bytes, body_bytes, elements_bytes, reference_bytes, formed, tail_answer, write_answer, written_length, value_answer}
 use Rattle.references.specs.declared.Block.{Block}
 use Rattle.elements.specs.Elements.{signature, is_reference, element_bytes, content_size, element_front, element_content, element_answer, given_answer}
@@ -401,7 +401,7 @@ reference-read-back r t x f done =
     let a = value-accepted r t x done in
     let l = reference-laid r t x a.form in
     let answer : reference_answer s ≡ 0 = sym (writer-as-reader r t x f a.form a.sized) ∙ done in
-    let tail : tail_of_lem s ≡ t = rw (eq-eqb _ _ answer) (tail-as s r t x f a.form l a.sized) in
+    let tail : tail_of s ≡ t = rw (eq-eqb _ _ answer) (tail-as s r t x f a.form l a.sized) in
     record {
       fields = rw (eq-eqb _ _ answer, value_as s r t x f a.form l a.sized);
       tail = tail;
@@ -502,7 +502,7 @@ module _ (s : List ℕ) (b : Bytes s) (f : field s 4 4 ≡ 8) (a : Level 7 s) wh
 
   list-then : drop 68 s ≡ take (list_end s - 68) (drop 68 s) ++ (marks ++ element_bytes (guid_at s (element_start s)) (take (content_length s) (drop (content_start s) s)))
   list-then =
-      let k = list_length_lem (drop 68 s) in
+      let k = list_length (drop 68 s) in
       rw (add-sub_cancel_left 68 k) (sym (take-append-drop k (drop 68 s)) ∙ (rw (drop-drop k 68 s, marks_then)))
 
   extended_then : drop 24 s ≡ block_bytes (block_at s 24)
@@ -540,12 +540,12 @@ body-then s b a =
     rw (e, take_rest s 48, append-nil (drop 48 s)) body)
     (λ e. rw e (extended_then s b e a ∙ sym (append_assoc (block_bytes (block_at s 24)) (encode 4 extended_signature) _)))
 
-tail-read : (s : List ℕ) → reference_answer s ≡ 0 → tail_of_lem s ≡ take (tail_end s - fixed_size (field s 4 4)) (drop (fixed_size (field s 4 4)) s)
+tail-read : (s : List ℕ) → reference_answer s ≡ 0 → tail_of s ≡ take (tail_end s - fixed_size (field s 4 4)) (drop (fixed_size (field s 4 4)) s)
 unfolding tail_place
 tail-read s done = rw (eq-eqb _ _ done)
 
 -- bytes that are read as a reference are its bytes, with its tail and the data of its element
-pub reference-bytes-back : (s : List ℕ) → Bytes s → reference_answer s ≡ 0 → s ≡ reference_bytes (reference_at s) (tail_of_lem s) (content_of s)
+pub reference-bytes-back : (s : List ℕ) → Bytes s → reference_answer s ≡ 0 → s ≡ reference_bytes (reference_at s) (tail_of s) (content_of s)
 unfolding reference_bytes
 reference-bytes-back s b done =
     let a = read-accepted s done in
@@ -569,14 +569,14 @@ front_of : (j : List ℕ → ℕ) (t : List ℕ) → element_answer j t ≡ 0 �
 unfolding element_answer
 front_of j t done = (passed_on (element_front t) _ done).0
 
-sized-at : (s : List ℕ) → Bytes s → reference_answer s ≡ 0 → Sized (reference_at s) (tail_of_lem s) (content_of s)
+sized-at : (s : List ℕ) → Bytes s → reference_answer s ≡ 0 → Sized (reference_at s) (tail_of s) (content_of s)
 unfolding Sized fixed_size
 sized-at s b done =
     let a = read-accepted s done in
     λ e.
     let f : field s 4 4 ≡ 8 = sym (flags-at s a.head.form) ∙ e in
     let t = drop (element_start s) s in
-    let list : list_answer (tail_of_lem s) ≡ 0 = rw (tail-read s done, f, add-sub_cancel_left 68 (list_length_lem (drop 68 s))) (front-list (drop 68 s) (o s b f a).list) in
+    let list : list_answer (tail_of s) ≡ 0 = rw (tail-read s done, f, add-sub_cancel_left 68 (list_length (drop 68 s))) (front-list (drop 68 s) (o s b f a).list) in
     let most = content-most t (drop-bytes s (element_start s) b) (front_of (layout_answer 7) t (open-extended s b f a).1) in
     let same : content_of s ≡ element_content t = rw f (content-from s) in
     (list, rw same most)
@@ -590,12 +590,12 @@ same-reference s r e =
 
 -- the object data of an accepted custom reference with the context marshaler's CLSID is laid out as its context and properties
 pub context-back : (s : List ℕ) → Bytes s → reference_answer s ≡ 0 → field s 4 4 ≡ 4 → is_marshaler (guid_at s 24) ≡ true
-    → tail_of_lem s ≡ context_bytes (context_at (tail_of_lem s)) (properties_bytes (properties_at (context_at (tail_of_lem s)).count (drop 48 (tail_of_lem s))))
+    → tail_of s ≡ context_bytes (context_at (tail_of s)) (properties_bytes (properties_at (context_at (tail_of s)).count (drop 48 (tail_of s))))
 unfolding form_answer plain_answer object_answer fixed_size
 context-back s b done f m =
     let a = read-accepted s done in
     let context : context_answer (drop 48 s) ≡ 0 = rw (f, m) at a.form in
-    let t : tail_of_lem s ≡ drop 48 s = tail-read s done ∙ (rw f (take_rest s 48)) in
+    let t : tail_of s ≡ drop 48 s = tail-read s done ∙ (rw f (take_rest s 48)) in
     rw t (context-read-then-write (drop 48 s) (drop-bytes s 48 b) context)
 
 clsid-at : (s : List ℕ) → field s 4 4 ≡ 4 → (reference_at s).clsid ≡ guid_at s 24
@@ -609,7 +609,7 @@ read-then-write s b r bytes e l =
     let read = same-reference s r e in
     let done = read.0 in
     let a = read-accepted s done in
-    let t = tail_of_lem s in
+    let t = tail_of s in
     let x = content_of s in
     let back = reference-bytes-back s bytes done in
     let form : is_form (reference_at s).flags ≡ true = rw (flags-at s a.head.form) a.head.form in

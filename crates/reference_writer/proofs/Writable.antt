@@ -14,7 +14,7 @@ use Rattle.kinds.proofs.Refusing.{or-false, eq-differ, ne-differ, passed, passed
 use Rattle.fields.specs.Fields.{encode, written, longest}
 use Rattle.fields.proofs.Fields.{written_in_lem, written-front}
 use Rattle.elements.specs.Elements.{is_nil, is_reference, content_answer, given_answer}
-use Rattle.references.specs.References.{by_form_lem, is_form, is_extended, fixed_size, layout_answer, has_nil, names_nil, answer_within}
+use Rattle.references.specs.References.{by_form, is_form, is_extended, fixed_size, layout_answer, has_nil, names_nil, answer_within}
 use Rattle.references.specs.declared.Block.{Block}
 use Rattle.references.specs.declared.Reference.{Reference}
 use Rattle.references.proofs.Forms.{by_form_lem}
@@ -36,7 +36,7 @@ length-body r h = by_form_lem r.flags h (λ e. rw e) (λ e. rw e) (λ e. rw e) (
 
 -- ---- what can be written
 
-pub form-none : {A : Type 0} (f : ℕ) (a b c d e : A) → is_form f ≡ false → by_form_lem f a b c d e ≡ e
+pub form-none : {A : Type 0} (f : ℕ) (a b c d e : A) → is_form f ≡ false → by_form f a b c d e ≡ e
 form-none f a b c d e h =
     let p = or-false (eqb f 1) (eqb f 2 || (eqb f 4 || eqb f 8)) h in
     let q = or-false (eqb f 2) (eqb f 4 || eqb f 8) p.1 in
@@ -84,7 +84,7 @@ given-rows false false false true n h k = simp last_row (nil-after n h k (differ
 
 -- the block names zero, of a form that has one
 abbrev pub own_nil : Reference → Bool
-own_nil r = by_form_lem r.flags (has_nil r.block) (has_nil r.block) false (has_nil r.block) false
+own_nil r = by_form r.flags (has_nil r.block) (has_nil r.block) false (has_nil r.block) false
 
 pub own_block : (r : Reference) → is_form r.flags ≡ true → (r.flags ≡ 4 → ⊥) → own_nil r ≡ has_nil r.block
 own_block r form other = by_form_lem r.flags form (λ e. rw e) (λ e. rw e) (λ e. absurd (other e)) (λ e. rw e)

@@ -12,19 +12,19 @@ use Rattle.kinds.specs.Refusals.{differ, order}
 use Rattle.kinds.proofs.Refusing.{by-test, eq-differ, ne-differ, differ-false, passed, passed_on, last_row}
 use Rattle.fields.specs.Fields.{field, guid_at}
 use Rattle.fields.proofs.Fields.{field-drop}
-use Rattle.bindings.specs.Bindings.{list_length_lem, front_answer, binding_at, refusal, bytes_at}
+use Rattle.bindings.specs.Bindings.{list_length, front_answer, binding_at, refusal, bytes_at}
 use Rattle.bindings.specs.declared.Part.{Part}
 use Rattle.bindings.specs.declared.Place.{Place}
 use Rattle.bindings.proofs.ListAnswers.{Within, within-binding}
 use Rattle.contexts.specs.Contexts.{property_place, is_marshaler}
 use Rattle.contexts.proofs.Properties.{property-within}
 use Rattle.elements.specs.Elements.{signature, element_answer}
-use Rattle.references.specs.References.{by_form_lem, is_form, is_custom, fixed_size, head_answer, plain_answer, form_answer, layout_by, layout_answer, list_end, element_start, extended_signature}
-use Rattle.references.specs.References.{extended_front, extended_answer, reference_answer, reference_at, tail_end, tail_place, tail_of_lem, moved, reference_binding, context_place}
+use Rattle.references.specs.References.{by_form, is_form, is_custom, fixed_size, head_answer, plain_answer, form_answer, layout_by, layout_answer, list_end, element_start, extended_signature}
+use Rattle.references.specs.References.{extended_front, extended_answer, reference_answer, reference_at, tail_end, tail_place, tail_of, moved, reference_binding, context_place}
 
 -- where the list of an extended reference ends, by its N
 pub list-end : (s : List ℕ) → 72 + 2 * field s 68 2 ≡ list_end s
-unfolding list_length_lem
+unfolding list_length
 list-end s = rw (field-drop s 68 0 2 (omega arith)) (omega arith)
 
 -- ---- forms
@@ -48,7 +48,7 @@ by_form_lem f h a b c d =
     (λ k. or_cases (eqb f 2) (eqb f 4 || eqb f 8) k (λ e. b (eqb-true f 2 e))
     (λ l. or_cases (eqb f 4) (eqb f 8) l (λ e. c (eqb-true f 4 e)) (λ e. d (eqb-true f 8 e))))
 
-pub by-other : {A : Type 0} (f : ℕ) (a b c d e : A) → (f ≡ 1 → ⊥) → (f ≡ 2 → ⊥) → (f ≡ 4 → ⊥) → (f ≡ 8 → ⊥) → by_form_lem f a b c d e ≡ e
+pub by-other : {A : Type 0} (f : ℕ) (a b c d e : A) → (f ≡ 1 → ⊥) → (f ≡ 2 → ⊥) → (f ≡ 4 → ⊥) → (f ≡ 8 → ⊥) → by_form f a b c d e ≡ e
 by-other f a b c d e h i j k = rw (ne_eqb f 1 h, ne_eqb f 2 i, ne_eqb f 4 j, ne_eqb f 8 k)
 
 pub size-most : (f : ℕ) → fixed_size f ≤ 80
@@ -211,10 +211,10 @@ tail_within s =
     by-test (Within (length s)) (eqb (reference_answer s) 0) _ _ (λ e. tail-inside s (eqb-true _ _ e)) (λ e. omega arith)
 
 -- the bytes of its place are the tail
-pub tail-bytes : (s : List ℕ) → bytes_at s (tail_place s) ≡ tail_of_lem s
+pub tail-bytes : (s : List ℕ) → bytes_at s (tail_place s) ≡ tail_of s
 tail-bytes s = refl
 
-pub tail-length : (s : List ℕ) → reference_answer s ≡ 0 → fixed_size (field s 4 4) + length (tail_of_lem s) ≤ length s
+pub tail-length : (s : List ℕ) → reference_answer s ≡ 0 → fixed_size (field s 4 4) + length (tail_of s) ≤ length s
 tail-length s done =
     let w = tail_within s in
     let from = tail-start s done in
@@ -235,7 +235,7 @@ binding-custom s p k done e = rw (eq-eqb _ _ done, e)
 
 -- the binding of the list
 pub binding-listed : (s : List ℕ) (p : Part) (k : ℕ) → reference_answer s ≡ 0 → (field s 4 4 ≡ 4 → ⊥)
-    → reference_binding s p k ≡ moved (fixed_size (field s 4 4)) (binding_at (tail_of_lem s) p k)
+    → reference_binding s p k ≡ moved (fixed_size (field s 4 4)) (binding_at (tail_of s) p k)
 unfolding reference_binding
 binding-listed s p k done other = rw (eq-eqb _ _ done, ne_eqb _ _ other)
 
@@ -253,8 +253,8 @@ within-reference s p k =
     (λ e. by-test (Within (length s)) (is_custom (field s 4 4)) _ _
     (λ z. omega arith)
     (λ z.
-    let b = binding_at (tail_of_lem s) p k in
-    within_more _ _ (moved (fixed_size (field s 4 4)) b) (tail-length s (eqb-true _ _ e)) (within-moved (length (tail_of_lem s)) (fixed_size (field s 4 4)) b (within-binding (tail_of_lem s) p k))))
+    let b = binding_at (tail_of s) p k in
+    within_more _ _ (moved (fixed_size (field s 4 4)) b) (tail-length s (eqb-true _ _ e)) (within-moved (length (tail_of s)) (fixed_size (field s 4 4)) b (within-binding (tail_of s) p k))))
     (λ e. omega arith)
 
 -- the place of a property's data lies in s

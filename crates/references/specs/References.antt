@@ -15,7 +15,7 @@ use Rattle.references.specs.declared.ReadReference.{ReadReference}
 
 -- "VYSN", before the list and before the elements of an extended reference
 abbrev pub extended_signature : ℕ
-extended_signature = 0x4_e535956
+extended_signature = 0x4E535956
 
 -- the number of elements that 000, section 2.2.18.7, allows
 abbrev pub is_element_count : ℕ → Bool

@@ -119,7 +119,7 @@ impl Reference {
     pub const EXTENDED: u32 = 8;
 
     // Before the list and before the elements of an extended reference.
-    pub const EXTENDED_SIGNATURE: u32 = 0x4_e535956;
+    pub const EXTENDED_SIGNATURE: u32 = 0x4E535956;
 
     // References in references, the outermost counted.
     pub const DEPTH: usize = 8;

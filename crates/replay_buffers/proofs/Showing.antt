@@ -22,7 +22,7 @@ use Rattle.recording.specs.Statements.{value_count}
 use Rattle.call_lists.specs.Listing.{list_reply}
 use Rattle.call_look.specs.NextStop.{StopFound, place_reply}
 use Rattle.call_look.specs.declared.routing.StopPlace.{StopPlace}
-use Rattle.replay_step.specs.Answers.{answer_to, same_answer_lem}
+use Rattle.replay_step.specs.Answers.{answer_to, same_answer}
 use Rattle.replay_step.specs.Steps.{CallDone, answer_in}
 use Rattle.replay_step.specs.declared.Step.{Step}
 use Rattle.replay_step.proofs.Alike.{Alike, alike-answer}
@@ -33,11 +33,11 @@ use Rattle.replay_buffers.specs.Shown.{shown_step}
 
 module _ (c : Call) (e : Entries) where
   -- the number of bytes at the front of the buffer
-  abbrev front_length_lem : ℕ
-  front_length_lem = cond (eqb (number c e) 0) (length (results c e).front) 0
+  abbrev front_length : ℕ
+  front_length = cond (eqb (number c e) 0) (length (results c e).front) 0
 
   -- they are what is shown of a call that answers no part
-  front-shown : (results c e).part ≡ [] → take front_length_lem (reply c e).buffer ≡ (answer_to c e).shown
+  front-shown : (results c e).part ≡ [] → take front_length (reply c e).buffer ≡ (answer_to c e).shown
   unfolding reply accepted_reply refused_reply answer_to
   front-shown p = go (eqb (number c e) 0)
     where
@@ -47,7 +47,7 @@ module _ (c : Call) (e : Entries) where
       go false = refl
 
   -- and the buffer has them
-  front-inside : front_length_lem ≤ length (reply c e).buffer
+  front-inside : front_length ≤ length (reply c e).buffer
   unfolding reply accepted_reply refused_reply
   front-inside = go (eqb (number c e) 0)
     where
@@ -65,7 +65,7 @@ module _ (c : Call) (e : Entries) where
       go false = refl
 
   -- the first value, where it is the front's length
-  length-first : (vs : List ℕ) → (results c e).values ≡ length (results c e).front ∷ vs → get_or (reply c e).values 0 0 ≡ front_length_lem
+  length-first : (vs : List ℕ) → (results c e).values ≡ length (results c e).front ∷ vs → get_or (reply c e).values 0 0 ≡ front_length
   unfolding reply accepted_reply refused_reply
   length-first vs h = go (eqb (number c e) 0)
     where
@@ -76,10 +76,10 @@ module _ (c : Call) (e : Entries) where
 -- ---- a step into a buffer, whose front is compared
 
 module _ {c : Call} {m m' : Memory} {q : Reply} (st : Stepped c m q m') where
-  front-left : {n : ℕ} → n ≡ front_length_lem c (view m) → n ≤ length q.buffer
+  front-left : {n : ℕ} → n ≡ front_length c (view m) → n ≤ length q.buffer
   front-left e = rw (e, st.answered) (front-inside c (view m))
 
-  into-done : {s shown : List ℕ} {n : ℕ} {d : Step} → n ≡ front_length_lem c (view m) → SoundTable m → lengths_only c ≡ false → (results c (view m)).part ≡ []
+  into-done : {s shown : List ℕ} {n : ℕ} {d : Step} → n ≡ front_length c (view m) → SoundTable m → lengths_only c ≡ false → (results c (view m)).part ≡ []
       → value_count c ≡ length q.values → leb (length q.values) 4 ≡ true → length s ≡ 8 + 8 * length q.values → Whole m'.words → Whole m'.store
       → d ≡ shown_step s shown (take n q.buffer) q.number (get_or q.values 0 0) (get_or q.values 1 0) (get_or q.values 2 0) (get_or q.values 3 0)
       → CallDone c s shown m d m'
@@ -89,7 +89,7 @@ module _ {c : Call} {m m' : Memory} {q : Reply} (st : Stepped c m q m') where
 
   -- its first value is the front's length
   module _ (vs : List ℕ) (h : (results c (view m)).values ≡ length (results c (view m)).front ∷ vs) where
-    first-is : get_or q.values 0 0 ≡ front_length_lem c (view m)
+    first-is : get_or q.values 0 0 ≡ front_length c (view m)
     first-is = (λ u. get_or (st.answered u).values 0 0) ∙ length-first c (view m) vs h
 
     pub length-left : get_or q.values 0 0 ≤ length q.buffer
@@ -103,7 +103,7 @@ module _ {c : Call} {m m' : Memory} {q : Reply} (st : Stepped c m q m') where
 
 -- a list has a byte for each item there
 module _ {w : Counting} {x n k : ℕ} {items b b' : List ℕ} {m m' : Memory} (st : Stepped (count_list w x items b) m (list_reply n b') m') (h : k ≡ cond (eqb n 0) (item_count items) 0) where
-  items-front : k ≡ front_length_lem (count_list w x items b) (view m)
+  items-front : k ≡ front_length (count_list w x items b) (view m)
   unfolding results items_of
   items-front =
       let e = ap (λ (r : Reply). r.number) st.answered ∙ reply-number (count_list w x items b) (view m) in
@@ -152,7 +152,7 @@ alike-done c d m m' s shown t l l' a x =
           sound_after = λ z. p.sound_after (n ∙ z);
           became = λ z. p.became (n ∙ z) ∙ a.next;
         };
-        agrees = x.done.agrees ∙ (λ u. same_answer_lem (answer_in (a.count u) s shown) (alike-answer c d (view m) a u));
+        agrees = x.done.agrees ∙ (λ u. same_answer (answer_in (a.count u) s shown) (alike-answer c d (view m) a u));
         accepted = x.done.accepted ∙ ap (λ (n : ℕ). eqb n 0) a.number;
       };
       words = x.words;

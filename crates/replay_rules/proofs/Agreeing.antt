@@ -14,7 +14,7 @@ use Rattle.rules.specs.Entries.{Entries, fresh}
 use Rattle.rules.specs.OneByOne.{calls_done}
 use Rattle.recording.specs.Recording.{Answer, Recorded}
 use Rattle.balance.specs.Balance.{after}
-use Rattle.replay_step.specs.Answers.{answer_to, same_answer_lem}
+use Rattle.replay_step.specs.Answers.{answer_to, same_answer}
 use Rattle.replay_rules.specs.Replay.{answers_over, first_differing, done, calls_in, answers_in}
 use Rattle.replay_rules.specs.Statements.{Agrees, FirstDiffers, StopsAtFirst, DoneAll}
 
@@ -25,7 +25,7 @@ unfolding same_words
 words_same [] = refl
 words_same (x ∷ a) = and_intro _ _ (eq-eqb x x refl) (words_same a)
 
-same-equal : (a b : Answer) → same_answer_lem a b ≡ true → a ≡ b
+same-equal : (a b : Answer) → same_answer a b ≡ true → a ≡ b
 same-equal a b h =
     let n : Bool = eqb a.number b.number in
     let v : Bool = same_words a.values b.values in
@@ -35,15 +35,15 @@ same-equal a b h =
     let t = same_lists a.shown b.shown (and_right (n && v) (same_words a.shown b.shown) h) in
     λ u. record { number = p u; values = q u; shown = t u }
 
-equal-same : (a b : Answer) → a ≡ b → same_answer_lem a b ≡ true
+equal-same : (a b : Answer) → a ≡ b → same_answer a b ≡ true
 equal-same a b e =
-    ap (same_answer_lem a) (sym e)
+    ap (same_answer a) (sym e)
     ∙ and_intro _ _ (and_intro _ _ (eq-eqb a.number a.number refl) (words_same a.values)) (words_same a.shown)
 
 -- ---- one record
 
 abbrev agrees_here : Recorded → Entries → Bool
-agrees_here r e = same_answer_lem r.answer (answer_to r.call e)
+agrees_here r e = same_answer r.answer (answer_to r.call e)
 
 module _ (r : Recorded) (rs : List Recorded) (e : Entries) (n : ℕ) where
   past : agrees_here r e ≡ true → first_differing (r ∷ rs) e n ≡ first_differing rs (after r.call e) (suc n)

@@ -32,7 +32,7 @@ use Rattle.recording.specs.Places.{ends_from, record_ends, RecordAt}
 use Rattle.recording.specs.Statements.{Given}
 use Rattle.recording.proofs.Places.{rows-ended, records-short, records-past, records-fit, records-after}
 use Rattle.recording.proofs.Givens.{given-read}
-use Rattle.replay_step.specs.Answers.{answer_to, same_answer_lem}
+use Rattle.replay_step.specs.Answers.{answer_to, same_answer}
 use Rattle.replay_rules.specs.Replay.{done, calls_in, replay_answer, Replayed}
 use Rattle.replaying.specs.Turns.{step_tally, recorded_at, TurnDone}
 use Rattle.replaying.specs.declared.shift.Turn.{Turn}
@@ -181,14 +181,14 @@ unfolding done
 done-each P [] e h x i = h x i
 done-each P (r ∷ rs) e h x (Memᴰ.head q) = h x (Memᴰ.head q)
 done-each P (r ∷ rs) e h x (Memᴰ.tail i) =
-    by-test (λ (l : List Recorded). Each P l) (same_answer_lem r.answer (answer_to r.call e)) (done rs (after r.call e)) []
+    by-test (λ (l : List Recorded). Each P l) (same_answer r.answer (answer_to r.call e)) (done rs (after r.call e)) []
     (λ t. done-each P rs (after r.call e) (λ y n. h y (Memᴰ.tail n))) (λ f y n. absurd (Memᴰ.not-nil n)) x i
 
 done-few : (rs : List Recorded) (e : Entries) → length (done rs e) ≤ length rs
 unfolding done
 done-few [] e = omega arith
 done-few (r ∷ rs) e =
-    let d = by-test (λ (l : List Recorded). length l ≤ length rs) (same_answer_lem r.answer (answer_to r.call e)) (done rs (after r.call e)) []
+    let d = by-test (λ (l : List Recorded). length l ≤ length rs) (same_answer r.answer (answer_to r.call e)) (done rs (after r.call e)) []
     (λ t. done-few rs (after r.call e)) (λ f. omega arith) in
     omega arith
 

@@ -28,7 +28,7 @@ use Rattle.balance.proofs.Sums.{table-small}
 use Rattle.balance.proofs.Balanced.{each-balanced}
 use Rattle.balance.proofs.Sides.{granted-sum}
 use Rattle.recording.specs.Recording.{Answer, Sections, forms, form_of, code_of, well_formed, call_of, answer_of}
-use Rattle.replay_step.specs.Answers.{answer_to, same_answer_lem}
+use Rattle.replay_step.specs.Answers.{answer_to, same_answer}
 use Rattle.replay_step.specs.Steps.{answer_in}
 use Rattle.replay_step.specs.declared.Step.{Step}
 use Rattle.replay_tally.specs.Sums.{side_as, summed_as, SumTold}
@@ -54,7 +54,7 @@ granted-as x e y k h t =
 
 -- a release took what its answer says
 release-told : (c : ℕ) (i : Guid) (p q : ℕ) (e : Entries) (s shown : List ℕ) → sound e ≡ true → Nine e → eqb (number (editing (release c i p q)) e) 0 ≡ true
-    → same_answer_lem (answer_in 4 s shown) (answer_to (editing (release c i p q)) e) ≡ true
+    → same_answer (answer_in 4 s shown) (answer_to (editing (release c i p q)) e) ≡ true
     → held_in (after (editing (release c i p q)) e) + (field s 8 8 + field s 16 8) ≡ held_in e
 unfolding tabulate answer_to reply accepted_reply results counting
 release-told c i p q e s shown w nine ok a =
@@ -87,7 +87,7 @@ module _ (x : Sections) (m m' : Memory) (d : Step) (old : ℕ) (s : SoundTable m
   unfolding call_of answer_of form_of forms
   released t a e =
       let ok = subst (λ (k : ℕ). eqb (number (call_as k x) (view m)) 0 ≡ true) e (sym r.done.accepted ∙ t) in
-      let same = subst (λ (k : ℕ). same_answer_lem (answer_in (form_of k).values x.answer x.shown) (answer_to (call_as k x) (view m)) ≡ true) e (sym r.done.agrees ∙ a) in
+      let same = subst (λ (k : ℕ). same_answer (answer_in (form_of k).values x.answer x.shown) (answer_to (call_as k x) (view m)) ≡ true) e (sym r.done.agrees ∙ a) in
       let is = subst (λ (k : ℕ). view m' ≡ after (call_as k x) (view m)) e became in
       ap (λ (v : Entries). held_in v + (field x.answer 8 8 + field x.answer 16 8)) is
       ∙ release-told (field x.call 1 4) (guid_at x.call 5) (field x.call 21 4) (field x.call 25 4) (view m) x.answer x.shown

@@ -2,7 +2,7 @@
 use mathlib.Core.Path.{refl}
 use Rattle.kinds.specs.Refusals.{order}
 use Rattle.fields.specs.Fields.{bytes_number, encode, field, all_zero}
-use Rattle.bindings.specs.Bindings.{words, through_zero, first_binding, bindings_up_to, bindings_of, joined, same_words, is_part, two_parts, list_length_lem, front_answer, list_answer}
+use Rattle.bindings.specs.Bindings.{words, through_zero, first_binding, bindings_up_to, bindings_of, joined, same_words, is_part, two_parts, list_length, front_answer, list_answer}
 use Rattle.contexts.specs.Contexts.{property_answer, properties_answer, extents_answer, head_answer as context_head, context_answer}
 use Rattle.elements.specs.Elements.{element_front, element_end, element_answer}
 use Rattle.references.specs.References.{fixed_size, object_answer, head_answer, plain_answer, extended_front, extended_answer, form_answer, layout_by, layout_answer, names_nil, reference_answer}
@@ -17,7 +17,7 @@ use Rattle.rules.specs.Cases.{outcome, empty_list, signed, one_set, one_of_each,
 
 pub cases-hold : CasesHold
 unfolding outcome cases empty_list signed one_set one_of_each fresh_snapshot two_interfaces order bytes_number encode field words through_zero first_binding bindings_up_to bindings_of joined same_words
-    is_part two_parts list_length_lem front_answer list_answer property_answer properties_answer extents_answer context_head context_answer all_zero element_front element_end element_answer fixed_size
+    is_part two_parts list_length front_answer list_answer property_answer properties_answer extents_answer context_head context_answer all_zero element_front element_end element_answer fixed_size
     object_answer head_answer plain_answer extended_front extended_answer form_answer layout_by layout_answer names_nil reference_answer keep some every first_or distinct tabulate holding insert rising
     bytes_before lists_length sound sorted in_row exporter_bytes object_bytes interface_bytes set_bytes sections read_row read_number read_exporter read_object read_interface read_set entries_of placed
     is_snapshot refusals number next results refused_reply accepted_reply reply

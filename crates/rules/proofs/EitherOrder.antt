@@ -23,7 +23,7 @@ use Rattle.rules.specs.Entries.{Object, Interface, PingSet, Entries, oids, with_
 use Rattle.rules.specs.Calls.{Call, editing, Counting, adding, releasing, add, release}
 use Rattle.rules.specs.Items.{Item, item_call}
 use Rattle.rules.specs.Sound.{sound, held, has_interface}
-use Rattle.rules.specs.Rules.{is_live_object, is_live_interface, no_interface, interface_of, passes_count_lem, no_client, at_interface, drop_empty, increased}
+use Rattle.rules.specs.Rules.{is_live_object, is_live_interface, no_interface, interface_of, passes_count, no_client, at_interface, drop_empty, increased}
 use Rattle.rules.specs.Rules.{decreased, flag, release_values, refusals, number, next, results, refused_reply, accepted_reply, reply}
 use Rattle.rules.specs.EitherOrder.{call_done, taken_in, interface_went, object_went, CountCall, call_of, before, behind, object_of, BothLast, SameAnswer, OrderIrrelevant}
 use Rattle.rules.proofs.SoundLaws.{sound-fields}
@@ -300,7 +300,7 @@ number-from : (w : Counting) (c : ℕ) (t : Item) (e e' : Entries) → is_live_i
     → number (item_call w c t) e' ≡ number (item_call w c t) e
 unfolding number refusals
 number-from adding c t e e' l r =
-    λ u. order (no_client c gives 20 ∷ not (l u) gives 6 ∷ (passes_count_lem (public_of (r u) + t.public) || passes_count_lem (private_of c (r u) + t.private)) gives 8 ∷ [])
+    λ u. order (no_client c gives 20 ∷ not (l u) gives 6 ∷ (passes_count (public_of (r u) + t.public) || passes_count (private_of c (r u) + t.private)) gives 8 ∷ [])
 number-from releasing c t e e' l r = λ u. order (no_client c gives 20 ∷ not (l u) gives 6 ∷ [])
 
 module _ (a b : CountCall) (d : Apart a b) (e : Entries) (s : sound e ≡ true) where

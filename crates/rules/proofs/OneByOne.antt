@@ -19,7 +19,7 @@ use Rattle.lists.proofs.Lists.{length-tabulate, tabulate-ext}
 use Rattle.rules.specs.Entries.{Entries, public_of, private_of}
 use Rattle.rules.specs.Calls.{Counting, adding, releasing, count_list}
 use Rattle.rules.specs.Items.{Item, item_at, item_count, items_of, item_call}
-use Rattle.rules.specs.Rules.{is_live_interface, interface_of, passes_count_lem, no_client, counted, item_done, items_done, item_numbers, refusals, number, next, results, accepted_reply}
+use Rattle.rules.specs.Rules.{is_live_interface, interface_of, passes_count, no_client, counted, item_done, items_done, item_numbers, refusals, number, next, results, accepted_reply}
 use Rattle.rules.specs.OneByOne.{calls_done, call_numbers, ListsOneByOne, ListsCut}
 
 -- ---- one by one
@@ -67,7 +67,7 @@ unfolding number refusals order
 item-number adding c t e h =
     rw h
     (one_of_three (not (is_live_interface e t.ipid))
-    (passes_count_lem (public_of (interface_of e t.ipid) + t.public) || passes_count_lem (private_of c (interface_of e t.ipid) + t.private)))
+    (passes_count (public_of (interface_of e t.ipid) + t.public) || passes_count (private_of c (interface_of e t.ipid) + t.private)))
 item-number releasing c t e h = rw h (one_of_three (not (is_live_interface e t.ipid)) false)
 
 numbers-each : (w : Counting) (c : ℕ) (ts : List Item) (e : Entries) → no_client c ≡ false → every item_number (item_numbers w c ts e) ≡ true

@@ -123,8 +123,8 @@ two_interfaces first second = with_interfaces (held first ∷ held second ∷ []
 unfoldable pub cases : List Case
 cases =
     -- bytes 4D 45 4F 57 as signature: right; 57 4F 45 4D: 14
-    as_reference (signed (0x4_d ∷ 0x45 ∷ 0x4_f ∷ 0x57 ∷ [])) is answer 0
-    ∷ as_reference (signed (0x57 ∷ 0x4_f ∷ 0x45 ∷ 0x4_d ∷ [])) is answer 14
+    as_reference (signed (0x4D ∷ 0x45 ∷ 0x4F ∷ 0x57 ∷ [])) is answer 0
+    ∷ as_reference (signed (0x57 ∷ 0x4F ∷ 0x45 ∷ 0x4D ∷ [])) is answer 14
     -- list 02 00 01 00 00 00 00 00: two empty parts, 8 bytes; 01 00 01 00 00 00: 14
     ∷ as_list empty_list is parts [] [] 8
     ∷ as_list (0x01 ∷ 0x00 ∷ 0x01 ∷ 0x00 ∷ 0x00 ∷ 0x00 ∷ []) is answer 14
@@ -145,8 +145,8 @@ cases =
     ∷ called (editing (add 0 ipid 1 0)) (one_of_each false 4294967295 5) is replied 8 [] (one_of_each false 4294967295 5)
     ∷ called (editing (add 0 ipid 0 0)) (one_of_each false 4294967295 5) is replied 0 [] (one_of_each false 4294967295 5)
     -- document 02: a table fresh at clock 100 gives exactly 26 bytes, the buffer's rest is kept; 25 are too few
-    ∷ writes (looking (write_snapshot (replicate 27 0x_f_f))) (fresh 100) is wrote 0 (26 ∷ []) (fresh_snapshot ++ (0x_f_f ∷ []))
-    ∷ writes (looking (write_snapshot (replicate 25 0x_f_f))) (fresh 100) is wrote 15 (0 ∷ []) (replicate 25 0x_f_f)
+    ∷ writes (looking (write_snapshot (replicate 27 0xFF))) (fresh 100) is wrote 0 (26 ∷ []) (fresh_snapshot ++ (0xFF ∷ []))
+    ∷ writes (looking (write_snapshot (replicate 25 0xFF))) (fresh 100) is wrote 15 (0 ∷ []) (replicate 25 0xFF)
     -- these bytes are loaded; with one byte more they are the snapshot of no table
     ∷ called (starting (load_snapshot fresh_snapshot)) (one_of_each false 3 5) is replied 0 [] (fresh 100)
     ∷ called (starting (load_snapshot (fresh_snapshot ++ (0x00 ∷ [])))) (one_of_each false 3 5) is replied 23 [] (one_of_each false 3 5)

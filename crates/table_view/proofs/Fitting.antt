@@ -10,7 +10,7 @@ use borrow.Author.Tests.{le-leb}
 use lib.ListN.{length, get_or, drop, length-map, length-take, length-drop, get_or-eq_default}
 use lib.Dec.{leb}
 use Rattle.fields.proofs.Fields.{drop-bytes, take-bytes}
-use Rattle.bindings.specs.Bindings.{list_length_lem}
+use Rattle.bindings.specs.Bindings.{list_length}
 use Rattle.lists.specs.Lists.{tabulate}
 use Rattle.lists.proofs.Tests.{below_or_not}
 use Rattle.lists.proofs.Lists.{length-keep, length-tabulate}
@@ -64,7 +64,7 @@ module _ (m : Memory) (l : Lent m) where
 
   list-size : (i : ℕ) → length (list_at m.store i) < 2 ^ 16
   list-size i =
-      let a = length-take (list_length_lem (list_from m.store i)) (list_from m.store i) in
+      let a = length-take (list_length (list_from m.store i)) (list_from m.store i) in
       let b = length-drop (list_start m.store i) m.store in
       let c = l.store in
       omega arith
@@ -78,7 +78,7 @@ module _ (m : Memory) (l : Lent m) where
         oxid = row_fits exporter_kind r.0 0;
         unknown = record { low = row_fits exporter_kind r.0 1; high = row_fits exporter_kind r.0 2 };
         size = list-size r.0;
-        bytes = take-bytes (list_length_lem (list_from m.store r.0)) (list_from m.store r.0) (drop-bytes m.store (list_start m.store r.0) l.bytes);
+        bytes = take-bytes (list_length (list_from m.store r.0)) (list_from m.store r.0) (drop-bytes m.store (list_start m.store r.0) l.bytes);
       })
 
   objects-fit : Each ObjectFits (objects_of m.words)

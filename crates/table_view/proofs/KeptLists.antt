@@ -10,7 +10,7 @@ use lib.Dec.{eqb, leb}
 use lib.ListN.{length, take, drop, length-drop, take-append-drop}
 use lib.Seq.{length-take-le}
 use Rattle.kinds.proofs.Refusing.{same_test}
-use Rattle.bindings.specs.Bindings.{list_length_lem, front_answer, list_answer}
+use Rattle.bindings.specs.Bindings.{list_length, front_answer, list_answer}
 use Rattle.bindings.proofs.ListAnswers.{front, front-list, list-front}
 use Rattle.lists.specs.Lists.{tabulate, holding}
 use Rattle.lists.proofs.Tests.{and_intro, and_left, and_right, holding-nil, holding-cons, holding-head}
@@ -30,22 +30,22 @@ use Rattle.table_view.proofs.StoredLists.{start-next, start_first, list-four, st
 use Rattle.table_view.proofs.Checks.{every_row, table-checked}
 
 -- a list at the front is accepted there, and no longer than it may be, where it is accepted as a whole list of that length
-front-whole : (s : List ℕ) → (eqb (front_answer s) 0 && leb (list_length_lem s) longest_list) ≡ (eqb (list_answer (take (list_length_lem s) s)) 0 && leb (length (take (list_length_lem s) s)) longest_list)
+front-whole : (s : List ℕ) → (eqb (front_answer s) 0 && leb (list_length s) longest_list) ≡ (eqb (list_answer (take (list_length s) s)) 0 && leb (length (take (list_length s) s)) longest_list)
 front-whole s =
-    let l = take (list_length_lem s) s in
-    let whole : l ++ drop (list_length_lem s) s ≡ s = take-append-drop (list_length_lem s) s in
-    let size : front_answer s ≡ 0 → length l ≡ list_length_lem s = λ done. length-take-le (list_length_lem s) s (front s done).enough in
+    let l = take (list_length s) s in
+    let whole : l ++ drop (list_length s) s ≡ s = take-append-drop (list_length s) s in
+    let size : front_answer s ≡ 0 → length l ≡ list_length s = λ done. length-take-le (list_length s) s (front s done).enough in
     same_test _ _
     (λ t.
     let done = eqb-true _ 0 (and_left _ _ t) in
-    and_intro _ _ (eq-eqb _ 0 (front-list s done)) (rw (size done) (and_right (eqb (front_answer s) 0) (leb (list_length_lem s) longest_list) t)))
+    and_intro _ _ (eq-eqb _ 0 (front-list s done)) (rw (size done) (and_right (eqb (front_answer s) 0) (leb (list_length s) longest_list) t)))
     (λ t.
     let done : front_answer s ≡ 0 = ap front_answer (sym whole) ∙ list-front l _ (eqb-true _ 0 (and_left _ _ t)) in
     and_intro _ _ (eq-eqb _ 0 done) (rw (size done) at (and_right (eqb (list_answer l) 0) (leb (length l) longest_list) t)))
 
 -- the list of exporter i is accepted
 abbrev pub kept_row : List ℕ → ℕ → Bool
-kept_row store i = eqb (front_answer (list_from store i)) 0 && leb (list_length_lem (list_from store i)) longest_list
+kept_row store i = eqb (front_answer (list_from store i)) 0 && leb (list_length (list_from store i)) longest_list
 
 -- every list is kept where each is accepted at the front of the bytes from its start on
 pub kept-rows : (ws store : List ℕ) (n : ℕ) → n ≡ exporter_count ws → every_row n (kept_row store) ≡ lists_kept (view (memory ws store))
@@ -65,7 +65,7 @@ module _ (ws store : List ℕ) (kept : lists_kept (view (memory ws store)) ≡ t
   front_kept i h = eqb-true _ 0 (and_left _ _ (row_kept i h))
 
   -- it is as long as its N says
-  pub list-size : (i : ℕ) → i < exporter_count ws → length (list_at store i) ≡ list_length_lem (list_from store i)
+  pub list-size : (i : ℕ) → i < exporter_count ws → length (list_at store i) ≡ list_length (list_from store i)
   list-size i h = length-take-le _ _ (front (list_from store i) (front_kept i h)).enough
 
   -- it ends within the store

@@ -12,7 +12,7 @@ use lib.Seq.{drop_at, length-take-le, take-take}
 use Rattle.kinds.proofs.Refusing.{same_test}
 use Rattle.fields.specs.Fields.{field, written}
 use Rattle.fields.proofs.Fields.{part_of, written-front}
-use Rattle.bindings.specs.Bindings.{list_length_lem, list_answer}
+use Rattle.bindings.specs.Bindings.{list_length, list_answer}
 use Rattle.bindings.proofs.ListAnswers.{list-front-taken}
 use Rattle.lists.specs.Lists.{skip}
 use Rattle.lists.proofs.Tests.{below_or_not}
@@ -24,7 +24,7 @@ use Rattle.table_view.specs.Placed.{closed, ClosedUp}
 -- ---- starts
 
 -- the next list begins where this one ends
-pub start-next : (s : List ℕ) (i : ℕ) → list_start s (suc i) ≡ list_start s i + list_length_lem (list_from s i)
+pub start-next : (s : List ℕ) (i : ℕ) → list_start s (suc i) ≡ list_start s i + list_length (list_from s i)
 unfolding list_start
 start-next s i = refl
 
@@ -33,8 +33,8 @@ unfolding list_start
 start_first s = refl
 
 -- a list has at least the bytes of N and S
-pub list-four : (s : List ℕ) → 4 ≤ list_length_lem s
-unfolding list_length_lem
+pub list-four : (s : List ℕ) → 4 ≤ list_length s
+unfolding list_length
 list-four s = omega arith
 
 -- later lists begin later
@@ -51,8 +51,8 @@ starts-rise s i j h = let e : i + (j - i) ≡ j = omega arith in rw e at (starts
 -- ---- lists that are the same, or that moved
 
 -- the same first bytes are the same list at the front
-front_length_lem : (s s' : List ℕ) (w : ℕ) → 2 ≤ w → take w s' ≡ take w s → list_length_lem s' ≡ list_length_lem s
-unfolding list_length_lem field
+front_length_lem : (s s' : List ℕ) (w : ℕ) → 2 ≤ w → take w s' ≡ take w s → list_length s' ≡ list_length s
+unfolding list_length field
 front_length_lem s s' w h e =
     let n : length (take w s') ≡ length (take w s) = ap length e in
     let a = length-take w s' in
@@ -70,14 +70,14 @@ module _ (s s' : List ℕ) (a b n : ℕ) (same : take n (drop a s') ≡ take n (
   part_moved k w h = part_of s' (take n (drop b s)) a n k w same h ∙ sym (part_of s (take n (drop b s)) b n k w refl h)
 
   -- its length
-  pub length_moved : (k : ℕ) → k + list_length_lem (drop (b + k) s) ≤ n → list_length_lem (drop (a + k) s') ≡ list_length_lem (drop (b + k) s)
+  pub length_moved : (k : ℕ) → k + list_length (drop (b + k) s) ≤ n → list_length (drop (a + k) s') ≡ list_length (drop (b + k) s)
   length_moved k h =
       let four = list-four (drop (b + k) s) in
-      front_length_lem _ _ (list_length_lem (drop (b + k) s)) (omega arith) (part_moved k _ h)
+      front_length_lem _ _ (list_length (drop (b + k) s)) (omega arith) (part_moved k _ h)
 
   -- its bytes
-  pub list-moved : (k : ℕ) → k + list_length_lem (drop (b + k) s) ≤ n
-      → take (list_length_lem (drop (a + k) s')) (drop (a + k) s') ≡ take (list_length_lem (drop (b + k) s)) (drop (b + k) s)
+  pub list-moved : (k : ℕ) → k + list_length (drop (b + k) s) ≤ n
+      → take (list_length (drop (a + k) s')) (drop (a + k) s') ≡ take (list_length (drop (b + k) s)) (drop (b + k) s)
   list-moved k h = rw (length_moved k h) (part_moved k _ h)
 
 -- ---- the first n lists where nothing changed before their end
@@ -90,7 +90,7 @@ module _ (s s' : List ℕ) (n e : ℕ) (same : take e s' ≡ take e s) (fits : l
       let r = starts-rise s (suc i) n h in
       let q = start-next s i in
       let z : 0 + list_start s i ≡ list_start s i = omega arith in
-      let m : list_length_lem (drop (list_start s i) s') ≡ list_length_lem (drop (list_start s i) s) =
+      let m : list_length (drop (list_start s i) s') ≡ list_length (drop (list_start s i) s) =
       rw z at (length_moved s s' 0 0 e same (list_start s i) (rw z (omega arith))) in
       rw (start-next s' i, x, m, start-next s i)
 
@@ -156,7 +156,7 @@ module _ (s : List ℕ) (k n : ℕ) (live : k < n) (room : list_start s n ≤ le
   off-starts : (d : ℕ) → list_start s (suc k) + off d ≡ list_start s (suc (k + d))
   off-starts d = let r = starts-rise s (suc k) (suc (k + d)) (omega arith) in omega arith
 
-  off-fits : (d : ℕ) → suc (k + d) < n → off d + list_length_lem (drop (list_start s (suc k) + off d) s) ≤ list_start s n - list_start s (suc k)
+  off-fits : (d : ℕ) → suc (k + d) < n → off d + list_length (drop (list_start s (suc k) + off d) s) ≤ list_start s n - list_start s (suc k)
   off-fits d h =
       let o = off-starts d in
       let q = start-next s (suc (k + d)) in

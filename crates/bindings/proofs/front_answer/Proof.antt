@@ -7,7 +7,7 @@ use borrow.Author.Rules.{rules}
 use borrow.Author.Tests.{lt-ltb, le-ltb}
 use lib.ListN.{length}
 use Rattle.kinds.specs.Refusals.{order}
-use Rattle.bindings.specs.Bindings.{two_parts, list_length_lem, front_answer}
+use Rattle.bindings.specs.Bindings.{two_parts, list_length, front_answer}
 use Rattle.bindings.proofs.ListAnswers.{front-done}
 use Rattle.bindings.proofs.front_answer.Statement.{statement}
 use Rattle.bindings.proofs.front_answer.Tie as tie
@@ -21,7 +21,7 @@ unfolding front_answer order
 returns-2 c =
     let s = c.before.before.before.before.args.s.now in
     let h : 4 ≤ length s = omega arith in
-    let l : length s < list_length_lem s = omega arith in
+    let l : length s < list_length s = omega arith in
     rw (le-ltb _ _ h, lt-ltb _ _ l)
 
 returns-3 : tie.Need-returns-3
@@ -34,7 +34,7 @@ unfolding front_answer order
 returns-4 c =
     let s = c.before.before.before.before.before.before.args.s.now in
     let h : 4 ≤ length s = omega arith in
-    let l : list_length_lem s ≤ length s = omega arith in
+    let l : list_length s ≤ length s = omega arith in
     let g : two_parts s ≡ false = sym c.before.two-parts.ensures ∙ c.if3.false in
     rw (le-ltb _ _ h, le-ltb _ _ l, g)
 

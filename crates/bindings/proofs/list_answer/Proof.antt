@@ -6,7 +6,7 @@ use borrow.Author.Rules.{rules}
 use borrow.Author.Tests.{ne_eqb, lt-ltb}
 use lib.ListN.{length}
 use Rattle.kinds.specs.Refusals.{order}
-use Rattle.bindings.specs.Bindings.{front_answer, list_length_lem, list_answer}
+use Rattle.bindings.specs.Bindings.{front_answer, list_length, list_answer}
 use Rattle.bindings.proofs.ListAnswers.{front, accept}
 use Rattle.bindings.proofs.list_answer.Statement.{statement}
 use Rattle.bindings.proofs.list_answer.Tie as tie
@@ -26,7 +26,7 @@ returns-2 : tie.Need-returns-2
 unfolding list_answer order
 returns-2 c =
     let s = c.before.before.before.before.before.args.s.now in
-    let l : list_length_lem s < length s = omega arith in
+    let l : list_length s < length s = omega arith in
     rw (done c.before.before, lt-ltb _ _ l)
 
 returns-3 : tie.Need-returns-3

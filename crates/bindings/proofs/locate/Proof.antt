@@ -3,7 +3,7 @@ use mathlib.Core.Path.{◌≡◌, sym, ◌∙◌}
 use native.Mathlib.Omega.{arith}
 use borrow.Author.Rules.{rules}
 use borrow.Author.Tests.{eq-eqb, ne_eqb}
-use Rattle.bindings.specs.Bindings.{list_length_lem, list_answer, binding_at}
+use Rattle.bindings.specs.Bindings.{list_length, list_answer, binding_at}
 use Rattle.bindings.proofs.ListAnswers.{Accepted, accepted}
 use Rattle.bindings.proofs.locate.Statement.{statement}
 use Rattle.bindings.proofs.locate.Tie as tie
@@ -22,15 +22,15 @@ ok : (c : tie.Else1) → Accepted c.before.before.before.args.s.now
 ok c = accepted _ (done c)
 
 find-requires : tie.Need-find-requires
-unfolding list_length_lem
+unfolding list_length
 find-requires c κs = let h = ok c.before.before.before.before in omega arith
 
 sub-find : tie.Need-overflow-sub-find
-unfolding list_length_lem
+unfolding list_length
 sub-find c = let h = ok c.before.before.before.before in omega arith
 
 find-requires-2 : tie.Need-find-requires-2
-unfolding list_length_lem
+unfolding list_length
 find-requires-2 c κs = let h = ok c.before.before.before.before in omega arith
 
 returns-2 : tie.Need-returns-2

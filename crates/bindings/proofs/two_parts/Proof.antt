@@ -5,7 +5,7 @@ use mathlib.Core.Bool.{true, false}
 use native.Mathlib.Omega.{arith}
 use borrow.Author.Rules.{rules}
 use borrow.Author.Tests.{le-leb, lt-leb, not-true, not-false}
-use Rattle.bindings.specs.Bindings.{words, is_part, count, split, is_bare, two_parts, list_length_lem}
+use Rattle.bindings.specs.Bindings.{words, is_part, count, split, is_bare, two_parts, list_length}
 use Rattle.bindings.specs.declared.Part.TheVariants.{Strings}
 use Rattle.bindings.proofs.ListAnswers.{not-bare}
 use Rattle.bindings.proofs.two_parts.Statement.{statement}
@@ -31,7 +31,7 @@ words-there : (c : tie.Else2) → is_bare c.before.before.before.before.before.a
 words-there c = not-bare _ (λ n k. c.if2.false (omega arith))
 
 is-part-requires : tie.Need-is-part-requires
-unfolding list_length_lem
+unfolding list_length
 is-part-requires c κs = search rules
 
 returns-3 : tie.Need-returns-3
@@ -44,7 +44,7 @@ returns-3 c =
     rw (words-there c.before.before, le-leb (split s) (count s) h, e)
 
 is-part-requires-2 : tie.Need-is-part-requires-2
-unfolding list_length_lem
+unfolding list_length
 is-part-requires-2 c κs = search rules
 
 returns-4 : tie.Need-returns-4

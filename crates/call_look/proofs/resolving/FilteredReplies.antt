@@ -10,7 +10,7 @@ use lib.Dec.{eqb}
 use lib.ListN.{length, take, get_or, length-take}
 use Rattle.kinds.specs.declared.Guid.{Guid}
 use Rattle.fields.specs.Fields.{stored}
-use Rattle.bindings.specs.Bindings.{words, list_length_lem, list_answer, split}
+use Rattle.bindings.specs.Bindings.{words, list_length, list_answer, split}
 use Rattle.bindings.specs.Filter.{filtered, write_filtered, words_in, towers_of, Marks}
 use Rattle.bindings.specs.declared.filter.Filtered.{Filtered}
 use Rattle.bindings.proofs.ListAnswers.{accepted, front-list}
@@ -22,7 +22,7 @@ use Rattle.lists.proofs.Lists.{every-at}
 use Rattle.rules.specs.Entries.{Entries, Exporter, exporter_row}
 use Rattle.rules.specs.Calls.{Call, Look, Reply}
 use Rattle.rules.specs.Contract.{Memory}
-use Rattle.rules.specs.Rules.{no_exporter, exporter_of, too_many_lem, refusals, number, next, results, accepted_reply, refused_reply, reply}
+use Rattle.rules.specs.Rules.{no_exporter, exporter_of, too_many, refusals, number, next, results, accepted_reply, refused_reply, reply}
 use Rattle.table_view.specs.View.{exporter_count, list_from, exporters_of, memory, view, Holds, SoundTable, Stepped}
 use Rattle.table_view.proofs.KeptLists.{front_kept}
 use Rattle.table_view.proofs.LiveRows.{exporter-at, exporters-length}
@@ -49,7 +49,7 @@ module _ (ws s : List ℕ) (t : SoundTable (memory ws s)) (n r : ℕ) (counted :
 
   -- the words before its security part are at most as many as a list may have
   pub towers-fit : split list ≤ 1024
-  unfolding list_length_lem
+  unfolding list_length
   towers-fit =
       let h = accepted list good-list in
       let l = short-list in
@@ -76,18 +76,18 @@ module _ (protocols list : List ℕ) (n : ℕ) {w : Filtered} (e : w ≡ write_f
   filter-length z = ap (λ (x : Filtered). x.length) (e ∙ sym (write_done protocols list n (answer-done protocols list n good (filter-room z))))
 
 -- within the limit it is a resolve of what the filter leaves
-filtering : (protocols : List ℕ) → too_many_lem protocols ≡ false → (x : ℕ) (buffer : List ℕ) (e : Entries)
+filtering : (protocols : List ℕ) → too_many protocols ≡ false → (x : ℕ) (buffer : List ℕ) (e : Entries)
     → Resolves (Call.looking (Look.resolve_filtered x protocols buffer)) x (filtered protocols) buffer e
 unfolding number refusals refused_reply accepted_reply results next
-filtering protocols few x buffer e = record { rows = row-passes (too_many_lem protocols) 10 _ refl few; refused = λ k. refl; accepted = refl; looks = refl }
+filtering protocols few x buffer e = record { rows = row-passes (too_many protocols) 10 _ refl few; refused = λ k. refl; accepted = refl; looks = refl }
 
 module _ (ws s protocols buffer : List ℕ) (x : ℕ) where
   -- more protocols than the limit
   pub too_many_lem : 65535 < length protocols → Stepped (Call.looking (Look.resolve_filtered x protocols buffer)) (memory ws s) (resolve_reply (none 10) buffer) (memory ws s)
   unfolding number refusals refused_reply results
-  too_many_lem h = refused-step 10 (row_gives (too_many_lem protocols) 10 _ refl (lt-ltb _ _ h)) (λ z. omega arith)
+  too_many_lem h = refused-step 10 (row_gives (too_many protocols) 10 _ refl (lt-ltb _ _ h)) (λ z. omega arith)
 
-  module _ (few : too_many_lem protocols ≡ false) (n r : ℕ) (counted : n ≡ exporter_count ws) where
+  module _ (few : too_many protocols ≡ false) (n r : ℕ) (counted : n ≡ exporter_count ws) where
     pub filtered-gone : n ≤ r → Holds (λ e. r ≡ exporter_row e x) ws → Stepped (Call.looking (Look.resolve_filtered x protocols buffer)) (memory ws s) (resolve_reply (none 4) buffer) (memory ws s)
     filtered-gone = gone (filtering protocols few) ws s buffer x n r counted
 
@@ -108,7 +108,7 @@ module _ (ws s protocols buffer : List ℕ) (x : ℕ) where
           (copied (filtering protocols few) ws s buffer x n r counted live row list held (filter-room protocols list (length buffer) e good ok) after u (put ∙ rw (eq-eqb _ 0 ok)) unknown)
 
 -- two requests within the limit that keep the same of the list have one reply
-alike-step : (m m' : Memory) (x : ℕ) (p q buffer : List ℕ) {r : Reply} → too_many_lem p ≡ false → too_many_lem q ≡ false
+alike-step : (m m' : Memory) (x : ℕ) (p q buffer : List ℕ) {r : Reply} → too_many p ≡ false → too_many q ≡ false
     → filtered p (exporter_of (view m) x).bindings ≡ filtered q (exporter_of (view m) x).bindings
     → Stepped (Call.looking (Look.resolve_filtered x p buffer)) m r m' → Stepped (Call.looking (Look.resolve_filtered x q buffer)) m r m'
 unfolding reply number refusals accepted_reply refused_reply results next
@@ -121,7 +121,7 @@ alike-step m m' x p q buffer few few' same s = record { answered = s.answered �
 pub towers-alike : (ws s buffer protocols towers : List ℕ) (x k : ℕ) (q : Reply)
     → Stepped (Call.looking (Look.resolve_filtered x (take k towers) buffer)) (memory ws s) q (memory ws s)
     → (n r : ℕ) → n ≡ exporter_count ws → r < n → Holds (λ e. r ≡ exporter_row e x) ws
-    → (list marks : List ℕ) → list ≡ (get_or (exporters_of ws s) r no_exporter).bindings → too_many_lem protocols ≡ false → Marks marks protocols
+    → (list marks : List ℕ) → list ≡ (get_or (exporters_of ws s) r no_exporter).bindings → too_many protocols ≡ false → Marks marks protocols
     → ((ps : List ℕ) → Marks marks ps → take k towers ≡ towers_of ps (words list 4 (split list))) → k ≤ length towers → length towers ≡ 1024
     → Stepped (Call.looking (Look.resolve_filtered x protocols buffer)) (memory ws s) q (memory ws s)
 towers-alike ws s buffer protocols towers x k q searched n r counted live row list marks held few marked taken fits room =
@@ -132,7 +132,7 @@ towers-alike ws s buffer protocols towers x k q searched n r counted live row li
 
 -- protocols in bytes
 module _ (bytes : List ℕ) where
-  pub few_words : length bytes / 2 ≤ 65535 → too_many_lem (words_in bytes) ≡ false
+  pub few_words : length bytes / 2 ≤ 65535 → too_many (words_in bytes) ≡ false
   few_words l = le-ltb 65535 (length (words_in bytes)) (rw (words-length bytes) l)
 
   pub too-many-words : (ws s buffer : List ℕ) (x : ℕ) → 65535 < length bytes / 2

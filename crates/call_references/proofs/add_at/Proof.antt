@@ -10,7 +10,7 @@ use Rattle.kinds.specs.Refusals.{order, ◌gives◌}
 use Rattle.kinds.specs.declared.Guid.{Guid}
 use Rattle.rules.specs.Entries.{Interface, Entries, public_of, private_of, with_interfaces, at_counts, interface_row}
 use Rattle.rules.specs.Calls.{Call, Edit, numbered}
-use Rattle.rules.specs.Rules.{no_interface, interface_of, passes_count_lem, refusals, number, next, results, refused_reply, accepted_reply}
+use Rattle.rules.specs.Rules.{no_interface, interface_of, passes_count, refusals, number, next, results, refused_reply, accepted_reply}
 use Rattle.rules.proofs.ByRow.{interface-row}
 use Rattle.rules.proofs.CountRows.{add_row}
 use Rattle.table_view.specs.View.{interface_count, interfaces_of, memory, view, Holds, SoundTable, Stepped}
@@ -25,10 +25,10 @@ use Rattle.call_references.proofs.add_at.Statement.{statement}
 use Rattle.call_references.proofs.add_at.Tie as tie
 
 -- a count that passes 4,294,967,295, and one that does not
-passes_count_lem : (n : ℕ) → 4294967295 < n → passes_count_lem n ≡ true
+passes_count_lem : (n : ℕ) → 4294967295 < n → passes_count n ≡ true
 passes_count_lem n h = le-leb (2 ^ 32) n (omega arith)
 
-within_count : (n : ℕ) → n ≤ 4294967295 → passes_count_lem n ≡ false
+within_count : (n : ℕ) → n ≤ 4294967295 → passes_count n ≡ false
 within_count n h = lt-leb (2 ^ 32) n (omega arith)
 
 module _ (ws s : List ℕ) (c : ℕ) (i : Guid) (p q : ℕ) where
@@ -55,11 +55,11 @@ module _ (ws s : List ℕ) (c : ℕ) (i : Guid) (p q : ℕ) where
     -- what it holds
     module _ (live : r < n) (found : Holds (λ f. r ≡ interface_row f i) ws) (h : InterfaceCounts) (held : h ≡ counts_at ws r c) where
       -- the rows of the sums are left
-      sums : number call e ≡ order (passes_count_lem (h.public + p) gives 8 ∷ passes_count_lem (h.private + q) gives 8 ∷ [])
+      sums : number call e ≡ order (passes_count (h.public + p) gives 8 ∷ passes_count (h.private + q) gives 8 ∷ [])
       unfolding number refusals
       sums =
           live-passes (interface-tested ws s i (found s) counted) _ _ (row-passes _ _ _ refl (le-ltb 7 c client)) live
-          ∙ two-rows (passes_count_lem (public_of (interface_of e i) + p)) (passes_count_lem (private_of c (interface_of e i) + q)) 8 []
+          ∙ two-rows (passes_count (public_of (interface_of e i) + p)) (passes_count (private_of c (interface_of e i) + q)) 8 []
           ∙ rw (interface-row e i, ← found s, held)
 
       -- the sums in the row are the entries that the rules say

@@ -8,7 +8,7 @@ use lib.Dec.{leb}
 use lib.ListN.{length}
 use Rattle.kinds.specs.Refusals.{order}
 use Rattle.fields.specs.Fields.{field}
-use Rattle.extensions.specs.Extensions.{front_answer, count_at_lem}
+use Rattle.extensions.specs.Extensions.{front_answer, count_at}
 use borrow.Author.Rules.{rules}
 use Rattle.extensions.proofs.front_answer.Statement.{statement}
 use Rattle.extensions.proofs.front_answer.Tie as tie
@@ -27,10 +27,10 @@ returns-2 : tie.Need-returns-2
 unfolding front_answer order
 returns-2 c =
     let n = c.before.read_u32.ensures in
-    let above : 32 < count_at_lem c.before.before.before.before.before.args.s.now c.before.before.before.before.before.args.at = omega arith in
+    let above : 32 < count_at c.before.before.before.before.before.args.s.now c.before.before.before.before.before.args.at = omega arith in
     simp (one c.before.before, lt-ltb _ _ above)
 
-few : (c : tie.Else2) → count_at_lem c.before.before.before.before.before.args.s.now c.before.before.before.before.before.args.at ≤ 32
+few : (c : tie.Else2) → count_at c.before.before.before.before.before.args.s.now c.before.before.before.before.before.args.at ≤ 32
 few c = let n = c.before.read_u32.ensures in omega arith
 
 returns-3 : tie.Need-returns-3

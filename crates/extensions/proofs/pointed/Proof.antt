@@ -1,13 +1,13 @@
 -- `extensions::pointed`: the counts and pointers, and the extensions.
 use Prim.Native.Nat.{◌+◌}
 use mathlib.Core.Path.{◌≡◌, sym, ap, ◌∙◌}
-use Rattle.extensions.specs.Extensions.{pairs, count_at_lem, counted_answer}
+use Rattle.extensions.specs.Extensions.{pairs, count_at, counted_answer}
 use Rattle.extensions.proofs.ArrayWalk.{walked_stop, pointed-stop, pointed-rest}
 use borrow.Author.Rules.{rules}
 use Rattle.extensions.proofs.pointed.Statement.{statement}
 use Rattle.extensions.proofs.pointed.Tie as tie
 
-same : (c : tie.After-counted-answer) → let a = c.before.before.before.args in c.counted-answer.result ≡ counted_answer a.s.now (a.at + 16) (count_at_lem a.s.now a.at)
+same : (c : tie.After-counted-answer) → let a = c.before.before.before.args in c.counted-answer.result ≡ counted_answer a.s.now (a.at + 16) (count_at a.s.now a.at)
 same c = rw c.before.read_u32.ensures at c.counted-answer.ensures
 
 returns : tie.Need-returns
@@ -19,7 +19,7 @@ returns-2 : tie.Need-returns-2
 returns-2 c =
     let a = c.before.before.before.before.before.before.args in
     let n = c.before.before.before.before.read_u32.ensures in
-    let p : c.before.paired.result ≡ pairs (count_at_lem a.s.now a.at) = c.before.paired.ensures ∙ ap pairs n in
+    let p : c.before.paired.result ≡ pairs (count_at a.s.now a.at) = c.before.paired.ensures ∙ ap pairs n in
     let e = rw (p, n) at c.extents.ensures in
     rw (pointed-rest a.s.now a.at (sym (same c.before.before.before) ∙ c.before.before.if1.false)) e
 

@@ -10,7 +10,7 @@ use Rattle.bindings.specs.Bindings.{refusal, binding_at, bytes_at}
 use Rattle.bindings.specs.declared.Part.{Part}
 use Rattle.bindings.specs.declared.Place.{Place}
 use Rattle.bindings.proofs.ListAnswers.{Within, within-binding}
-use Rattle.references.specs.References.{fixed_size, reference_answer, tail_place, tail_of_lem, moved, reference_binding}
+use Rattle.references.specs.References.{fixed_size, reference_answer, tail_place, tail_of, moved, reference_binding}
 use Rattle.references.proofs.Forms.{tail-number, tail-start, tail_within, tail-length, binding-refused, binding-custom, binding-listed}
 use borrow.Author.Rules.{rules}
 use Rattle.references.proofs.locate.Statement.{statement}
@@ -36,12 +36,12 @@ module _ (s : List ℕ) (p : Part) (k : ℕ) (x : Place) (placed : x ≡ tail_pl
     custom f flags h = sym (binding-custom _ _ _ done (sym flags ∙ h))
 
     module _ (y : Place) (found : y ≡ binding_at (bytes_at s x) p k) where
-      listed : y ≡ binding_at (tail_of_lem s) p k
+      listed : y ≡ binding_at (tail_of s) p k
       listed = found ∙ ap (λ (z : Place). binding_at (bytes_at s z) p k) placed
 
       room : Room s x y
       room =
-          let w = within-binding (tail_of_lem s) p k in
+          let w = within-binding (tail_of s) p k in
           let n = tail-length s done in
           let from = start in
           rw listed (record { order = omega arith; end = omega arith })

@@ -22,7 +22,7 @@ use Rattle.call_enter.proofs.Places.{list-fits}
 use Rattle.table_view.proofs.MemberRows.{below-from}
 use Rattle.snapshot_rows.specs.declared.Section.TheVariants.{Exporters, Objects, Sets}
 use Rattle.snapshot_reader.specs.declared.rows.Found.{Found}
-use Rattle.snapshot_reader.specs.ReadRows.{with_row, after_row, in_order_lem, fits, members_in, MembersFound}
+use Rattle.snapshot_reader.specs.ReadRows.{with_row, after_row, in_order, fits, members_in, MembersFound}
 use Rattle.snapshot_reader.proofs.rows.RowFields.{drop-within, part-within, set-row}
 use Rattle.snapshot_reader.proofs.rows.SectionFits.{exporter-fits, set-fits}
 
@@ -78,8 +78,8 @@ module _ (ws s t : List ℕ) (h : fits Sets (view (memory ws t)) ≡ true) (n : 
   pub set-judged : n < set_places → (r : Found) (k : ℕ) → k ≡ field s 18 2 → MembersFound (oids_of ws) (members_in s k) r → fits Sets (with_row Sets s (view (memory ws t))) ≡ r.all
   set-judged b r k f m =
       sym (holding-last _ (holding-passes _ _ (set-fits (read_set s).value (view (memory ws t)) h) (rw counted-sets (lt-ltb n set_places b))))
-      ∙ ap (λ (x : Front PingSet). in_order_lem (oids_of ws) x.value.members) (set-row s)
-      ∙ ap (λ (i : ℕ). in_order_lem (oids_of ws) (members_in s i)) (sym f)
+      ∙ ap (λ (x : Front PingSet). in_order (oids_of ws) x.value.members) (set-row s)
+      ∙ ap (λ (i : ℕ). in_order (oids_of ws) (members_in s i)) (sym f)
       ∙ sym m.all
 
 module _ (s : List ℕ) (k : ℕ) (f : k ≡ field s 18 2) where

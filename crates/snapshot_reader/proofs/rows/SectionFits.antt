@@ -25,7 +25,7 @@ use Rattle.table_edit.specs.Edits.{add_exporter, add_object, add_interface, add_
 use Rattle.snapshot_rows.specs.declared.Section.{Section}
 use Rattle.snapshot_rows.specs.declared.Section.TheVariants.{Exporters, Objects, Interfaces, Sets}
 use Rattle.snapshot_reader.specs.declared.rows.Row.{Row}
-use Rattle.snapshot_reader.specs.ReadRows.{with_row, after_row, with_rows, in_order_lem, fits, RowRead}
+use Rattle.snapshot_reader.specs.ReadRows.{with_row, after_row, with_rows, in_order, fits, RowRead}
 
 -- ---- one row more
 
@@ -83,20 +83,20 @@ interface-fits i e = room_snoc e.interfaces i interface_places
 
 -- a set more fits where there is a place and its members stand in the order of the objects
 pub set-fits : (p : PingSet) (e : Entries) → fits Sets e ≡ true
-    → fits Sets (add_set p e) ≡ holding (ltb (length e.sets) set_places ∷ in_order_lem (oids e) p.members ∷ [])
+    → fits Sets (add_set p e) ≡ holding (ltb (length e.sets) set_places ∷ in_order (oids e) p.members ∷ [])
 unfolding fits
 set-fits p e h =
     let ps = e.sets in
     let room = room_snoc ps p set_places in
-    let ordered = every-snoc (λ (q : PingSet). in_order_lem (oids e) q.members) ps p in
+    let ordered = every-snoc (λ (q : PingSet). in_order (oids e) q.members) ps p in
     same_test _ _
     (λ t.
     ((sym room ∙ clause-at _ 0 t)
-    and and_right (every (λ (q : PingSet). in_order_lem (oids e) q.members) ps) (in_order_lem (oids e) p.members) (sym ordered ∙ clause-at _ 1 t)
+    and and_right (every (λ (q : PingSet). in_order (oids e) q.members) ps) (in_order (oids e) p.members) (sym ordered ∙ clause-at _ 1 t)
     and none).together)
     (λ t.
     ((room ∙ clause-at _ 0 t)
-    and (ordered ∙ and_intro (every (λ (q : PingSet). in_order_lem (oids e) q.members) ps) (in_order_lem (oids e) p.members) (clause-at _ 1 h) (clause-at _ 1 t))
+    and (ordered ∙ and_intro (every (λ (q : PingSet). in_order (oids e) q.members) ps) (in_order (oids e) p.members) (clause-at _ 1 h) (clause-at _ 1 t))
     and none).together)
 
 -- ---- what fits fits with a row less
@@ -121,7 +121,7 @@ row-less Interfaces s e t = fewer e.interfaces (read_interface s).value 256 t
 row-less Sets s e t =
     let ps = e.sets in
     let p = (read_set s).value in
-    let ordered : PingSet → Bool = λ q. in_order_lem (oids e) q.members in
+    let ordered : PingSet → Bool = λ q. in_order (oids e) q.members in
     (fewer ps p 32 (clause-at _ 0 t)
     and and_left (every ordered ps) (ordered p) (sym (every-snoc ordered ps p) ∙ clause-at _ 1 t)
     and none).together

@@ -19,7 +19,7 @@ use Rattle.table_columns.specs.Members.{has_member, InWords, MemberPut}
 use Rattle.table_columns.specs.declared.members.Members.{Members}
 use Rattle.table_columns.proofs.members.Bits.{keep-next, below_holds, members-below}
 use Rattle.table_columns.proofs.members.Making.{zero-member}
-use Rattle.snapshot_reader.specs.ReadRows.{passed, in_order_lem, members_in, MembersFound}
+use Rattle.snapshot_reader.specs.ReadRows.{passed, in_order, members_in, MembersFound}
 
 -- ---- members in the order of the objects
 
@@ -33,8 +33,8 @@ passed-kept p o h (x ∷ xs) =
     (λ t. passed-kept p o h xs)
 
 -- what a test keeps of OIDs stands in their order
-pub kept-in-order : (p : ℕ → Bool) (os : List ℕ) → in_order_lem os (keep p os) ≡ true
-unfolding in_order_lem keep
+pub kept-in-order : (p : ℕ → Bool) (os : List ℕ) → in_order os (keep p os) ≡ true
+unfolding in_order keep
 kept-in-order p [] = refl
 kept-in-order p (o ∷ os) =
     ⊎_elim
@@ -58,7 +58,7 @@ put-again j m w h =
 -- the members below k are found at rows below j
 pub record Walked (ids ms : List ℕ) (j k : ℕ) (m : Members) : Type 0 where
   pub place : k ≤ length ms
-  pub order : in_order_lem (drop j ids) (drop k ms) ≡ in_order_lem ids ms
+  pub order : in_order (drop j ids) (drop k ms) ≡ in_order ids ms
   pub values : map (λ i. get_or ids i 0) (keep (has_member m) (tabulate j (λ i. i))) ≡ take k ms
   pub none : (i : ℕ) → j ≤ i → has_member m i ≡ false
 
@@ -98,12 +98,12 @@ module _ (ids ms : List ℕ) (j k : ℕ) (m m' : Members) (member : Bool) (few :
       (λ (t : member ≡ false). rw t w.place)
       (true-or-false member)
 
-  step-order : in_order_lem (drop (j + 1) ids) (drop next ms) ≡ in_order_lem ids ms
-  unfolding in_order_lem
+  step-order : in_order (drop (j + 1) ids) (drop next ms) ≡ in_order ids ms
+  unfolding in_order
   step-order =
-      let a : in_order_lem (drop j ids) (drop k ms) ≡ in_order_lem (drop (suc j) ids) (passed (get_or ids j 0) (drop k ms)) =
-      ap (λ (l : List ℕ). in_order_lem l (drop k ms)) (drop-cons ids j 0 h) in
-      let b = ap (in_order_lem (drop (suc j) ids)) (passed-at ms k (get_or ids j 0) w.place) in
+      let a : in_order (drop j ids) (drop k ms) ≡ in_order (drop (suc j) ids) (passed (get_or ids j 0) (drop k ms)) =
+      ap (λ (l : List ℕ). in_order l (drop k ms)) (drop-cons ids j 0 h) in
+      let b = ap (in_order (drop (suc j) ids)) (passed-at ms k (get_or ids j 0) w.place) in
       rw (add-one j, e) (sym (a ∙ b) ∙ w.order)
 
   step-values : map (λ i. get_or ids i 0) (keep (has_member m') (tabulate (j + 1) (λ i. i))) ≡ take next ms
@@ -137,11 +137,11 @@ module _ (ids ms : List ℕ) (j k : ℕ) (m m' : Members) (member : Bool) (few :
 
 -- the end of the walk
 pub walk-ended : (ids ms : List ℕ) (n k : ℕ) (m : Members) → n ≡ length ids → n ≤ 128 → Walked ids ms n k m → MembersFound ids ms (record { all = eqb k (length ms); members = m })
-unfolding in_order_lem
+unfolding in_order
 walk-ended ids ms n k m e b w =
     let p = w.place in
     let d = length-drop k ms in
-    let left : eqb (length (drop k ms)) 0 ≡ in_order_lem ids ms = ap (λ (l : List ℕ). in_order_lem l (drop k ms)) (sym (drop_of_length-le ids {i = n} (omega arith))) ∙ w.order in
+    let left : eqb (length (drop k ms)) 0 ≡ in_order ids ms = ap (λ (l : List ℕ). in_order l (drop k ms)) (sym (drop_of_length-le ids {i = n} (omega arith))) ∙ w.order in
     record {
       all =
           same_test (eqb k (length ms)) (eqb (length (drop k ms)) 0)

@@ -19,7 +19,7 @@ use Rattle.rules.proofs.Swapping.{Snapshot, snapshot-fields, loads-ordered}
 use Rattle.snapshot_rows.specs.declared.Section.{Section}
 use Rattle.snapshot_rows.specs.declared.Section.TheVariants.{Exporters, Objects, Interfaces, Sets}
 use Rattle.snapshot_reader.specs.declared.sections.Place.{Place}
-use Rattle.snapshot_reader.specs.ReadRows.{Left, with_section, in_order_lem, fits}
+use Rattle.snapshot_reader.specs.ReadRows.{Left, with_section, in_order, fits}
 use Rattle.snapshot_reader.specs.ReadSections.{begun, SectionRead, TableRead}
 use Rattle.snapshot_reader.proofs.rows.RowFields.{drop-within}
 use Rattle.snapshot_reader.proofs.rows.Walk.{kept-in-order}
@@ -143,13 +143,13 @@ module _ (s : List ℕ) where
 
     -- members stand in the order of the objects
     ordered : (ids : List ℕ) (ps : List PingSet) → map (λ (p : PingSet). keep (among p.members) ids) ps ≡ map (λ (p : PingSet). p.members) ps
-        → every (λ (p : PingSet). in_order_lem ids p.members) ps ≡ true
+        → every (λ (p : PingSet). in_order ids p.members) ps ≡ true
     unfolding every
     ordered ids [] e = refl
     ordered ids (p ∷ ps) e =
         let m : keep (among p.members) ids ≡ p.members = cc in
         let r : map (λ (q : PingSet). keep (among q.members) ids) ps ≡ map (λ (q : PingSet). q.members) ps = cc in
-        and_intro (in_order_lem ids p.members) _ (ap (in_order_lem ids) (sym m) ∙ kept-in-order (among p.members) ids) (ordered ids ps r)
+        and_intro (in_order ids p.members) _ (ap (in_order ids) (sym m) ∙ kept-in-order (among p.members) ids) (ordered ids ps r)
 
     pub sets-fit : fits Sets left4.entries ≡ true
     unfolding fits placed

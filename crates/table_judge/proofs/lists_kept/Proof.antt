@@ -10,7 +10,7 @@ use borrow.Author.Rules.{part_to_end}
 use native.Mathlib.Omega.{arith}
 use native.Mathlib.Numerals.{add-one}
 use lib.ListN.{length, length-drop}
-use Rattle.bindings.specs.Bindings.{front_answer, list_length_lem}
+use Rattle.bindings.specs.Bindings.{front_answer, list_length}
 use Rattle.bindings.proofs.ListAnswers.{front}
 use Rattle.rules.specs.Entries.{exporter_places}
 use Rattle.rules.specs.Sound.{longest_list}
@@ -25,11 +25,11 @@ use Rattle.table_judge.proofs.lists_kept.Tie as tie
 bad-answer : (s : List ℕ) (i : ℕ) → (front_answer (list_from s i) ≡ 0 → ⊥) → false ≡ kept_row s i
 bad-answer s i h = rw (ne_eqb (front_answer (list_from s i)) 0 h)
 
-long-list : (s : List ℕ) (i : ℕ) → longest_list < list_length_lem (list_from s i) → false ≡ kept_row s i
-long-list s i h = rw (lt-leb (list_length_lem (list_from s i)) longest_list h) (sym (and-false (eqb (front_answer (list_from s i)) 0)))
+long-list : (s : List ℕ) (i : ℕ) → longest_list < list_length (list_from s i) → false ≡ kept_row s i
+long-list s i h = rw (lt-leb (list_length (list_from s i)) longest_list h) (sym (and-false (eqb (front_answer (list_from s i)) 0)))
 
-good-list : (s : List ℕ) (i : ℕ) → front_answer (list_from s i) ≡ 0 → list_length_lem (list_from s i) ≤ longest_list → true ≡ kept_row s i
-good-list s i e h = rw (eq-eqb (front_answer (list_from s i)) 0 e) (sym (le-leb (list_length_lem (list_from s i)) longest_list h))
+good-list : (s : List ℕ) (i : ℕ) → front_answer (list_from s i) ≡ 0 → list_length (list_from s i) ≤ longest_list → true ≡ kept_row s i
+good-list s i e h = rw (eq-eqb (front_answer (list_from s i)) 0 e) (sym (le-leb (list_length (list_from s i)) longest_list h))
 
 abbrev invariant-loop : tie.invariant-loop
 invariant-loop words store n at₀ k₀ at k = (n ≤ exporter_places) × (every_row n (kept_row store) ≡ every_from k n (kept_row store)) × (at ≡ list_start store k) × (at ≤ length store)
@@ -54,11 +54,11 @@ returns c =
     ∙ kept-rows start.args.words.now start.args.store.now _ c.before.before.before.before.before.exporter-count.ensures.0
 
 size : (c : tie.After-stated-length invariant-loop decreases-loop) → let l = c.before.before.before.before.before.before in
-    c.stated-length.result ≡ list_length_lem (list_from l.before.before.before.before.args.store.now l.loop.k)
+    c.stated-length.result ≡ list_length (list_from l.before.before.before.before.args.store.now l.loop.k)
 size c =
     let s = c.before.before.before.before.before.before.before.before.before.before.args.store.now in
     let l = c.before.before.before.before.before.before.loop in
-    rw (← l.invariant.2) (c.stated-length.ensures ∙ ap list_length_lem (part_to_end s l.at))
+    rw (← l.invariant.2) (c.stated-length.ensures ∙ ap list_length (part_to_end s l.at))
 
 -- the list ends within the store
 ends : (c : tie.After-stated-length invariant-loop decreases-loop) → let l = c.before.before.before.before.before.before in

@@ -2,7 +2,7 @@
 use mathlib.Core.Path.{sym, ap, ◌∙◌}
 use native.Mathlib.Omega.{arith}
 use lib.ListN.{length}
-use Rattle.bindings.specs.Bindings.{list_length_lem}
+use Rattle.bindings.specs.Bindings.{list_length}
 use Rattle.bindings.proofs.ListAnswers.{accepted}
 use Rattle.bindings.proofs.FilterWriting.{no_words, filtered-size}
 use borrow.Author.Rules.{rules}
@@ -15,7 +15,7 @@ returns c =
     sym (ap length (no_words a.protocols.now a.s.now c.before.before.before.before.before.requires (sym c.before.before.read-u16.ensures ∙ c.if1.true)))
 
 requested-words-requires : tie.Need-requested-words-requires
-unfolding list_length_lem
+unfolding list_length
 requested-words-requires c κs = let h = accepted _ c.before.before.before.before.before.requires in omega arith
 
 returns-2 : tie.Need-returns-2

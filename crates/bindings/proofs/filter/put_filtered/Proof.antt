@@ -5,7 +5,7 @@ use native.Mathlib.Omega.{arith}
 use lib.ListN.{length}
 use Rattle.fields.specs.Fields.{written, Bytes}
 use Rattle.fields.proofs.Fields.{length-written}
-use Rattle.bindings.specs.Bindings.{count, list_length_lem}
+use Rattle.bindings.specs.Bindings.{count, list_length}
 use Rattle.bindings.proofs.ListAnswers.{accepted}
 use Rattle.bindings.proofs.FilterWriting.{no_words, filtered-size, filtered-written, filtered-count}
 use borrow.Author.Rules.{rules}
@@ -19,7 +19,7 @@ returns c =
     c.before.before.copy.ensures ∙ ap (written st.args.buf.now 0) (sym (no_words _ _ st.requires.0 (sym test.before.before.read-u16.ensures ∙ test.if1.true)))
 
 requested-words-requires : tie.Need-requested-words-requires
-unfolding list_length_lem
+unfolding list_length
 requested-words-requires c κs = let h = accepted _ c.before.before.before.before.before.before.requires.0 in omega arith
 
 -- past the list without words
@@ -35,7 +35,7 @@ few c =
     filtered-count _ _ st.requires.0 (some c) (bytes c) _ _ _ c.before.before.before.read-u16.ensures c.before.before.read-u162.ensures c.requested-words.ensures.0
 
 put-requested-requires : tie.Need-put-requested-requires
-unfolding list_length_lem
+unfolding list_length
 put-requested-requires c κs =
     let w = c.before.before.before.before.before.before.before.before.before in
     let st = w.before.before.before.before.before.before.before in
@@ -48,11 +48,11 @@ put-requested-requires c κs =
     (omega arith, omega arith)
 
 sub-copy : tie.Need-overflow-sub-copy
-unfolding list_length_lem
+unfolding list_length
 sub-copy c = let st : tie.Start = search in let h = accepted _ st.pre.0 in omega arith
 
 part-copy-start : tie.Need-slice-bounds-copy-start
-unfolding list_length_lem
+unfolding list_length
 part-copy-start c = let st : tie.Start = search in let h = accepted _ st.pre.0 in omega arith
 
 returns-2 : tie.Need-returns-2

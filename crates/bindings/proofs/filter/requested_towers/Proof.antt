@@ -7,7 +7,7 @@ use borrow.Author.Rules.{rules}
 use lib.ListN.{length, take}
 use Rattle.fields.specs.Fields.{field}
 use Rattle.lists.specs.Lists.{among}
-use Rattle.bindings.specs.Bindings.{words, split, list_length_lem}
+use Rattle.bindings.specs.Bindings.{words, split, list_length}
 use Rattle.bindings.specs.Filter.{chosen, towers_of, Marks}
 use Rattle.bindings.proofs.ListAnswers.{accepted}
 use Rattle.bindings.proofs.FilterLoops.{towers-none, towers-end, towers-more}
@@ -25,7 +25,7 @@ abbrev decreases-loop : tie.decreases-loop
 decreases-loop s marks towers₀ i₀ left₀ n₀ towers i left n = left
 
 loop-holds : tie.Need-loop-init invariant-loop decreases-loop
-unfolding list_length_lem
+unfolding list_length
 loop-holds c =
     let st = c.before.before.before in
     let a = st.args in

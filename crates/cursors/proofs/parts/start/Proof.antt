@@ -3,7 +3,7 @@ use mathlib.Core.Path.{◌≡◌, sym, ◌∙◌}
 use native.Mathlib.Omega.{arith}
 use borrow.Author.Rules.{rules}
 use borrow.Author.Tests.{eq-eqb, ne_eqb}
-use Rattle.bindings.specs.Bindings.{list_length_lem, list_answer}
+use Rattle.bindings.specs.Bindings.{list_length, list_answer}
 use Rattle.bindings.proofs.ListAnswers.{accepted}
 use Rattle.cursors.specs.Cursors.{part_cursor}
 use Rattle.cursors.proofs.parts.start.Statement.{statement}
@@ -20,7 +20,7 @@ done : (c : tie.Else1) → list_answer c.before.before.before.args.s.now ≡ 0
 done c = sym c.before.list-answer.ensures ∙ c.if1.false
 
 sub-t11 : tie.Need-overflow-sub-t11
-unfolding list_length_lem
+unfolding list_length
 sub-t11 c = let h = accepted _ (done c.before.before.before.before) in omega arith
 
 returns-2 : tie.Need-returns-2

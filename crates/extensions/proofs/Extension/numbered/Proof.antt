@@ -4,7 +4,7 @@ use mathlib.Core.Path.{◌≡◌, sym, ◌∙◌}
 use native.Mathlib.Omega.{arith}
 use borrow.Author.Tests.{lt-ltb, le-ltb, eq-eqb, ne_eqb}
 use Rattle.fields.specs.Fields.{field}
-use Rattle.extensions.specs.Extensions.{count_at_lem, extensions_count, extension_at}
+use Rattle.extensions.specs.Extensions.{count_at, extensions_count, extension_at}
 use Rattle.extensions.proofs.ArrayWalk.{accepted, some-array}
 use borrow.Author.Rules.{rules}
 use Rattle.extensions.proofs.Extension.numbered.Statement.{statement}
@@ -31,7 +31,7 @@ returns-2 c =
     let start = o.before.before.before in
     let a = start.args in
     let n = c.before.before.read-u322.ensures in
-    let past : count_at_lem a.s.now a.at ≤ a.k = omega arith in
+    let past : count_at a.s.now a.at ≤ a.k = omega arith in
     rw (eq-eqb _ _ start.requires, ne_eqb _ _ (some o), le-ltb _ _ past) c.refused2.ensures
 
 found-requires : tie.Need-found-requires
@@ -52,7 +52,7 @@ returns-3 c =
     let start = o.before.before.before in
     let a = start.args in
     let n = c.before.before.read-u322.ensures in
-    let here : a.k < count_at_lem a.s.now a.at = omega arith in
+    let here : a.k < count_at a.s.now a.at = omega arith in
     rw (eq-eqb _ _ start.requires, ne_eqb _ _ (some o), lt-ltb _ _ here) (rw n at c.found.ensures)
 
 pub numbered-spec : {M : Type 1} → statement M

@@ -5,7 +5,7 @@ use native.Mathlib.Omega.{arith}
 use borrow.Author.Rules.{rules}
 use borrow.Author.Rules.{part_to_end}
 use lib.ListN.{length, drop}
-use Rattle.bindings.specs.Bindings.{list_length_lem}
+use Rattle.bindings.specs.Bindings.{list_length}
 use Rattle.rules.specs.Rules.{no_exporter}
 use Rattle.table_view.specs.View.{list_start, list_from}
 use Rattle.table_view.proofs.LiveRows.{exporter-at}
@@ -18,10 +18,10 @@ begins : (c : tie.Start) → list_start c.args.store.now c.args.i ≤ length c.a
 begins c = list-starts c.args.words.now c.args.store.now c.requires.2 c.args.i (search rules)
 
 -- the length that is told
-told : (c : tie.After-stated-length) → let a = c.before.before.before.before.before.args in c.stated-length.result ≡ list_length_lem (list_from a.store.now a.i)
+told : (c : tie.After-stated-length) → let a = c.before.before.before.before.before.args in c.stated-length.result ≡ list_length (list_from a.store.now a.i)
 told c =
     let s = c.before.before.before.before.before.args.store.now in
-    c.stated-length.ensures ∙ ap list_length_lem (part_to_end s c.before.before.list-start.result) ∙ ap (λ (x : ℕ). list_length_lem (drop x s)) c.before.before.list-start.ensures
+    c.stated-length.ensures ∙ ap list_length (part_to_end s c.before.before.list-start.result) ∙ ap (λ (x : ℕ). list_length (drop x s)) c.before.before.list-start.ensures
 
 ends : (c : tie.After-stated-length) → c.before.before.list-start.result + c.stated-length.result ≤ length c.before.before.before.before.before.args.store.now
 ends c =
@@ -39,7 +39,7 @@ returns c =
     let start = k.before.before.before.before.before in
     let a = start.args in
     let from = k.before.before.list-start.result in
-    let size : from + k.stated-length.result - from ≡ list_length_lem (list_from a.store.now a.i) = let e = told k in omega arith in
+    let size : from + k.stated-length.result - from ≡ list_length (list_from a.store.now a.i) = let e = told k in omega arith in
     rw (size, exporter-at a.words.now a.store.now a.i no_exporter start.requires.1, k.before.before.list-start.ensures)
 
 pub list-spec : {M : Type 1} → statement M

@@ -6,7 +6,7 @@ use native.Mathlib.Numerals.{add-one}
 use borrow.Author.Rules.{rules}
 use borrow.Author.Rules.{part_to_end}
 use lib.ListN.{length, drop}
-use Rattle.bindings.specs.Bindings.{list_length_lem}
+use Rattle.bindings.specs.Bindings.{list_length}
 use Rattle.table_view.specs.View.{list_start}
 use Rattle.table_view.proofs.StoredLists.{start_first, start-next, starts-rise}
 use Rattle.table_view.proofs.find.list_start.Statement.{statement}
@@ -24,7 +24,7 @@ told : (c : tie.After-stated-length invariant-loop decreases-loop)
 told c =
     let s = c.before.before.before.before.before.args.store.now in
     let l = c.before.before.before.loop in
-    let e : c.stated-length.result ≡ list_length_lem (drop l.at s) = c.stated-length.ensures ∙ ap list_length_lem (part_to_end s l.at) in
+    let e : c.stated-length.result ≡ list_length (drop l.at s) = c.stated-length.ensures ∙ ap list_length (part_to_end s l.at) in
     rw (add-one l.j, start-next s l.j, ← l.invariant.1) (ap (λ (n : ℕ). l.at + n) e)
 
 inside : (c : tie.After-stated-length invariant-loop decreases-loop)
