@@ -1,4 +1,6 @@
 // What each call grants, takes and runs down, and that a tally of it balances: definitions (specs/) and proofs. The table's sum.
+#![tactic(auto)]
+
 ghost use Rattle.std.specs.Prelude.{◌≡◌, ◌*◌, ◌^◌, ◌<◌, ◌≤◌, get_or};
 ghost use Rattle.rules.specs.Rules.{no_interface};
 ghost use Rattle.rules.specs.Contract.{Whole};

@@ -11,7 +11,7 @@ use kinds::answer;
 
 // A writer's answer, and the number of bytes that it wrote.
 #[repr(C)]
-#[derive(Drop)]
+#[derive(Clone, Copy)]
 pub struct Filtered {
     pub answer: u32,
     pub length: usize,

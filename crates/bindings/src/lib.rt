@@ -1,4 +1,6 @@
 // The binding list (DUALSTRINGARRAY) of an object reference or an exporter.
+#![tactic(auto)]
+
 pub mod filter;
 
 ghost use Rattle.std.specs.Prelude.{◌≡◌, true, cond, ◌+◌, ◌*◌, ◌-◌, ◌<◌, ◌≤◌, eqb, length};
@@ -8,7 +10,7 @@ ghost use Rattle.bindings.specs.Bindings.{list_length, front_answer, list_answer
 use kinds::answer;
 
 // The two parts of a list.
-#[derive(Drop)]
+#[derive(Clone, Copy)]
 pub enum Part {
     Strings,
     Security,
@@ -16,7 +18,7 @@ pub enum Part {
 
 // Where a binding stands, or the number of its refusal.
 #[repr(C)]
-#[derive(Drop)]
+#[derive(Clone, Copy)]
 pub struct Place {
     pub answer: u32,
     pub from: usize,

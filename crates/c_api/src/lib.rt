@@ -1,5 +1,7 @@
 // What C and Rust programs link, with c_headers: every operation as a function over numbers and slices. A slice is a pointer and a
 // length, a GUID two numbers, an identifier one. Each function has the promise of the one that it calls. include/rimonakh.h declares them.
+#![tactic(auto)]
+
 ghost use Rattle.std.specs.Prelude.{◌≡◌};
 ghost use Rattle.kinds.specs.Wire.{wire_code};
 ghost use Rattle.c_api.specs.Version.{version};

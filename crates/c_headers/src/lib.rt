@@ -1,5 +1,7 @@
 // What C and Rust programs link of call headers and their extensions: as in c_api, each is a function over numbers and slices with the
 // promise of the one that it calls.
+#![tactic(auto)]
+
 ghost use Rattle.std.specs.Prelude.{◌≡◌, [], length};
 ghost use Rattle.fields.specs.Fields.{stored};
 ghost use Rattle.headers.specs.declared.OrpcThis.{OrpcThis};

@@ -1,4 +1,6 @@
 // An empty table, and entering exporters, objects and interfaces.
+#![tactic(auto)]
+
 ghost use Rattle.std.specs.Prelude.{◌≡◌, Bool, true, List, ℕ};
 ghost use Rattle.kinds.specs.declared.Guid.{Guid};
 ghost use Rattle.rules.specs.Calls.{Call, Start, Edit, numbered};

@@ -1,4 +1,6 @@
 // Whole lists of adds and releases: items of 24 bytes, an IPID and two counts, as RemAddRef and RemRelease carry them.
+#![tactic(auto)]
+
 ghost use Rattle.std.specs.Prelude.{◌≡◌, ◌≤◌, ◌<◌, eqb, length};
 ghost use Rattle.table_columns.specs.Buckets.{guid_bucket, Indexed};
 ghost use Rattle.rules.specs.Contract.{Whole};
@@ -177,7 +179,7 @@ fn moved(number: u8, gone: u8) -> u8
 }
 
 // An item of a list: an IPID and two counts.
-#[derive(Drop)]
+#[derive(Clone, Copy)]
 struct Counted {
     ipid: Guid,
     public: u32,

@@ -1,4 +1,6 @@
 // Loading a snapshot: the entries that its bytes hold take the table's place.
+#![tactic(auto)]
+
 ghost use Rattle.std.specs.Prelude.{◌≡◌, true, ◌+◌, ◌≤◌, length, drop};
 ghost use Rattle.bindings.specs.Bindings.{same_words};
 ghost use Rattle.rules.specs.Calls.{Call, Start, numbered};

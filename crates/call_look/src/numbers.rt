@@ -8,7 +8,7 @@ use table_view::find;
 
 // The live numbers of the four kinds.
 #[repr(C)]
-#[derive(Drop)]
+#[derive(Clone, Copy)]
 pub struct LiveCounts {
     pub answer: u32,
     pub exporters: usize,
@@ -19,7 +19,7 @@ pub struct LiveCounts {
 
 // The number of a set's members.
 #[repr(C)]
-#[derive(Drop)]
+#[derive(Clone, Copy)]
 pub struct MemberCount {
     pub answer: u32,
     pub count: usize,

@@ -12,7 +12,7 @@ use table_view::find;
 
 // The length of the list that was written, and the remote-unknown IPID.
 #[repr(C)]
-#[derive(Drop)]
+#[derive(Clone, Copy)]
 pub struct Resolved {
     pub answer: u32,
     pub length: usize,

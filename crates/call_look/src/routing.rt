@@ -12,7 +12,7 @@ use table_view::find;
 
 // Where a next stop stands, in the store or else in the reference. A place in the store holds until the next call that changes the store.
 #[repr(C)]
-#[derive(Drop)]
+#[derive(Clone, Copy)]
 pub struct StopPlace {
     pub answer: u32,
     pub in_store: bool,

@@ -3,7 +3,6 @@ use Rattle.std.proofs.Common.{◌≡◌, ℕ, ◌-◌, ◌*◌, ◌/◌, ◌^◌
 use borrow.Author.Tests.{not-true, not-false}
 use lib.Seq.{get_or-append_seam}
 use Rattle.kinds.specs.Refusals.{order}
-use Rattle.kinds.proofs.Refusing.{passed}
 use Rattle.fields.specs.Fields.{field}
 use Rattle.lists.specs.Lists.{keep, among}
 use Rattle.table_columns.specs.declared.members.Members.{Members}

@@ -7,7 +7,7 @@ use Rattle.lists.specs.Lists.{every}
 use Rattle.lists.proofs.Tests.{true-or-false}
 use Rattle.rules.specs.Entries.{PingSet, Entries, set_row, set_places}
 use Rattle.rules.specs.Calls.{Call, Edit}
-use Rattle.rules.specs.Rules.{no_set, set_of, is_live_set, is_live_object, too_many, stale_sequence, refusals, number, next}
+use Rattle.rules.specs.Rules.{no_set, set_of, is_live_set, is_live_object, too_many, stale_sequence, refusals, number}
 use Rattle.rules.proofs.ByRow.{set-row}
 use Rattle.table_view.specs.View.{sets_of, memory, view}
 use Rattle.call_ping.specs.Pinging.{is_ping_set, early_rows, late_rows}

@@ -1,4 +1,6 @@
 // Pings: the sets of objects that a client keeps alive.
+#![tactic(auto)]
+
 ghost use Rattle.std.specs.Prelude.{◌≡◌, ℕ, ◌-◌, ◌^◌, ◌<◌, true, List, []};
 ghost use Rattle.kinds.specs.Refusals.{order};
 ghost use Rattle.rules.specs.Entries.{oids, object_row, set_places};
@@ -125,7 +127,7 @@ fn late_answer(words: &[u64], set: SetId) -> u32
 
 // What is left of a list of OIDs: the members with its objects, or without them; not live where an OID to be added is not, and then
 // the members do not matter.
-#[derive(Drop)]
+#[derive(Clone, Copy)]
 struct Listed {
     members: Members,
     live: bool,
@@ -294,7 +296,7 @@ fn ping_set_row(words: &mut [u64], set: SetId) -> usize
 
 // The number of the set that was pinged, and the backoff factor.
 #[repr(C)]
-#[derive(Drop)]
+#[derive(Clone, Copy)]
 pub struct Pinged {
     pub answer: u32,
     pub set: SetId,

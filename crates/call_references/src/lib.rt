@@ -1,4 +1,6 @@
 // References taken and given back, and a client's dropped.
+#![tactic(auto)]
+
 ghost use Rattle.std.specs.Prelude.{◌≡◌, true, List, ℕ, ◌<◌, min};
 ghost use Rattle.lists.specs.Guids.{same_guid};
 ghost use Rattle.rules.specs.Entries.{at_counts, interface_row};
@@ -15,7 +17,7 @@ use table_view::find;
 
 // What a release took of each count, and how many interfaces and objects went: 0 or 1 of each.
 #[repr(C)]
-#[derive(Drop)]
+#[derive(Clone, Copy)]
 pub struct Released {
     pub answer: u32,
     pub public: u32,

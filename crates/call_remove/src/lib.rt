@@ -1,4 +1,6 @@
 // Entries that go: by an exporter's removal, and by the clock.
+#![tactic(auto)]
+
 ghost use Rattle.std.specs.Prelude.{◌≡◌, ◌<◌};
 ghost use Rattle.rules.specs.Calls.{Call, Edit, numbered};
 ghost use Rattle.table_view.specs.View.{memory, SoundTable, Stepped};
@@ -25,7 +27,7 @@ pub fn remove_exporter_step(words: &mut [u64], store: &mut [u8], oxid: Oxid) -> 
 
 // How many of each kind went.
 #[repr(C)]
-#[derive(Drop)]
+#[derive(Clone, Copy)]
 pub struct Expired {
     pub answer: u32,
     pub exporters: usize,

@@ -1,4 +1,6 @@
 // The call that writes a snapshot: the live entries as bytes, for another box to load.
+#![tactic(auto)]
+
 ghost use Rattle.std.specs.Prelude.{◌≡◌};
 ghost use Rattle.rules.specs.Calls.{Call, Look};
 ghost use Rattle.table_view.specs.View.{memory, SoundTable, Stepped};

@@ -1,4 +1,6 @@
 // The context in the object data of a custom reference, and its properties.
+#![tactic(auto)]
+
 ghost use Rattle.std.specs.Prelude.{◌≡◌, ◌≤◌, length, drop};
 ghost use Rattle.bindings.specs.Bindings.{PartOf};
 ghost use Rattle.fields.specs.Fields.{written, stored};
@@ -12,7 +14,7 @@ use kinds::{Guid, answer};
 
 // The fields of a context that are not fixed.
 #[repr(C)]
-#[derive(Drop)]
+#[derive(Clone, Copy)]
 pub struct Context {
     pub id: Guid,
     pub reserved: u32,
@@ -23,7 +25,7 @@ pub struct Context {
 
 // The fields of a property before its data.
 #[repr(C)]
-#[derive(Drop)]
+#[derive(Clone, Copy)]
 pub struct Property {
     pub clsid: Guid,
     pub policy: Guid,
@@ -31,14 +33,14 @@ pub struct Property {
 }
 
 #[repr(C)]
-#[derive(Drop)]
+#[derive(Clone, Copy)]
 pub struct ReadContext {
     pub answer: u32,
     pub context: Context,
 }
 
 #[repr(C)]
-#[derive(Drop)]
+#[derive(Clone, Copy)]
 pub struct ReadProperty {
     pub answer: u32,
     pub property: Property,

@@ -9,7 +9,7 @@ use kinds::answer;
 
 // Where a walk over extensions stands: the next one's pointer number, the next one, and how many are left; or a refusal with zeros.
 #[repr(C)]
-#[derive(Drop)]
+#[derive(Clone, Copy)]
 pub struct ExtensionCursor {
     pub answer: u32,
     pub pointer: usize,
@@ -19,7 +19,7 @@ pub struct ExtensionCursor {
 
 // One extension or its refusal, and where the walk goes on.
 #[repr(C)]
-#[derive(Drop)]
+#[derive(Clone, Copy)]
 pub struct ExtensionStep {
     pub extension: Extension,
     pub pointer: usize,

@@ -8,7 +8,7 @@ use kinds::answer;
 
 // Where a binding stands, and the words that are left of its part behind it: the next one begins where it ends.
 #[repr(C)]
-#[derive(Drop)]
+#[derive(Clone, Copy)]
 pub struct Step {
     pub answer: u32,
     pub from: usize,

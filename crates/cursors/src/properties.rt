@@ -8,7 +8,7 @@ use kinds::{Guid, answer};
 
 // The fields of a property, where its data stands, and how many properties are left behind it: the next one begins where its data ends.
 #[repr(C)]
-#[derive(Drop)]
+#[derive(Clone, Copy)]
 pub struct PropertyStep {
     pub answer: u32,
     pub property: Property,

@@ -1,4 +1,6 @@
 // The element of an extended reference (DATAELEMENT), but for what its data holds.
+#![tactic(auto)]
+
 ghost use Rattle.std.specs.Prelude.{◌≡◌};
 ghost use Rattle.elements.specs.Elements.{is_nil, is_reference, element_front, element_end};
 

@@ -1,5 +1,7 @@
 // Writing the extensions of a call header. An extension is four words (the two halves of its id, its pointer number, the size of its
 // data); all data stand end to end.
+#![tactic(auto)]
+
 ghost use Rattle.std.specs.Prelude.{◌≡◌, true, cond, [], ◌+◌, ◌*◌, ◌/◌, ◌≤◌, eqb, length};
 ghost use Rattle.fields.specs.Fields.{written, longest, rounded};
 ghost use Rattle.extensions.specs.Extensions.{pairs, extent_bytes, extents_bytes, pointers_bytes, pointed_bytes, array_bytes};

@@ -1,4 +1,6 @@
 // The extensions of a call header (ORPC_EXTENT_ARRAY), by the place of the header's pointer to them.
+#![tactic(auto)]
+
 ghost use Rattle.std.specs.Prelude.{◌≡◌, ◌+◌, ◌*◌, ◌<◌, ◌≤◌, length};
 ghost use Rattle.bindings.specs.Bindings.{PartOf};
 ghost use Rattle.extensions.specs.Extensions.{pairs, padding_answer, pointers_answer, extent_answer, extents_answer, start_of, count_at, extents_start, counted_answer, pointed_answer, front_answer};
@@ -8,7 +10,7 @@ use kinds::{Guid, answer};
 
 // What a header says of its extensions: its pointer to the array, the array's pointer, and their number.
 #[repr(C)]
-#[derive(Drop)]
+#[derive(Clone, Copy)]
 pub struct Extensions {
     pub pointer: u32,
     pub array: u32,
@@ -17,7 +19,7 @@ pub struct Extensions {
 
 // An answer, and the first byte after what was judged.
 #[repr(C)]
-#[derive(Drop)]
+#[derive(Clone, Copy)]
 pub struct Walked {
     pub answer: u32,
     pub to: usize,
@@ -25,7 +27,7 @@ pub struct Walked {
 
 // One extension, and where its data stands without padding; or the number of its refusal with zeros.
 #[repr(C)]
-#[derive(Drop)]
+#[derive(Clone, Copy)]
 pub struct Extension {
     pub answer: u32,
     pub pointer: u32,

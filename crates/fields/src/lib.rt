@@ -1,5 +1,7 @@
 // Little-endian numbers and GUIDs in byte slices. Each public function but `word` takes any place: bytes that are not all there
 // read as 0, and bytes that do not fit are not written.
+#![tactic(auto)]
+
 ghost use Rattle.std.specs.Prelude.{◌≡◌, ◌+◌, ◌^◌, ◌<◌, ◌≤◌, min, length, eqb, leb};
 ghost use Rattle.fields.specs.Fields.{field, encode, written, zeros, rounded, guid_at, guid_bytes};
 
@@ -7,7 +9,7 @@ use kinds::Guid;
 
 // A writer's answer, and the number of bytes that it wrote.
 #[repr(C)]
-#[derive(Drop)]
+#[derive(Clone, Copy)]
 pub struct Written {
     pub answer: u32,
     pub length: usize,

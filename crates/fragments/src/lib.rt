@@ -1,4 +1,6 @@
 // References that come in over several packets: standard, handler and custom.
+#![tactic(auto)]
+
 ghost use Rattle.std.specs.Prelude.{◌≡◌, true, false, cond, not, ◌&&◌, ◌||◌, ℕ, ◌+◌, ◌*◌, ◌-◌, ◌/◌, ◌<◌, ◌≤◌, min, ltb, leb, length, set};
 ghost use Rattle.fields.specs.Fields.{field};
 ghost use Rattle.references.specs.References.{is_custom, fixed_size};
@@ -11,7 +13,7 @@ use references::Reference;
 
 // What is kept between fragments.
 #[repr(C)]
-#[derive(Drop)]
+#[derive(Clone, Copy)]
 pub struct Fragments {
     // The first 84 bytes.
     pub head: [u8; 84],
@@ -29,7 +31,7 @@ pub struct Fragments {
 
 // A reference that was read and the length of its list or object data, or the number of a refusal with zeros.
 #[repr(C)]
-#[derive(Drop)]
+#[derive(Clone, Copy)]
 pub struct Finished {
     pub answer: u32,
     pub reference: Reference,

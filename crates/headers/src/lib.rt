@@ -1,4 +1,6 @@
 // The call headers ORPCTHIS and ORPCTHAT with their extensions.
+#![tactic(auto)]
+
 ghost use Rattle.std.specs.Prelude.{◌≡◌, [], ◌≤◌, length};
 ghost use Rattle.fields.specs.Fields.{stored, written};
 ghost use Rattle.bindings.specs.Bindings.{PartOf};
@@ -11,7 +13,7 @@ use kinds::{Guid, answer};
 
 // The header of a call. Its major version is MAJOR.
 #[repr(C)]
-#[derive(Drop)]
+#[derive(Clone, Copy)]
 pub struct OrpcThis {
     pub minor: u16,
     pub flags: u32,
@@ -20,7 +22,7 @@ pub struct OrpcThis {
 
 // A header that was read, what it says of its extensions, and its length; or the number of a refusal with zeros.
 #[repr(C)]
-#[derive(Drop)]
+#[derive(Clone, Copy)]
 pub struct ReadThis {
     pub answer: u32,
     pub header: OrpcThis,
@@ -185,14 +187,14 @@ impl OrpcThis {
 
 // The header of a reply.
 #[repr(C)]
-#[derive(Drop)]
+#[derive(Clone, Copy)]
 pub struct OrpcThat {
     pub flags: u32,
 }
 
 // A header that was read, what it says of its extensions, and its length; or the number of a refusal with zeros.
 #[repr(C)]
-#[derive(Drop)]
+#[derive(Clone, Copy)]
 pub struct ReadThat {
     pub answer: u32,
     pub header: OrpcThat,

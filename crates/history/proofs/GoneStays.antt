@@ -18,7 +18,7 @@ use Rattle.lists.specs.Lists.{holding}
 use Rattle.lists.proofs.Guids.{guid-decides}
 use Rattle.lists.proofs.Elements.{In, every_in, in-every, in_some, some_in, in-keep, map-in, snoc-in, one_in, first-sole}
 use Rattle.rules.specs.Calls.{Call, starting, looking, editing, Counting, adding, releasing, enter_exporter, remove_exporter, enter_object}
-use Rattle.rules.specs.Calls.{enter_interface, add, release, drop_client, count_list, simple_ping, complex_ping, clock, members}
+use Rattle.rules.specs.Calls.{enter_interface, add, release, drop_client, count_list, simple_ping, complex_ping, clock}
 use Rattle.rules.specs.Items.{Item, items_of, item_call}
 use Rattle.rules.specs.Rules.{any_ipid, number}
 use Rattle.rules.proofs.SoundLaws.{none, ◌and◌}
@@ -63,6 +63,7 @@ module _ {A : Type 0} (R : A → A → Type 0) where
 
   -- the element at the place of one of the first
   at_place : {x : A} {xs ys : List A} → Along R xs ys → In x xs → (y : A) × In y ys × R x y
+  at_place rest m = elim m [ ]
   at_place (one {y = y} r a) (Memᴰ.head e) = (y, Memᴰ.head refl, rw e r)
   at_place (one r a) (Memᴰ.tail m) = let w = at_place a m in (w.0, Memᴰ.tail w.1, w.2)
 

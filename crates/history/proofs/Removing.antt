@@ -1,9 +1,9 @@
 -- A resolve of another exporter before a removal and after it.
-use mathlib.Core.Path.{◌≡◌, sym, ap, ◌∙◌}
+use mathlib.Core.Path.{sym, ap, ◌∙◌}
 use mathlib.Core.Logic.{⊎_elim}
 use Rattle.lists.proofs.Tests.{same_or_not}
 use Rattle.rules.specs.Entries.{Entries}
-use Rattle.rules.specs.Calls.{Reply, looking, resolve}
+use Rattle.rules.specs.Calls.{looking, resolve}
 use Rattle.rules.specs.Contract.{Memory}
 use Rattle.rules.specs.Rules.{reply}
 use Rattle.rules.proofs.Removing.{others-resolve}

@@ -11,7 +11,6 @@ use Rattle.kinds.specs.Refusals.{order}
 use Rattle.lists.proofs.Tests.{true-or-false}
 use Rattle.rules.specs.Entries.{Entries}
 use Rattle.rules.specs.Calls.{starting, looking, Reply, write_snapshot, load_snapshot}
-use Rattle.rules.specs.Sound.{sound}
 use Rattle.rules.specs.Snapshot.{snapshot_bytes, entries_of, is_snapshot}
 use Rattle.rules.specs.Rules.{number, refusals, next, results, accepted_reply, reply, refused_reply}
 use Rattle.rules.specs.Contract.{Memory, Whole}

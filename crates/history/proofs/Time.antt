@@ -5,7 +5,7 @@ use mathlib.Core.Bool.{Bool, true, false, cond, true≢false}
 use mathlib.Core.List.{List, [], ◌∷◌}
 use lib.Dec.{eqb}
 use Rattle.rules.specs.Entries.{Entries}
-use Rattle.rules.specs.Calls.{Call, starting, looking, editing, Counting, adding, releasing, count_list, enter_exporter, remove_exporter, enter_object, enter_interface, add, release, drop_client}
+use Rattle.rules.specs.Calls.{starting, looking, editing, Counting, adding, releasing, count_list, enter_exporter, remove_exporter, enter_object, enter_interface, add, release, drop_client}
 use Rattle.rules.specs.Calls.{simple_ping, complex_ping, clock}
 use Rattle.rules.specs.Items.{Item, items_of, item_call}
 use Rattle.rules.specs.Rules.{number, next, counted, item_done, items_done, make_set}

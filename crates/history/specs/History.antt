@@ -6,7 +6,7 @@ use Rattle.lists.specs.Lists.{keep, some, every, first_or, first_index, tabulate
 use Rattle.lists.specs.Guids.{nil, same_guid}
 use Rattle.rules.specs.Entries.{Exporter, Object, Interface, PingSet, Entries, fresh, oxids, oids}
 use Rattle.rules.specs.Calls.{Call, starting, looking, editing, Counting, adding, releasing, reset, enter_exporter, remove_exporter, enter_object}
-use Rattle.rules.specs.Calls.{enter_interface, add, release, drop_client, count_list, simple_ping, complex_ping, clock, members, load_snapshot, Reply}
+use Rattle.rules.specs.Calls.{enter_interface, add, release, drop_client, count_list, simple_ping, complex_ping, clock, load_snapshot, Reply}
 use Rattle.rules.specs.Items.{Item, items_of, item_call}
 use Rattle.rules.specs.Contract.{lengths_only}
 use Rattle.rules.specs.Snapshot.{entries_of}

@@ -7,7 +7,7 @@ use Rattle.lists.specs.Lists.{keep, every, distinct, some, tabulate}
 use Rattle.lists.specs.Guids.{same_guid}
 use Rattle.rules.specs.Entries.{Exporter, Object, Interface, PingSet, Entries, fresh, oxids, oids, set_numbers, ipids, Ordered, count_of, exporter_places, object_places, interface_places, set_places}
 use Rattle.rules.specs.Calls.{Call, starting, looking, editing, enter_exporter, remove_exporter, enter_object, enter_interface}
-use Rattle.rules.specs.Calls.{add, release, drop_client, count_list, simple_ping, complex_ping, clock, members, Reply}
+use Rattle.rules.specs.Calls.{add, release, drop_client, count_list, simple_ping, complex_ping, clock, Reply}
 use Rattle.rules.specs.Items.{item_at, item_count, item_call}
 use Rattle.rules.specs.Sound.{sound}
 use Rattle.rules.specs.Rules.{is_live_exporter, is_live_object, interface_of, refusals, number, release_values, clock_values}

@@ -3,6 +3,8 @@
 // An index has a number for each bucket: 0, or one more than a row to try. An identifier is noted where the number of its bucket is
 // not 0 and leads to it, or that of its second bucket is not 0 either. Which row a number leads to decides nothing: the identifier there
 // is compared, and searched for where it is another.
+#![tactic(auto)]
+
 ghost use Rattle.std.specs.Prelude.{◌≡◌, true, false, ◌&&◌, ◌++◌, ◌%◌, ◌<◌, ◌≤◌, length, get_or, drop, eqb};
 ghost use Rattle.lists.specs.Lists.{every, some, nonzero, distinct, among};
 ghost use Rattle.lists.specs.Guids.{same_guid};

@@ -1,4 +1,6 @@
 // The kinds of numbers that the crates share: identifiers, answer numbers, wire codes, and how much a table holds.
+#![tactic(auto)]
+
 ghost use Rattle.std.specs.Prelude.{◌≡◌};
 ghost use Rattle.kinds.specs.Wire.{wire_code};
 
@@ -7,22 +9,22 @@ pub mod limits;
 
 // An exporter's number (OXID).
 #[repr(C)]
-#[derive(Drop)]
+#[derive(Clone, Copy)]
 pub struct Oxid(pub u64);
 
 // An object's number (OID).
 #[repr(C)]
-#[derive(Drop)]
+#[derive(Clone, Copy)]
 pub struct Oid(pub u64);
 
 // A ping set's number.
 #[repr(C)]
-#[derive(Drop)]
+#[derive(Clone, Copy)]
 pub struct SetId(pub u64);
 
 // A GUID, as the little-endian numbers of its first and its last eight bytes.
 #[repr(C)]
-#[derive(Drop)]
+#[derive(Clone, Copy)]
 pub struct Guid {
     pub low: u64,
     pub high: u64,

@@ -1,4 +1,6 @@
 // The walk over the words of a binding list whose bytes come in pieces.
+#![tactic(auto)]
+
 ghost use Rattle.std.specs.Prelude.{◌≡◌, true, ℕ, ◌+◌, ◌*◌, ◌-◌, ◌/◌, ◌<◌, ◌≤◌, min, length};
 ghost use Rattle.bindings.specs.Bindings.{words};
 ghost use Rattle.list_walk.specs.Walk.{word_step, list_step, walk_list, TextPassed, next_mode, next_seen, mode_after};

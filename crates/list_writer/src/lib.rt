@@ -1,4 +1,6 @@
 // Writing a binding list from the words of its bindings.
+#![tactic(auto)]
+
 ghost use Rattle.std.specs.Prelude.{◌≡◌, ◌+◌, ◌*◌, ◌<◌, ◌≤◌, length, drop};
 ghost use Rattle.fields.specs.Fields.{written, stored};
 ghost use Rattle.bindings.specs.Bindings.{through_zero, first_binding, is_part};

@@ -1,1 +1,2 @@
 // Lists, tests of their elements and distinctness: definitions and laws alone, in specs/ and proofs/.
+#![tactic(auto)]

@@ -1,6 +1,6 @@
 -- Each place lies inside the bytes, by the laws of the crates that answer them.
 use Prim.Native.Nat.{ℕ, zero, suc, ◌+◌, ◌*◌, ◌≤◌}
-use mathlib.Core.Path.{◌≡◌, refl, sym, ap, ◌∙◌}
+use mathlib.Core.Path.{refl, sym, ap, ◌∙◌}
 use mathlib.Core.List.{List}
 use mathlib.Core.Logic.{⊎_elim}
 use native.Mathlib.Omega.{arith}
@@ -27,7 +27,7 @@ use Rattle.headers.specs.declared.ReadThis.{ReadThis}
 use Rattle.headers.specs.declared.ReadThat.{ReadThat}
 use Rattle.headers.proofs.HeaderAnswers.{this-lies}
 use Rattle.headers.proofs.ThisTrip.{version}
-use Rattle.places.specs.Places.{Inside, PlacesInside, EveryPlaceInside}
+use Rattle.places.specs.Places.{Inside, EveryPlaceInside}
 
 inside : (s : List ℕ) (x : Place) → Within (length s) x → Inside s x
 inside s x w = record { order = w.0; end = w.1 }

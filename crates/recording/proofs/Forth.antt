@@ -1,16 +1,16 @@
 -- Bytes that are neither short nor broken are those of the records that are read.
 use Prim.Native.Nat.{ℕ, zero, suc, ◌+◌, ◌*◌, ◌/◌, ◌%◌, ◌<◌, ◌≤◌}
 use mathlib.Core.Path.{◌≡◌, refl, sym, ap, ◌∙◌}
-use mathlib.Core.Bool.{Bool, true, false, cond, not, ◌&&◌, ◌||◌}
+use mathlib.Core.Bool.{Bool, true, false, cond, not}
 use mathlib.Core.List.{List, [], ◌∷◌, ◌++◌, map, append_assoc, append-nil}
 use mathlib.Core.Logic.{⊎_elim}
 use native.Mathlib.Omega.{arith}
 use borrow.Author.Tests.{eqb-true, ne_eqb, leb-true, ltb-true, ltb-false, not-false}
 use lib.ListN.{length, get_or, take, drop, length-replicate, take-append-drop}
 use lib.Seq.{drop-length, length-take-le}
-use lib.Dec.{eqb, ltb, leb}
+use lib.Dec.{eqb, ltb}
 use Rattle.kinds.proofs.Refusing.{or-false}
-use Rattle.fields.specs.Fields.{encode, field, guid_at, zeros, Bytes}
+use Rattle.fields.specs.Fields.{encode, field, zeros, Bytes}
 use Rattle.fields.proofs.Fields.{field-then, drop-bytes, take-bytes}
 use Rattle.lists.specs.Lists.{tabulate, every}
 use Rattle.lists.proofs.Tests.{same_or_not, and_left, and_right}
@@ -19,8 +19,8 @@ use Rattle.rules.specs.Calls.{Call}
 use Rattle.rules.specs.Rules.{flag}
 use Rattle.rules.specs.Snapshot.{in_row}
 use Rattle.rules.proofs.SoundLaws.{clause-at}
-use Rattle.recording.specs.Recording.{call_bytes, first_list, second_list, forms, form_of, numbers_of, whole, mark_fits, Answer, answer_bytes}
-use Rattle.recording.specs.Recording.{Sections, Recorded, section, sections_bytes, sections_in, record_bytes, recording_bytes, section_in, behind_section, behind_sections, sections_at, records_in}
+use Rattle.recording.specs.Recording.{call_bytes, first_list, second_list, forms, form_of, numbers_of, whole, mark_fits, answer_bytes}
+use Rattle.recording.specs.Recording.{Sections, section, sections_bytes, sections_in, record_bytes, recording_bytes, section_in, behind_section, behind_sections, sections_at, records_in}
 use Rattle.recording.specs.Recording.{behind_records, count_of, sections_of, left_over, call_of, answer_of, recorded_of, records_of, short_section, short_sections, short_records, is_short, form_fits, well_formed, is_broken}
 use Rattle.recording.specs.Statements.{OneForm}
 use Rattle.recording.proofs.Numbers.{Wide, wide, fields}

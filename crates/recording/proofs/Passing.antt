@@ -5,7 +5,7 @@ use mathlib.Core.Bool.{Bool, true, false, cond, not, ◌||◌, or-true}
 use mathlib.Core.List.{List}
 use native.Mathlib.Omega.{arith}
 use lib.ListN.{length, drop}
-use Rattle.recording.specs.Recording.{behind_sections, behind_records, short_sections, sections_at, well_formed, most_records}
+use Rattle.recording.specs.Recording.{behind_sections, behind_records, short_sections, sections_at, well_formed}
 use Rattle.recording.specs.Places.{ends_from, record_ends, RecordAt}
 use Rattle.recording.specs.Whole.{whole_records, Passes, Found}
 use Rattle.recording.specs.declared.Ends.{Ends}

@@ -18,7 +18,7 @@ use Rattle.rules.specs.Snapshot.{in_row}
 use Rattle.rules.specs.Swapping.{Each}
 use Rattle.rules.proofs.SnapshotReading.{encoded-front}
 use Rattle.recording.specs.Recording.{Recorded, Sections, section, sections_bytes, sections_in, record_bytes, recording_bytes, behind_section, behind_records}
-use Rattle.recording.specs.Recording.{sections_at, section_in, behind_sections, short_section, short_sections, forms, form_of, form_fits, well_formed, most_records}
+use Rattle.recording.specs.Recording.{sections_at, section_in, short_section, short_sections, forms, form_of, form_fits, well_formed, most_records}
 use Rattle.recording.specs.Statements.{Tells}
 use Rattle.recording.specs.Whole.{whole_records, Passes}
 use Rattle.recording.specs.Torn.{none_whole, journal, Kept, KeepsWritten, CutIsTorn, ZerosAreTorn}

@@ -1,5 +1,7 @@
 // A recorded shift: calls in order, each with its answer, as bytes (docs/RECORDING.md). Which bytes are refused, and where the sections
 // of a record stand.
+#![tactic(auto)]
+
 mod forms;
 
 ghost use Rattle.std.specs.Prelude.{◌≡◌, ◌&&◌, ◌≤◌, length, drop};
@@ -14,7 +16,7 @@ use kinds::answer;
 pub const MOST_RECORDS: u64 = 16384;
 
 // Where the five sections of a record end; shown is 0 where the bytes end before one of them does.
-#[derive(Drop)]
+#[derive(Clone, Copy)]
 pub struct Ends {
     pub call: usize,
     pub first: usize,
@@ -24,7 +26,7 @@ pub struct Ends {
 }
 
 // Where records end, 0 where the bytes end before; and whether all are well formed.
-#[derive(Drop)]
+#[derive(Clone, Copy)]
 struct Passed {
     end: usize,
     fits: bool,
@@ -32,7 +34,7 @@ struct Passed {
 
 // The records from byte 8 that are whole and well formed: how many, and where they end.
 #[repr(C)]
-#[derive(Drop)]
+#[derive(Clone, Copy)]
 pub struct Prefix {
     pub count: u64,
     pub end: usize,

@@ -1,4 +1,6 @@
 // Writing object references (OBJREF) in the standard, handler, custom and extended forms.
+#![tactic(auto)]
+
 ghost use Rattle.std.specs.Prelude.{◌≡◌, ◌+◌, ◌≤◌, ◌++◌, cond, length};
 ghost use Rattle.fields.specs.Fields.{encode, written, stored, rounded, longest};
 ghost use Rattle.elements.specs.Elements.{element_bytes, content_answer, given_answer};

@@ -1,4 +1,6 @@
 // Object references (OBJREF) in the standard, handler, custom and extended forms.
+#![tactic(auto)]
+
 ghost use Rattle.std.specs.Prelude.{◌≡◌, ◌+◌, ◌≤◌, true, length};
 ghost use Rattle.bindings.specs.Bindings.{refusal, PartOf};
 ghost use Rattle.elements.specs.Elements.{element_answer};
@@ -12,7 +14,7 @@ use kinds::{Guid, Oid, Oxid, answer};
 
 // The standard object block (STDOBJREF).
 #[repr(C)]
-#[derive(Drop)]
+#[derive(Clone, Copy)]
 pub struct Block {
     pub flags: u32,
     pub public: u32,
@@ -23,7 +25,7 @@ pub struct Block {
 
 // The fixed fields of a reference. A field that its form does not have is zero.
 #[repr(C)]
-#[derive(Drop)]
+#[derive(Clone, Copy)]
 pub struct Reference {
     pub flags: u32,
     pub iid: Guid,
@@ -36,7 +38,7 @@ pub struct Reference {
 
 // A reference that was read, or the number of a refusal with zeros.
 #[repr(C)]
-#[derive(Drop)]
+#[derive(Clone, Copy)]
 pub struct ReadReference {
     pub answer: u32,
     pub reference: Reference,

@@ -1,11 +1,13 @@
 // Our answer to the call of a record, from its bytes: its number, its results, and the bytes that it shows.
+#![tactic(auto)]
+
 ghost use Rattle.std.specs.Prelude.{◌≤◌, length};
 
 use kinds::{Oid, Oxid, SetId, answer};
 use resolver::{Released, Resolved};
 
 // The number of an answer, its results from the first, and how many bytes it shows.
-#[derive(Drop)]
+#[derive(Clone, Copy)]
 pub struct Answered {
     pub number: u32,
     pub a: u64,

@@ -1,5 +1,7 @@
 // The calls of a record that write to an output buffer or show a part: each is performed, and the shown bytes are compared. Of the
 // buffer a record tells the length; a local one as long as any answer stands in for a longer one.
+#![tactic(auto)]
+
 pub use listed::{add_list, release_list};
 pub use looks::{next_stop, resolve, resolve_filtered, write_snapshot};
 

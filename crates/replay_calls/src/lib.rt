@@ -1,4 +1,6 @@
 // The call of a record performed, and its recorded answer compared.
+#![tactic(auto)]
+
 pub mod plain;
 
 ghost use Rattle.table_view.specs.View.{memory, SoundTable};

@@ -1,4 +1,6 @@
 // A record's call by its code, in groups of codes.
+#![tactic(auto)]
+
 ghost use Rattle.std.specs.Prelude.{◌≡◌, true, ◌≤◌, length};
 ghost use Rattle.table_view.specs.View.{memory, SoundTable};
 ghost use Rattle.fields.specs.Fields.{field};

@@ -1,19 +1,17 @@
 -- Our answer is what the performed call answers.
-use Prim.Native.Nat.{ℕ, suc, ◌+◌}
+use Prim.Native.Nat.{ℕ, suc}
 use mathlib.Core.Path.{◌≡◌, refl, sym, ap, ◌∙◌}
 use mathlib.Core.Bool.{Bool, true, false, cond, true≢false}
 use mathlib.Core.List.{List, [], ◌∷◌, ◌++◌, map}
-use lib.ListN.{length, take, drop, get_or}
+use lib.ListN.{length, take, drop}
 use lib.Seq.{take-append_seam}
 use lib.Dec.{eqb}
-use Rattle.lists.proofs.Tests.{true-or-false}
 use Rattle.lists.proofs.Lists.{length-tabulate}
 use Rattle.rules.specs.Entries.{Entries}
 use Rattle.rules.specs.Calls.{Call, starting, looking, editing, Counting, reset, enter_exporter, remove_exporter, enter_object, enter_interface, add, release}
 use Rattle.rules.specs.Calls.{drop_client, count_list, simple_ping, complex_ping, clock, resolve, resolve_filtered, census, members, next_stop, write_snapshot, load_snapshot, Reply}
 use Rattle.rules.specs.Items.{Item, item_at, item_count, items_of}
 use Rattle.rules.specs.Rules.{number, item_done, item_numbers, results, reply, accepted_reply, refused_reply}
-use Rattle.rules.specs.Contract.{Memory}
 use Rattle.rules.proofs.Stepping.{reply-number}
 use Rattle.table_view.specs.View.{view}
 use Rattle.history.proofs.Runs.{replied}

@@ -1,27 +1,23 @@
 -- A journal whose last write was torn, replayed.
 use Prim.Native.Nat.{ℕ}
 use mathlib.Core.Path.{◌≡◌, refl, sym, ap, ◌∙◌, subst}
-use mathlib.Core.Bool.{Bool}
 use mathlib.Core.List.{List, [], ◌∷◌, map}
 use native.Mathlib.Omega.{arith}
 use borrow.Author.Tests.{eqb-false}
-use lib.ListN.{length}
 use lib.Dec.{eqb}
 use Rattle.kinds.proofs.Refusing.{by-test}
 use Rattle.rules.specs.Entries.{Entries, fresh}
 use Rattle.rules.specs.Calls.{Call}
-use Rattle.rules.specs.Contract.{Memory, right_lengths}
+use Rattle.rules.specs.Contract.{Memory}
 use Rattle.rules.specs.OneByOne.{calls_done}
-use Rattle.table_view.specs.View.{view}
 use Rattle.balance.specs.Balance.{after}
 use Rattle.recording.specs.Recording.{Recorded, Answer, recording_bytes, records_of}
-use Rattle.recording.specs.Statements.{by_length, told}
+use Rattle.recording.specs.Statements.{told}
 use Rattle.recording.proofs.ReadingBack.{any-calls}
 use Rattle.recording.proofs.Torn.{keeps-written}
-use Rattle.replay_step.specs.Answers.{answer_to}
 use Rattle.replay_rules.specs.declared.Outcome.{Outcome}
 use Rattle.replay_rules.specs.Replay.{answers_over, first_differing, done, calls_in, answers_in, replayed_calls, replay_answer, outcome_of, Replayed}
-use Rattle.replay_rules.specs.Recovering.{Recovered, Recovers}
+use Rattle.replay_rules.specs.Recovering.{Recovers}
 use Rattle.replay_rules.proofs.Agreeing.{agrees, done_all}
 use Rattle.replay_rules.proofs.Buffers.{length-is-enough}
 use Rattle.replay_rules.proofs.Lengths.{right-lengths}

@@ -1,9 +1,11 @@
 // A record's answer compared with ours.
+#![tactic(auto)]
+
 ghost use Rattle.std.specs.Prelude.{◌≡◌, ◌&&◌};
 ghost use Rattle.replay_step.specs.Steps.{numbers_are, plain_step};
 
 // Of the call of a record: whether the recorded answer is ours, and whether it was accepted.
-#[derive(Drop)]
+#[derive(Clone, Copy)]
 pub struct Step {
     pub agrees: bool,
     pub accepted: bool,

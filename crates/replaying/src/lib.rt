@@ -1,4 +1,6 @@
 // The replay of a recorded shift from a reset at 0.
+#![tactic(auto)]
+
 mod shift;
 
 ghost use Rattle.std.specs.Prelude.{◌≡◌};

@@ -13,7 +13,7 @@ use table_columns::buckets;
 use tally::Tally;
 
 // After a record: whether its answer is ours, where it ends, the table's sum and the tally.
-#[derive(Drop)]
+#[derive(Clone, Copy)]
 pub struct Turn {
     pub agrees: bool,
     pub end: usize,

@@ -1,6 +1,8 @@
 // Every call on the table, with its promise. Each takes the table as it is lent, judges it, refuses it by 1 where it is not sound, and else
 // performs the call's step; a refused call changes nothing. Reset and load start the table anew, and look at lengths only; so does the
 // replay of a recording, which stands in `replaying`.
+#![tactic(auto)]
+
 ghost use Rattle.std.specs.Prelude.{◌≡◌};
 ghost use Rattle.kinds.specs.declared.Guid.{Guid};
 ghost use Rattle.rules.specs.Calls.{Call, Edit, Look, Start, adding, numbered, releasing};

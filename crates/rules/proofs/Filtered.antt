@@ -17,7 +17,7 @@ use Rattle.lists.specs.Lists.{every, first_or}
 use Rattle.lists.proofs.Tests.{and_left, and_right}
 use Rattle.rules.specs.Entries.{Exporter, Entries}
 use Rattle.rules.specs.Calls.{Call, Look, Reply}
-use Rattle.rules.specs.Sound.{sound, longest_list, lists_kept}
+use Rattle.rules.specs.Sound.{sound, longest_list}
 use Rattle.rules.specs.Rules.{no_exporter, exporter_of, refusals, number, results, refused_reply, accepted_reply, reply}
 use Rattle.rules.specs.Contract.{Memory, right_lengths, fit, reply_to}
 use Rattle.rules.specs.Filtering.{FilteredAgrees, FilteredTables}

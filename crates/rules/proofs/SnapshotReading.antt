@@ -259,3 +259,4 @@ reads-back e f =
     numbers : (e : Entries) → Fits e → Each (Reads read_number (encode 8)) (e.clock ∷ e.next ∷ [])
     numbers e f k (Memᴰ.head q) = number-reads k (rw q f.clock)
     numbers e f k (Memᴰ.tail (Memᴰ.head q)) = number-reads k (rw q f.next)
+    numbers e f k (Memᴰ.tail (Memᴰ.tail none)) = elim none [ ]

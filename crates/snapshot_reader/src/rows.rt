@@ -15,14 +15,14 @@ use table_columns::members::Members;
 use table_view::find;
 
 // Whether a row was read, and its length.
-#[derive(Drop)]
+#[derive(Clone, Copy)]
 pub struct Row {
     pub read: bool,
     pub length: usize,
 }
 
 // Whether all members were found, and their rows.
-#[derive(Drop)]
+#[derive(Clone, Copy)]
 pub struct Found {
     pub all: bool,
     pub members: Members,

@@ -12,7 +12,7 @@ use kinds::{SetId, limits};
 use snapshot_rows::Section;
 
 // Whether a section was read, and where what follows begins.
-#[derive(Drop)]
+#[derive(Clone, Copy)]
 pub struct Place {
     pub read: bool,
     pub at: usize,

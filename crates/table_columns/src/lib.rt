@@ -1,4 +1,6 @@
 // Columns: slices of one word for each row.
+#![tactic(auto)]
+
 pub mod buckets;
 pub mod members;
 pub mod order;

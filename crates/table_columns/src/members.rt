@@ -4,7 +4,7 @@ ghost use Rattle.lists.specs.Lists.{every};
 ghost use Rattle.table_columns.specs.Members.{has_member, member_rows, put_bit, cut_bit, MemberPut, Cut};
 
 // Bit j of low is row j, and bit j of high is row 64 + j.
-#[derive(Drop)]
+#[derive(Clone, Copy)]
 pub struct Members {
     pub low: u64,
     pub high: u64,

@@ -5,7 +5,7 @@ ghost use Rattle.table_columns.specs.Rows.{after, RowPut, RowRemoved};
 use crate::remove_at;
 
 // A kind of rows: column j is the `places` words from base + j * places.
-#[derive(Drop)]
+#[derive(Clone, Copy)]
 pub struct Kind {
     pub base: usize,
     pub places: usize,

@@ -1,4 +1,6 @@
 // Edits of array and store, by what they do to the live entries. Each leaves every other entry as it was.
+#![tactic(auto)]
+
 ghost use Rattle.std.specs.Prelude.{◌≡◌, true, not, ◌+◌, ◌-◌, ◌^◌, ◌<◌, ◌≤◌, length, eqb};
 ghost use Rattle.lists.specs.Lists.{distinct};
 ghost use Rattle.table_columns.specs.Rows.{after};

@@ -1,4 +1,6 @@
 // Whether a lent table is sound: the clauses of document 01's "sound", each over the columns that it speaks of.
+#![tactic(auto)]
+
 ghost use Rattle.std.specs.Prelude.{◌≡◌, true, ◌<◌, length, [], ◌∷◌};
 ghost use Rattle.lists.specs.Lists.{holding};
 ghost use Rattle.rules.specs.Entries.{oxids, oids, ipids};

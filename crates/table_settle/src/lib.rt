@@ -1,4 +1,6 @@
 // Rows that go: objects that do not stay, with their interfaces and memberships, and sets.
+#![tactic(auto)]
+
 ghost use Rattle.std.specs.Prelude.{◌≡◌, true, ◌<◌, length, get_or, eqb};
 ghost use Rattle.lists.specs.Lists.{distinct, some};
 ghost use Rattle.rules.specs.Entries.{Interface};
@@ -15,7 +17,7 @@ use table_columns::buckets;
 use table_view::find;
 
 // Why objects go: their exporter is removed, they have no interface, or they were not heard for too long at a time.
-#[derive(Drop)]
+#[derive(Clone, Copy)]
 pub enum Leaving {
     ExporterRemoved(Oxid),
     NoInterface,

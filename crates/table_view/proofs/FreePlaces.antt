@@ -13,7 +13,7 @@ use Rattle.rules.specs.Entries.{Object}
 use Rattle.rules.specs.Contract as contract
 use Rattle.table_view.specs.FreePlaces.{SameRows, SameLive, FreePlaces, FreePlacesSound}
 use Rattle.table_words.specs.Kinds.{exporter_kind, object_kind, interface_kind, set_kind}
-use Rattle.table_view.specs.View.{exporter_count, list_start, as_object, as_interface, as_set, exporters_of, objects_of, interfaces_of, sets_of, memory, view, sound_memory}
+use Rattle.table_view.specs.View.{exporter_count, list_start, as_object, as_interface, as_set, exporters_of, objects_of, interfaces_of, sets_of, memory, view}
 use Rattle.table_view.proofs.StoredLists.{lists-same}
 
 -- the same bytes from the start

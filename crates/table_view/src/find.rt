@@ -212,7 +212,7 @@ pub fn iid(words: &[u64], i: usize) -> Guid
 }
 
 // The object of an interface, its public count and the private one of a client.
-#[derive(Drop)]
+#[derive(Clone, Copy)]
 pub struct InterfaceCounts {
     pub object: Oid,
     pub public: u32,

@@ -1,4 +1,6 @@
 // Which word and byte holds what.
+#![tactic(auto)]
+
 ghost use Rattle.std.specs.Prelude.{◌≡◌, ◌+◌, ◌≤◌, length, take, drop};
 ghost use Rattle.table_words.specs.Kinds.{exporter_kind, object_kind, interface_kind, set_kind};
 

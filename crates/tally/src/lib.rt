@@ -1,4 +1,6 @@
 // The running tally of references.
+#![tactic(auto)]
+
 ghost use Rattle.std.specs.Prelude.{◌≡◌, ◌+◌, ◌%◌, ◌^◌};
 ghost use Rattle.tally.specs.Tallies.{raised, wrapped};
 
@@ -7,7 +9,7 @@ use std::num;
 // What was granted, what releases took, and what was run down: what an exporter's removal, a clock or a client's drop took of the held
 // counts. Each modulo 2^64.
 #[repr(C)]
-#[derive(Drop)]
+#[derive(Clone, Copy)]
 pub struct Tally {
     pub granted: u64,
     pub taken: u64,

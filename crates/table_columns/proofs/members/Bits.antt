@@ -2,7 +2,6 @@
 use Rattle.std.proofs.Common.{◌≡◌, ℕ, zero, suc, ◌+◌, ◌-◌, ◌^◌, ◌<◌, ◌≤◌, Bool, true, false, not, ◌||◌, eqb, ltb, List, [], ◌∷◌, ◌++◌, map, get_or, sym, refl, ap, ◌∙◌, ⊎_elim, true≢false, append-nil, add-one, arith, le-ltb, lt-ltb, eq-eqb, ne_eqb}
 use mathlib.Core.Bool.{or-true, or-false}
 use borrow.Author.Tests.{not-true}
-use lib.Pow.{high, low}
 use Rattle.lists.specs.Lists.{keep, every, tabulate, delete_at, skip}
 use Rattle.table_columns.specs.Members.{bit_of, has_member, member_rows, Cut}
 use Rattle.table_columns.specs.declared.members.Members.{Members}

@@ -1,0 +1,9 @@
+-- `call_lists::item_step`: the item's call is a step at its row.
+use Rattle.call_lists.proofs.ItemSteps.{item_back, item-added}
+use Rattle.call_lists.proofs.item_step.Goals as goal
+
+pub returns-then-back : goal.returns-then-back
+returns-then-back c = search item_back
+
+pub returns : goal.returns
+returns c = search item-added

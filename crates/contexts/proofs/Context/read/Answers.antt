@@ -1,0 +1,17 @@
+-- `Context::read`: a refusal, or the fields.
+use mathlib.Core.Path.{sym, ◌∙◌}
+use borrow.Author.Tests.{eq-eqb, ne_eqb}
+use Rattle.contexts.specs.Contexts.{read_context}
+use Rattle.contexts.proofs.Context.read.Goals as goal
+
+pub returns-then-number-ne-DONE : goal.returns-then-number-ne-DONE
+unfolding read_context
+returns-then-number-ne-DONE c =
+    let number = c.context_answer-number.ensures in
+    simp (ne_eqb _ _ (λ z. c.if-number-ne-DONE.true (number ∙ z))) (λ u. record { answer = number u; context = c.zero.ensures u })
+
+pub returns : goal.returns
+unfolding read_context
+returns c =
+    let number = c.context_answer-number.ensures in
+    simp (eq-eqb _ _ (sym number ∙ c.if-number-ne-DONE.false)) (λ u. record { answer = 0; context = c.fields.ensures u })

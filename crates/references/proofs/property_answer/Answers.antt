@@ -1,0 +1,7 @@
+-- `property_answer`: the answer of the place.
+use mathlib.Core.Path.{ap}
+use Rattle.bindings.specs.declared.Place.{Place}
+use Rattle.references.proofs.property_answer.Goals as goal
+
+pub returns : goal.returns
+returns c = ap (λ (x : Place). x.answer) c.locate_property-x.ensures

@@ -1,0 +1,22 @@
+-- `resolver::enter_interface`: a table that is not sound is refused; else the step is the call.
+use mathlib.Core.Path.{◌≡◌, refl}
+use native.Mathlib.Omega.{arith}
+use lib.ListN.{length}
+use Rattle.rules.specs.Rules.{results, refused_reply}
+use Rattle.table_view.proofs.Steps.{sound-table, unsound-call, stepped-call}
+use Rattle.resolver.proofs.enter_interface.Goals as goal
+
+pub returns-then-not-sound : goal.returns-then-not-sound
+unfolding refused_reply results
+returns-then-not-sound c = unsound-call c.sound.ensures _ refl c.if-not-sound.true-raw
+
+pub enter_interface_step-requires : goal.enter_interface_step-requires
+enter_interface_step-requires c = sound-table c.sound.ensures c.if-not-sound.false-raw
+
+pub returns : goal.returns
+returns c =
+    let judged = c.sound.ensures in
+    let left = c.if-not-sound.false-raw in
+    let t = sound-table judged left in
+    let words : length c.enter_interface_step.new.words ≡ 8192 = omega arith in
+    stepped-call judged _ refl left c.enter_interface_step.ensures words t.store

@@ -1,0 +1,7 @@
+-- `resolver::next_stop_answer`: the number of the place.
+use mathlib.Core.Path.{ap}
+use Rattle.rules.specs.Calls.{Reply}
+use Rattle.resolver.proofs.next_stop_answer.Goals as goal
+
+pub returns : goal.returns
+returns c = ap (λ (r : Reply). r.number) c.next_stop_place.ensures.performed.answered

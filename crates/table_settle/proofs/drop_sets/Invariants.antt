@@ -1,0 +1,13 @@
+use Prim.Native.Nat.{ℕ}
+use mathlib.Core.Path.{◌≡◌}
+use mathlib.Core.List.{List}
+use lib.ListN.{length}
+use Rattle.table_view.specs.View.{memory, view}
+use Rattle.table_settle.proofs.Going.{SetsGoing}
+use Rattle.table_settle.proofs.drop_sets.Given as goal
+
+abbrev pub invariant-loop-i : goal.invariant-loop-i
+invariant-loop-i l = (length l.words ≡ 8192) × ((s : List ℕ) → SetsGoing l.time (view (memory l.initial.words s)) l.i (view (memory l.words s)))
+
+abbrev pub decreases-loop-i : goal.decreases-loop-i
+decreases-loop-i l = l.i
