@@ -1,28 +1,31 @@
 // Reads an object reference of at most 65,536 bytes from standard input and prints its fields, one to a line; a reference inside it
 // further in.
+#![tactic(auto)]
+
 use kinds::answer;
 use print::Buffer;
 use references::Reference;
+use std::io;
 
 mod context;
 mod data;
 mod form;
 
-fn main() {
+fn main(rt: HostRuntime) -> io::Result<()> {
     let mut input = [0u8; 65537];
-    whole(&mut input);
+    whole(&rt, &mut input)
 }
 
 // Reads into a buffer that is one byte longer than a reference may be.
-fn whole(input: &mut [u8]) {
-    let n = io::read_full(0, input);
-    let mut out: Buffer = [0; print::ROOM];
+fn whole(rt: &HostRuntime, input: &mut [u8]) -> io::Result<()> {
+    let n = print::input::read_full(&mut rt.stdin(), input)?;
+    let mut out = Buffer::new(rt.stdout());
     if 65536 < n {
         print::text(&mut out, b"too long: more than 65,536 bytes\n");
     } else {
         report(&mut out, &input[..n]);
     }
-    print::flush(&mut out);
+    print::flush(&mut out)
 }
 
 fn report(out: &mut Buffer, s: &[u8]) {

@@ -1,65 +1,81 @@
-// What the programs print on standard output, gathered in a buffer of the program's and written in pieces of its size. No contract
-// can speak of what is written.
-ghost use Rattle.std.specs.Prelude.{◌≤◌};
+// What the programs print on standard output, gathered in a buffer of the program's and written in pieces of its size; and how they
+// read standard input. No contract can speak of what is written.
+#![tactic(auto)]
+
+ghost use Rattle.std.specs.Prelude.{◌≡◌, cond, nat_lt, ◌+◌, ◌<◌, ◌≤◌};
+ghost use Rattle.print.specs.declared.TheConstants.{ROOM};
 
 use kinds::Guid;
-use libc::STDOUT_FILENO;
+use std::io;
+use std::io::{Stdout, Write};
 
 pub mod dump;
+pub mod input;
 pub mod pattern;
 pub mod words;
 
-// The first 8 bytes hold where the next byte goes, and what is gathered stands behind them. All zeros is an empty one; any bytes are
-// safe. What is not flushed in the end is lost.
-pub type Buffer = [u8; ROOM];
+// Holds what is gathered and not written yet. Behind the first error nothing more is written, and flush answers that error. What is
+// not flushed in the end is lost.
+#[derive(Drop)]
+pub struct Buffer {
+    to: Stdout,
+    bytes: [u8; ROOM],
+    // How many bytes are gathered, at the front.
+    length: usize,
+    failed: Option<io::Error>,
+
+    ghost within: { length ≤ ROOM },
+}
 
 pub const ROOM: usize = 4096;
 
-// Where the next byte goes.
-fn end(out: &[u8]) -> usize
-    ensures { 8 ≤ result }
-{
-    let at = fields::read_u64(out, 0) as usize;
-    if at < 8 { 8 } else { at }
-}
-
-// Writes what is gathered.
-pub fn flush(out: &mut Buffer) {
-    empty(out);
-}
-
-fn empty(out: &mut [u8]) {
-    let at = end(out);
-    if at <= out.len() {
-        io::write_all(STDOUT_FILENO, &out[8..at]);
+impl Buffer {
+    pub fn new(to: Stdout) -> Buffer {
+        Buffer {
+            to,
+            bytes: [0; ROOM],
+            length: 0,
+            failed: None,
+        }
     }
-    fields::write_u64(out, 0, 0);
+}
+
+// Writes what is gathered, and answers the first error that a write met, where one did.
+pub fn flush(out: &mut Buffer) -> io::Result<()> {
+    empty(out);
+    match out.failed {
+        Some(e) => Err(e),
+        None => Ok(()),
+    }
+}
+
+// Writes what is gathered. An error is kept for flush.
+pub fn empty(out: &mut Buffer) {
+    let n = out.length;
+    out.length = 0;
+    if out.failed.is_none() {
+        let written = out.to.write_all(&out.bytes[..n]);
+        out.failed = written.err();
+    }
 }
 
 pub fn text(out: &mut Buffer, s: &[u8]) {
-    append(out, s);
-}
-
-fn append(out: &mut [u8], s: &[u8]) {
-    if fields::inside(out.len(), end(out), s.len()) {
-        gather(out, s);
-    } else {
+    if ROOM - out.length < s.len() {
         empty(out);
-        gather(out, s);
     }
+    gather(out, s);
 }
 
 // Text that is longer than the buffer is written by itself.
-fn gather(out: &mut [u8], s: &[u8]) {
-    let at = end(out);
-    if at <= out.len() {
-        if s.len() <= out.len() - at {
-            fields::copy(out, at, s);
-            fields::write_u64(out, 0, (at + s.len()) as u64);
-            return;
-        }
+fn gather(out: &mut Buffer, s: &[u8]) {
+    let at = out.length;
+    if s.len() <= ROOM - at {
+        fields::copy(&mut out.bytes, at, s);
+        out.length = at + s.len();
+    } else if out.failed.is_none() {
+        let written = out.to.write_all(s);
+        out.failed = written.err();
     }
-    io::write_all(STDOUT_FILENO, s);
 }
 
 pub fn end_line(out: &mut Buffer) {
@@ -77,15 +93,47 @@ pub fn either(out: &mut Buffer, first: bool, one: &[u8], other: &[u8]) {
 
 fn decimal(out: &mut Buffer, n: u64) {
     let mut digits = [0u8; 20];
-    let k = io::decimal(n, &mut digits);
-    text(out, &digits[..k]);
+    let mut left = n;
+    let mut at = 20;
+    while 0 < at {
+        at -= 1;
+        digits[at] = digit(left % 10);
+        left = left / 10;
+        if left == 0 {
+            break;
+        }
+    }
+    text(out, &digits[at..]);
 }
 
-// A number in hex, with zeros in front up to width digits.
+// A number in hex, with zeros in front up to width digits, of which there are at most 16.
 fn hex(out: &mut Buffer, n: u64, width: usize) {
     let mut digits = [0u8; 16];
-    let k = io::hex(n, width, &mut digits);
-    text(out, &digits[..k]);
+    let mut left = n;
+    let mut at = 16;
+    while 0 < at {
+        at -= 1;
+        digits[at] = digit(left % 16);
+        left = left / 16;
+        if left == 0 {
+            if width <= 16 - at {
+                break;
+            }
+        }
+    }
+    text(out, &digits[at..]);
+}
+
+// A digit in ASCII.
+fn digit(n: u64) -> u8
+    requires { n < 16 }
+    ensures { result ≡ cond (nat_lt n 10) (48 + n) (87 + n) }
+{
+    if n < 10 {
+        b'0' + n as u8
+    } else {
+        b'a' - 10 + n as u8
+    }
 }
 
 // A GUID in its usual text: {00112233-4455-6677-8899-aabbccddeeff}.

@@ -1,4 +1,6 @@
 // The bindings of a list on standard output, at depth n.
+#![tactic(auto)]
+
 use bindings::Part;
 use cursors::parts;
 use kinds::answer;

@@ -1,5 +1,7 @@
 // Writes the recording of a run (docs/RECORDING.md): a record for each call, with its answer. A recording begins with the number of
 // its records; each record is five sections, each after its number of bytes. What has no room is left out.
+#![tactic(auto)]
+
 use kinds::{Guid, Oid, Oxid, SetId};
 
 // A recording and the room for it.

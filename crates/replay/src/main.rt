@@ -1,41 +1,43 @@
 // Reads a recording of at most 1 MiB from standard input, replays it, and prints whether it agrees, or the first record that differs:
 // its call, what was recorded and what we answer; then the tally.
+#![tactic(auto)]
+
 use kinds::{answer, limits};
 use print::Buffer;
 use replay_rules::Outcome;
+use std::io;
 use tally::Tally;
 
 mod record;
 
-fn main() {
+fn main(rt: HostRuntime) -> io::Result<()> {
     let mut input = [0u8; 1048577];
-    whole(&mut input);
+    whole(&rt, &mut input)
 }
 
 // The buffer is one byte longer than a recording may be here.
-fn whole(input: &mut [u8; 1048577]) {
-    read(input);
+fn whole(rt: &HostRuntime, input: &mut [u8; 1048577]) -> io::Result<()> {
+    read(rt, input)
 }
 
-fn read(input: &mut [u8]) {
-    let n = io::read_full(0, input);
+fn read(rt: &HostRuntime, input: &mut [u8]) -> io::Result<()> {
+    let n = print::input::read_full(&mut rt.stdin(), input)?;
     if 1048576 < n {
-        too_long();
-        return;
+        return too_long(rt);
     }
-    report(&mut input[..n]);
+    report(rt, &mut input[..n])
 }
 
-fn too_long() {
-    let mut out: Buffer = [0; print::ROOM];
+fn too_long(rt: &HostRuntime) -> io::Result<()> {
+    let mut out = Buffer::new(rt.stdout());
     print::text(&mut out, b"too long: more than 1,048,576 bytes\n");
-    print::flush(&mut out);
+    print::flush(&mut out)
 }
 
-fn report(s: &mut [u8]) {
-    let mut out: Buffer = [0; print::ROOM];
+fn report(rt: &HostRuntime, s: &mut [u8]) -> io::Result<()> {
+    let mut out = Buffer::new(rt.stdout());
     replayed(&mut out, s);
-    print::flush(&mut out);
+    print::flush(&mut out)
 }
 
 fn replayed(out: &mut Buffer, s: &mut [u8]) {

@@ -1,4 +1,6 @@
 // A record as text: its call and its answer are a line for each code, in which marks stand for the numbers.
+#![tactic(auto)]
+
 use print::Buffer;
 
 // Record k of a recording, from 1, which differs: its call and what was recorded. Where it begins.

@@ -1,22 +1,25 @@
 // Reads the snapshot of a table from standard input and prints what it holds, for people: the clock and the next set number, then
 // exporters, objects, interfaces and ping sets, one to a line.
+#![tactic(auto)]
+
 use kinds::{answer, limits};
 use print::Buffer;
+use std::io;
 
 mod rows;
 mod sections;
 
-fn main() {
+fn main(rt: HostRuntime) -> io::Result<()> {
     let mut input = [0u8; limits::LONGEST_SNAPSHOT + 1];
-    whole(&mut input);
+    whole(&rt, &mut input)
 }
 
 // Reads into a buffer that is one byte longer than a snapshot may be.
-fn whole(input: &mut [u8]) {
-    let n = io::read_full(0, input);
-    let mut out: Buffer = [0; print::ROOM];
+fn whole(rt: &HostRuntime, input: &mut [u8]) -> io::Result<()> {
+    let n = print::input::read_full(&mut rt.stdin(), input)?;
+    let mut out = Buffer::new(rt.stdout());
     report(&mut out, &input[..n]);
-    print::flush(&mut out);
+    print::flush(&mut out)
 }
 
 fn report(out: &mut Buffer, s: &[u8]) {

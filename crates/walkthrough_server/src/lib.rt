@@ -1,7 +1,10 @@
 // The process-data server of the walkthrough, and what is printed and recorded of each step.
+#![tactic(auto)]
+
 pub mod say;
 
 use kinds::{Guid, Oid, Oxid, limits};
+use print::Buffer;
 use recorder::Log;
 use references::{Block, Reference};
 
@@ -54,53 +57,65 @@ pub const SNAPSHOT: usize = 225;
 pub const OPENED: u64 = 42720;
 
 // Registers at eight minutes to noon.
-pub fn open(log: &mut Log, words: &mut Words, store: &mut Store) {
-    reset(log, words, store);
-    register(log, words, store);
+pub fn open(out: &mut Buffer, log: &mut Log, words: &mut Words, store: &mut Store) {
+    reset(out, log, words, store);
+    register(out, log, words, store);
 }
 
-fn reset(log: &mut Log, words: &mut Words, store: &Store) {
+fn reset(out: &mut Buffer, log: &mut Log, words: &mut Words, store: &Store) {
     let number = resolver::reset(words, store, OPENED);
     recorder::reset(log, OPENED, number);
-    say::done(number, b"server: resets its table at eight minutes to noon");
+    say::done(
+        out,
+        number,
+        b"server: resets its table at eight minutes to noon",
+    );
 }
 
-fn register(log: &mut Log, words: &mut Words, store: &mut Store) {
+fn register(out: &mut Buffer, log: &mut Log, words: &mut Words, store: &mut Store) {
     let mut list = [0u8; 44];
     list_writer::write(&EXPORTER, &[], &mut list);
-    register_at(log, words, store, &list);
+    register_at(out, log, words, store, &list);
 }
 
-fn register_at(log: &mut Log, words: &mut Words, store: &mut Store, list: &[u8]) {
+fn register_at(out: &mut Buffer, log: &mut Log, words: &mut Words, store: &mut Store, list: &[u8]) {
     let number = resolver::enter_exporter(words, store, OXID, UNKNOWN, list);
     recorder::enter_exporter(log, OXID, UNKNOWN, list, number);
-    say::done(number, b"server: registers as exporter");
+    say::done(out, number, b"server: registers as exporter");
 }
 
 // Enters the group and writes its reference, which carries the resolver's address (MS-DCOM, sections 2.2.18.4 and 2.2.19.3).
-pub fn offer(log: &mut Log, words: &mut Words, store: &Store, reference: &mut [u8; REFERENCE]) {
-    enter(log, words, store);
-    write(reference);
+pub fn offer(
+    out: &mut Buffer,
+    log: &mut Log,
+    words: &mut Words,
+    store: &Store,
+    reference: &mut [u8; REFERENCE],
+) {
+    enter(out, log, words, store);
+    write(out, reference);
 }
 
-fn enter(log: &mut Log, words: &mut Words, store: &Store) {
+fn enter(out: &mut Buffer, log: &mut Log, words: &mut Words, store: &Store) {
     let number = resolver::enter_object(words, store, OID, OXID, IPID, IID, 5, false);
     recorder::enter_object(log, OID, OXID, IPID, IID, 5, number);
     say::done(
+        out,
         number,
         b"server: enters the tank level group with 5 public references",
     );
 }
 
-fn write(reference: &mut [u8; REFERENCE]) {
+fn write(out: &mut Buffer, reference: &mut [u8; REFERENCE]) {
     let mut list = [0u8; 30];
     list_writer::write(&RESOLVER, &[], &mut list);
-    write_with(&list, reference);
+    write_with(out, &list, reference);
 }
 
-fn write_with(list: &[u8], reference: &mut [u8; REFERENCE]) {
+fn write_with(out: &mut Buffer, list: &[u8], reference: &mut [u8; REFERENCE]) {
     let r = reference_writer::write(Reference::standard(IID, block()), list, b"", reference);
     say::results(
+        out,
         r.answer,
         b"server: writes the reference, # bytes\n",
         &[r.length as u64],
@@ -108,10 +123,11 @@ fn write_with(list: &[u8], reference: &mut [u8; REFERENCE]) {
 }
 
 // The snapshot of the box that goes.
-pub fn save(log: &mut Log, words: &Words, store: &Store, snapshot: &mut [u8]) {
+pub fn save(out: &mut Buffer, log: &mut Log, words: &Words, store: &Store, snapshot: &mut [u8]) {
     let r = resolver::write_snapshot(words, store, snapshot);
     recorder::write_snapshot(log, r.answer, snapshot, r.length);
     say::results(
+        out,
         r.answer,
         b"server: writes a snapshot of its table at noon, # bytes\n",
         &[r.length as u64],
@@ -119,10 +135,17 @@ pub fn save(log: &mut Log, words: &Words, store: &Store, snapshot: &mut [u8]) {
 }
 
 // The box that comes; the clock from which it goes on by the seconds that pass there: the snapshot's, not its own.
-pub fn take_over(log: &mut Log, words: &mut Words, store: &mut Store, snapshot: &[u8]) -> u64 {
+pub fn take_over(
+    out: &mut Buffer,
+    log: &mut Log,
+    words: &mut Words,
+    store: &mut Store,
+    snapshot: &[u8],
+) -> u64 {
     let number = resolver::load_snapshot(words, store, snapshot);
     recorder::load_snapshot(log, snapshot, number);
     say::done(
+        out,
         number,
         b"server: loads it into another box, which takes over",
     );
@@ -130,21 +153,25 @@ pub fn take_over(log: &mut Log, words: &mut Words, store: &mut Store, snapshot: 
 }
 
 // Drops a client that was lost.
-pub fn drop_client(log: &mut Log, words: &mut Words, store: &Store) {
+pub fn drop_client(out: &mut Buffer, log: &mut Log, words: &mut Words, store: &Store) {
     let number = resolver::drop_client(words, store, 1);
     recorder::drop_client(log, 1, number);
-    say::done(number, b"server: drops the private references of client 1");
+    say::done(
+        out,
+        number,
+        b"server: drops the private references of client 1",
+    );
 }
 
 // Leaves.
-pub fn close(log: &mut Log, words: &mut Words, store: &mut Store) {
+pub fn close(out: &mut Buffer, log: &mut Log, words: &mut Words, store: &mut Store) {
     let number = resolver::remove_exporter(words, store, OXID);
     recorder::remove_exporter(log, OXID, number);
-    say::done(number, b"server: leaves");
+    say::done(out, number, b"server: leaves");
 }
 
 // What is live.
-pub fn census(log: &mut Log, words: &Words, store: &Store) {
+pub fn census(out: &mut Buffer, log: &mut Log, words: &Words, store: &Store) {
     let r = resolver::census(words, store);
     let results = [
         r.answer as u64,
@@ -155,6 +182,7 @@ pub fn census(log: &mut Log, words: &Words, store: &Store) {
     ];
     recorder::census(log, &results);
     say::results(
+        out,
         r.answer,
         b"server: census, # exporters, # objects, # interfaces, # sets\n",
         &results[1..5],

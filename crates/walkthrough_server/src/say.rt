@@ -1,28 +1,26 @@
-// What is printed of each step. A step is written once it is made: each function has a buffer of its own.
+// What is printed of each step. A step is written once it is made.
 use bindings::Part;
 use print::Buffer;
 
-pub fn text(s: &[u8]) {
-    let mut out: Buffer = [0; print::ROOM];
-    print::text(&mut out, s);
-    print::flush(&mut out);
+pub fn text(out: &mut Buffer, s: &[u8]) {
+    print::text(out, s);
+    print::empty(out);
 }
 
 // One of two texts.
-pub fn either(first: bool, one: &[u8], other: &[u8]) {
+pub fn either(out: &mut Buffer, first: bool, one: &[u8], other: &[u8]) {
     if first {
-        text(one);
+        text(out, one);
     } else {
-        text(other);
+        text(out, other);
     }
 }
 
 // A step and its results, which stand for # and %.
-pub fn results(number: u32, what: &[u8], values: &[u64]) {
-    let mut out: Buffer = [0; print::ROOM];
-    answer(&mut out, number);
-    print::pattern::filled(&mut out, what, values);
-    print::flush(&mut out);
+pub fn results(out: &mut Buffer, number: u32, what: &[u8], values: &[u64]) {
+    answer(out, number);
+    print::pattern::filled(out, what, values);
+    print::empty(out);
 }
 
 // The answer number of a step. What follows is what the step is.
@@ -32,18 +30,16 @@ fn answer(out: &mut Buffer, number: u32) {
 }
 
 // A step without results.
-pub fn done(number: u32, what: &[u8]) {
-    let mut out: Buffer = [0; print::ROOM];
-    answer(&mut out, number);
-    print::text(&mut out, what);
-    print::end_line(&mut out);
-    print::flush(&mut out);
+pub fn done(out: &mut Buffer, number: u32, what: &[u8]) {
+    answer(out, number);
+    print::text(out, what);
+    print::end_line(out);
+    print::empty(out);
 }
 
 // The address of a list's first string binding, after its tower, and the end of the line.
-pub fn address(list: &[u8]) {
-    let mut out: Buffer = [0; print::ROOM];
-    print::words::text(&mut out, bindings::binding(list, Part::Strings, 0), 1);
-    print::end_line(&mut out);
-    print::flush(&mut out);
+pub fn address(out: &mut Buffer, list: &[u8]) {
+    print::words::text(out, bindings::binding(list, Part::Strings, 0), 1);
+    print::end_line(out);
+    print::empty(out);
 }
