@@ -92,36 +92,32 @@ pub fn either(out: &mut Buffer, first: bool, one: &[u8], other: &[u8]) {
 }
 
 fn decimal(out: &mut Buffer, n: u64) {
-    let mut digits = [0u8; 20];
-    let mut left = n;
-    let mut at = 20;
-    while 0 < at {
-        at -= 1;
-        digits[at] = digit(left % 10);
-        left = left / 10;
-        if left == 0 {
-            break;
-        }
-    }
-    text(out, &digits[at..]);
+    digits(out, n, 10, 1);
 }
 
 // A number in hex, with zeros in front up to width digits, of which there are at most 16.
 fn hex(out: &mut Buffer, n: u64, width: usize) {
-    let mut digits = [0u8; 16];
+    digits(out, n, 16, if width < 16 { width } else { 16 });
+}
+
+// A number in a base, with zeros in front up to width digits, of which there are at most 20.
+fn digits(out: &mut Buffer, n: u64, base: u64, width: usize)
+    requires { (2 ≤ base) × (base ≤ 16) }
+{
+    let mut figures = [0u8; 20];
     let mut left = n;
-    let mut at = 16;
+    let mut at = 20;
     while 0 < at {
         at -= 1;
-        digits[at] = digit(left % 16);
-        left = left / 16;
+        figures[at] = digit(left % base);
+        left = left / base;
         if left == 0 {
-            if width <= 16 - at {
+            if width <= 20 - at {
                 break;
             }
         }
     }
-    text(out, &digits[at..]);
+    text(out, &figures[at..]);
 }
 
 // A digit in ASCII.

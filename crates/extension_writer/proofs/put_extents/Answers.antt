@@ -1,12 +1,13 @@
 use Prim.Native.Nat.{ℕ, ◌+◌, ◌-◌, ◌<◌, ◌≤◌}
 use mathlib.Core.Path.{◌≡◌, refl, sym, ap, ◌∙◌}
+use mathlib.Core.Bool.{true}
 use mathlib.Core.List.{List}
 use native.Mathlib.Omega.{arith}
 use lib.ListN.{length, get_or, drop}
 use Rattle.fields.specs.Fields.{rounded}
 use Rattle.fields.proofs.Fields.{written_none, length-written}
 use Rattle.extensions.specs.Extensions.{extents_bytes}
-use Rattle.extension_writer.specs.Writing.{sizes, extents_length}
+use Rattle.extension_writer.specs.Writing.{sizes, words_writable, extents_length}
 use Rattle.extension_writer.proofs.Writes.{entry, words-first, sizes-more, length_more, part_length, extents-next, described-none}
 use Rattle.extension_writer.proofs.put_extents.Goals as goal
 
@@ -23,21 +24,21 @@ record Next (ws d b : List ℕ) (i left from to : ℕ) : Type 0 where
   sizes : get_or ws (i + 3) 0 + sizes ws (i + 4) (left - 1) + from ≤ length d
   room : to + 24 + rounded (get_or ws (i + 3) 0) + extents_length ws (i + 4) (left - 1) ≤ length b
 
-pub put_extent-requires : goal.put_extent-requires
-put_extent-requires c =
-    let next : let a = c.args in let l = c.loop-left in Next a.entries.now a.contents.now l.buf l.i l.left l.from l.to =
-    let l = c.loop-left in
-    let ws = c.args.entries.now in
-    let some : 0 < l.left = omega arith in
-    let s = sizes-more ws l.i l.left some in
-    let m = length_more ws l.i l.left some in
+next : (ws d b : List ℕ) (i left from to : ℕ) → 0 < left → words_writable ws i left ≡ true
+    → from + sizes ws i left ≤ length d → to + extents_length ws i left ≤ length b → Next ws d b i left from to
+next ws d b i left from to some fits inside room =
+    let s = sizes-more ws i left some in
+    let m = length_more ws i left some in
     record {
-      fit = (entry _ _ (words-first ws l.i l.left some l.invariant.1).0).fit;
+      fit = (entry _ _ (words-first ws i left some fits).0).fit;
       sizes = omega arith;
       room = omega arith;
-    } in
-    let h = next in
+    }
+
+pub put_extent-requires : goal.put_extent-requires
+put_extent-requires c =
     let l = c.loop-left in
+    let h = next c.args.entries.now c.args.contents.now l.buf l.i l.left l.from l.to (omega arith) l.invariant.1 l.invariant.3 l.invariant.4 in
     let a = c.args in
     let k = part_length a.contents.now l.from (get_or a.entries.now (l.i + 3) 0) (omega (arith, h.sizes)) in
     let fit = h.fit in
@@ -46,72 +47,31 @@ put_extent-requires c =
 
 pub overflow_add-to : goal.overflow_add-to
 overflow_add-to c =
-    let next : let a = c.args in let l = c.loop-left in Next a.entries.now a.contents.now l.buf l.i l.left l.from l.to =
     let l = c.loop-left in
-    let ws = c.args.entries.now in
-    let some : 0 < l.left = omega arith in
-    let s = sizes-more ws l.i l.left some in
-    let m = length_more ws l.i l.left some in
-    record {
-      fit = (entry _ _ (words-first ws l.i l.left some l.invariant.1).0).fit;
-      sizes = omega arith;
-      room = omega arith;
-    } in
-    let whole : c.rounded.result ≡ rounded (get_or c.args.entries.now (c.loop-left.i + 3) 0) = c.rounded.ensures in
-    let h = next in omega (arith, h.fit, whole)
+    let h = next c.args.entries.now c.args.contents.now l.buf l.i l.left l.from l.to (omega arith) l.invariant.1 l.invariant.3 l.invariant.4 in
+    omega (arith, h.fit, c.rounded.ensures)
 
 pub overflow_add-to-in-loop-left : goal.overflow_add-to-in-loop-left
 overflow_add-to-in-loop-left c =
-    let next : let a = c.args in let l = c.loop-left in Next a.entries.now a.contents.now l.buf l.i l.left l.from l.to =
     let l = c.loop-left in
-    let ws = c.args.entries.now in
-    let some : 0 < l.left = omega arith in
-    let s = sizes-more ws l.i l.left some in
-    let m = length_more ws l.i l.left some in
-    record {
-      fit = (entry _ _ (words-first ws l.i l.left some l.invariant.1).0).fit;
-      sizes = omega arith;
-      room = omega arith;
-    } in
-    let whole : c.rounded.result ≡ rounded (get_or c.args.entries.now (c.loop-left.i + 3) 0) = c.rounded.ensures in
-    let h = next in omega (arith, h.room, whole)
+    let h = next c.args.entries.now c.args.contents.now l.buf l.i l.left l.from l.to (omega arith) l.invariant.1 l.invariant.3 l.invariant.4 in
+    omega (arith, h.room, c.rounded.ensures)
 
 pub overflow_add-from-in-loop-left : goal.overflow_add-from-in-loop-left
 overflow_add-from-in-loop-left c =
-    let next : let a = c.args in let l = c.loop-left in Next a.entries.now a.contents.now l.buf l.i l.left l.from l.to =
     let l = c.loop-left in
-    let ws = c.args.entries.now in
-    let some : 0 < l.left = omega arith in
-    let s = sizes-more ws l.i l.left some in
-    let m = length_more ws l.i l.left some in
-    record {
-      fit = (entry _ _ (words-first ws l.i l.left some l.invariant.1).0).fit;
-      sizes = omega arith;
-      room = omega arith;
-    } in
-    let h = next in omega (arith, h.sizes)
+    let h = next c.args.entries.now c.args.contents.now l.buf l.i l.left l.from l.to (omega arith) l.invariant.1 l.invariant.3 l.invariant.4 in
+    omega (arith, h.sizes)
 
 pub loop-left-preserved : goal.loop-left-preserved
 loop-left-preserved c =
-    let next : let a = c.args in let l = c.loop-left in Next a.entries.now a.contents.now l.buf l.i l.left l.from l.to =
     let l = c.loop-left in
-    let ws = c.args.entries.now in
-    let some : 0 < l.left = omega arith in
-    let s = sizes-more ws l.i l.left some in
-    let m = length_more ws l.i l.left some in
-    record {
-      fit = (entry _ _ (words-first ws l.i l.left some l.invariant.1).0).fit;
-      sizes = omega arith;
-      room = omega arith;
-    } in
-    let whole : c.rounded.result ≡ rounded (get_or c.args.entries.now (c.loop-left.i + 3) 0) = c.rounded.ensures in
-    let l = c.loop-left in
+    let h = next c.args.entries.now c.args.contents.now l.buf l.i l.left l.from l.to (omega arith) l.invariant.1 l.invariant.3 l.invariant.4 in
     let a = c.args in
     let ws = a.entries.now in
-    let h = next in
     let hs = h.sizes in
     let hr = h.room in
-    let w = whole in
+    let w = c.rounded.ensures in
     let e = c.put_extent.ensures in
     let same : length c.put_extent.new.buf ≡ length l.buf = ap length e ∙ length-written _ _ _ in (
       omega arith,
@@ -132,48 +92,21 @@ returns c =
 
 pub overflow_add-from : goal.overflow_add-from
 overflow_add-from c =
-    let next : let a = c.args in let l = c.loop-left in Next a.entries.now a.contents.now l.buf l.i l.left l.from l.to =
     let l = c.loop-left in
-    let ws = c.args.entries.now in
-    let some : 0 < l.left = omega arith in
-    let s = sizes-more ws l.i l.left some in
-    let m = length_more ws l.i l.left some in
-    record {
-      fit = (entry _ _ (words-first ws l.i l.left some l.invariant.1).0).fit;
-      sizes = omega arith;
-      room = omega arith;
-    } in
-    let h = next in omega (arith, h.sizes)
+    let h = next c.args.entries.now c.args.contents.now l.buf l.i l.left l.from l.to (omega arith) l.invariant.1 l.invariant.3 l.invariant.4 in
+    omega (arith, h.sizes)
 
 pub slice_bounds-put_extent-end : goal.slice_bounds-put_extent-end
 slice_bounds-put_extent-end c =
-    let next : let a = c.args in let l = c.loop-left in Next a.entries.now a.contents.now l.buf l.i l.left l.from l.to =
     let l = c.loop-left in
-    let ws = c.args.entries.now in
-    let some : 0 < l.left = omega arith in
-    let s = sizes-more ws l.i l.left some in
-    let m = length_more ws l.i l.left some in
-    record {
-      fit = (entry _ _ (words-first ws l.i l.left some l.invariant.1).0).fit;
-      sizes = omega arith;
-      room = omega arith;
-    } in
-    let h = next in omega (arith, h.sizes)
+    let h = next c.args.entries.now c.args.contents.now l.buf l.i l.left l.from l.to (omega arith) l.invariant.1 l.invariant.3 l.invariant.4 in
+    omega (arith, h.sizes)
 
 pub overflow_cast-size : goal.overflow_cast-size
 overflow_cast-size c =
-    let next : let a = c.args in let l = c.loop-left in Next a.entries.now a.contents.now l.buf l.i l.left l.from l.to =
     let l = c.loop-left in
-    let ws = c.args.entries.now in
-    let some : 0 < l.left = omega arith in
-    let s = sizes-more ws l.i l.left some in
-    let m = length_more ws l.i l.left some in
-    record {
-      fit = (entry _ _ (words-first ws l.i l.left some l.invariant.1).0).fit;
-      sizes = omega arith;
-      room = omega arith;
-    } in
-    let h = next in omega (arith, h.fit)
+    let h = next c.args.entries.now c.args.contents.now l.buf l.i l.left l.from l.to (omega arith) l.invariant.1 l.invariant.3 l.invariant.4 in
+    omega (arith, h.fit)
 
 pub shape_of-buf : goal.shape_of-buf
 shape_of-buf c = c.loop-left.invariant.2
