@@ -1,13 +1,15 @@
 -- The requested bindings of words in a list of bytes, one binding after the other.
-use Prim.Native.Nat.{ℕ, ◌+◌, ◌-◌, ◌*◌, ◌<◌, ◌≤◌}
+use Prim.Native.Nat.{ℕ, ◌+◌, ◌-◌, ◌*◌, ◌/◌, ◌<◌, ◌≤◌}
 use mathlib.Core.Path.{◌≡◌, refl, sym, ap, ◌∙◌}
-use mathlib.Core.Bool.{Bool, true, false, cond}
+use mathlib.Core.Bool.{Bool, true, false, cond, ◌||◌}
 use mathlib.Core.List.{List, [], ◌∷◌, ◌++◌, append_assoc}
 use native.Mathlib.Omega.{arith}
-use native.Mathlib.Numerals.{add-one}
-use borrow.Author.Tests.{eq-eqb, ne_eqb}
-use lib.ListN.{length, take, drop, get_or, length-append, drop_of_length-le}
-use lib.Seq.{take_at, drop-cons}
+use borrow.Author.Tests.{eq-eqb, eqb-true}
+use lib.Dec.{eqb}
+use Rattle.std.specs.List.{list_any}
+use Rattle.kinds.proofs.Refusing.{same_test}
+use lib.ListN.{length, take, drop, length-append}
+use lib.Seq.{take_at}
 use Rattle.fields.specs.Fields.{field, written, Bytes}
 use Rattle.fields.proofs.Fields.{written_none, written-two}
 use Rattle.lists.specs.Lists.{keep, some, among}
@@ -16,21 +18,21 @@ use Rattle.bindings.specs.ListBytes.{word_bytes}
 use Rattle.bindings.specs.Filter.{requested, chosen, towers_of}
 use Rattle.bindings.specs.declared.Part.TheVariants.{Strings}
 use Rattle.bindings.proofs.Parts.{words-none, words_more, after, binding-front, drop-words, bindings-none, bindings-end, bindings-more}
+use mathlib.Core.Logic.{⊎_elim}
+use Rattle.std.specs.declared.ops.Range.{Range}
+use Rattle.lists.proofs.Tests.{below_or_not}
+use Rattle.bindings.specs.Walk.{next_words, TakesBinding, EndsWalk}
+use Rattle.bindings.specs.declared.Walk.{Walk}
+use Rattle.bindings.proofs.Walks.{StringsOf, begins-there, size_of_first, all-there}
 use Rattle.bindings.proofs.ListBytes.{length-bytes, bytes-append, bytes-then}
 
--- a number among those from i on
-module _ (xs : List ℕ) (x i : ℕ) where
-  pub among-here : i < length xs → x ≡ get_or xs i 0 → among (drop i xs) x ≡ true
-  unfolding some
-  among-here h e = rw (drop-cons xs i 0 h, eq-eqb x (get_or xs i 0) e)
-
-  pub among_later : i < length xs → (x ≡ get_or xs i 0 → ⊥) → among (drop i xs) x ≡ among (drop (i + 1) xs) x
-  unfolding some
-  among_later h e = rw (drop-cons xs i 0 h, ne_eqb x (get_or xs i 0) e, add-one i)
-
-  pub among-end : length xs ≤ i → among (drop i xs) x ≡ false
-  unfolding some
-  among-end h = let d : drop i xs ≡ [] = drop_of_length-le xs h in rw d
+-- the library's search for a number
+pub any-among : (xs : List ℕ) (x : ℕ) → list_any (λ y. eqb y x) xs ≡ among xs x
+unfolding some
+any-among [] x = refl
+any-among (y ∷ xs) x =
+    ap (λ t. t || list_any (λ z. eqb z x) xs) (same_test (eqb y x) (eqb x y) (λ e. eq-eqb x y (sym (eqb-true y x e))) (λ e. eq-eqb y x (sym (eqb-true x y e))))
+    ∙ ap (λ t. eqb x y || t) (any-among xs x)
 
 -- the first of the bindings in a row, where it is wanted
 kept-first : (b : Bool) (x : List ℕ) (xs : List (List ℕ)) → joined (cond b (x ∷ xs) xs) ≡ chosen b x ++ joined xs
@@ -117,11 +119,6 @@ module _ (protocols s : List ℕ) (at n : ℕ) where
           ∙ bytes-append _ _
           ∙ ap (λ (x : List ℕ). x ++ word_bytes (joined (requested protocols (words s (at + 2 * m) (n - m))))) (bytes_chosen (among protocols (field s at 2)) _ _ (first-bytes b room))
 
--- no more than all
-pub counted-most : (b : Bool) (m : ℕ) → cond b m 0 ≤ m
-counted-most true m = omega arith
-counted-most false m = omega arith
-
 -- nothing is left to write
 pub written-empty : (buf x : List ℕ) (at : ℕ) → x ≡ [] → written buf at (word_bytes x) ≡ buf
 unfolding word_bytes
@@ -156,3 +153,59 @@ module _ (protocols s : List ℕ) (at n : ℕ) (bytes : Bytes s) (inside : at + 
       let k = put-room to (length buf) room in
       let r = length-bytes (joined (requested protocols (words s (at + 2 * m) (n - m)))) in
       written-two buf first rest to (length first) refl (omega arith) ∙ ap (written buf to) (sym whole)
+
+-- ---- a walk over the string bindings
+
+-- what is left of the requested bindings, by words and by towers
+abbrev pub left_requested : List ℕ → List ℕ → Walk → List ℕ
+left_requested protocols s w = joined (requested protocols (words s w.at w.left))
+
+abbrev pub left_towers : List ℕ → List ℕ → Walk → List ℕ
+left_towers protocols s w = towers_of protocols (words s w.at w.left)
+
+module _ (protocols s : List ℕ) (w v : Walk) (b : Range ℕ) (of : StringsOf s w) (t : TakesBinding w b v) where
+  pub towers-taken : chosen (among protocols (field s b.start 2)) (field s b.start 2 ∷ []) ++ left_towers protocols s v ≡ left_towers protocols s w
+  towers-taken =
+      rw (t.from, t.at, t.left)
+      (sym (towers-more protocols s w.at w.left t.some (begins-there s w v b of t) (next_words w) (size_of_first s w v b of t) t.most))
+
+  pub words-taken : cond (among protocols (field s b.start 2)) ((b.end - b.start) / 2) 0 + length (left_requested protocols s v) ≡ length (left_requested protocols s w)
+  words-taken =
+      let m : (w.at + 2 * next_words w - w.at) / 2 ≡ next_words w = omega arith in
+      rw (t.from, t.to, t.at, t.left, m)
+      (sym (counted-more protocols s w.at w.left t.some (begins-there s w v b of t) (next_words w) (size_of_first s w v b of t) t.most))
+
+  -- the bytes that are written
+  abbrev taken : List ℕ
+  taken = chosen (among protocols (field s b.start 2)) (take (b.end - b.start) (drop b.start s))
+
+  pub room-taken : Bytes s → (to size : ℕ) → to + 2 * length (left_requested protocols s w) ≤ size → to + length taken + 2 * length (left_requested protocols s v) ≤ size
+  room-taken bytes to size room =
+      let k : w.at + 2 * next_words w - w.at ≡ 2 * next_words w = omega arith in
+      rw (t.from, t.to, t.at, t.left, k)
+      (put-room protocols s w.at w.left bytes (all-there s w v b of t) t.some (begins-there s w v b of t) (next_words w) (size_of_first s w v b of t) t.most to size room)
+
+  pub bytes-taken : Bytes s → (buf : List ℕ) (to : ℕ) → to + 2 * length (left_requested protocols s w) ≤ length buf
+      → written (written buf to taken) (to + length taken) (word_bytes (left_requested protocols s v)) ≡ written buf to (word_bytes (left_requested protocols s w))
+  bytes-taken bytes buf to room =
+      let k : w.at + 2 * next_words w - w.at ≡ 2 * next_words w = omega arith in
+      rw (t.from, t.to, t.at, t.left, k)
+      (put_step protocols s w.at w.left bytes (all-there s w v b of t) t.some (begins-there s w v b of t) (next_words w) (size_of_first s w v b of t) t.most buf to room)
+
+module _ (protocols s : List ℕ) (w v : Walk) (of : StringsOf s w) (e : EndsWalk w v) where
+  zero-word : 0 < w.left → field s w.at 2 ≡ 0
+  zero-word h = rw of.bytes at (e.end h)
+
+  pub requested-ended : left_requested protocols s w ≡ []
+  requested-ended =
+      ⊎_elim
+      (λ (h : 0 < w.left). requested-end protocols s w.at w.left h (zero-word h))
+      (λ z. requested-none protocols s w.at w.left (omega arith))
+      (below_or_not 0 w.left)
+
+  pub towers-ended : left_towers protocols s w ≡ []
+  towers-ended =
+      ⊎_elim
+      (λ (h : 0 < w.left). towers-end protocols s w.at w.left h (zero-word h))
+      (λ z. towers-none protocols s w.at w.left (omega arith))
+      (below_or_not 0 w.left)

@@ -153,7 +153,8 @@ module _ (protocols s : List ℕ) where
       unfolding kept_words requested
       kept-few =
           let n = kept-length (is_requested protocols) (bindings_of Strings (part_words s Strings)) in
-          let m : split s ≡ length (joined (bindings_of Strings (part_words s Strings)) ++ (0 ∷ [])) = sym (length-words s 4 (split s)) ∙ ap length (part-rows Strings (part_words s Strings) is_strings) in
+          let m : split s ≡ length (joined (bindings_of Strings (part_words s Strings)) ++ (0 ∷ [])) =
+          sym (length-words s 4 (split s)) ∙ ap length (part-rows Strings (part_words s Strings) is_strings) in
           let k = simp length-append at m in
           simp length-append (omega arith)
 

@@ -8,3 +8,4 @@ pub mod FilterLoops
 pub mod FilterWriting
 pub mod FilterTowers
 pub mod Marks
+pub mod Walks

@@ -13,10 +13,9 @@ use Rattle.kinds.specs.Refusals.{order}
 use Rattle.kinds.proofs.Refusing.{true-false, by-test, passed, passed_on}
 use Rattle.fields.proofs.Fields.{field-front}
 use Rattle.bindings.specs.Bindings.{words, first_binding, bindings_up_to, bindings_of, is_part, count, split, part_start, part_size}
-use Rattle.bindings.specs.Bindings.{part_words, is_bare, two_parts, list_length, front_answer, list_answer, place, binding_at}
+use Rattle.bindings.specs.Bindings.{part_words, is_bare, two_parts, list_length, front_answer, list_answer, place, binding_at, Within}
 use Rattle.bindings.specs.declared.Part.{Part}
 use Rattle.bindings.specs.declared.Part.TheVariants.{Strings, Security}
-use Rattle.bindings.specs.declared.Place.{Place}
 use Rattle.bindings.proofs.Parts.{after, binding-front, length-words}
 
 -- ---- what an answer 0 says
@@ -127,9 +126,6 @@ accept s h e =
     rw (e, le-ltb (list_length s) (length s) l)
 
 -- ---- a binding lies within its list
-
-abbrev pub Within : ℕ → Place → Type 0
-Within m x = (x.from ≤ x.to) × (x.to ≤ m)
 
 -- the first binding and the words that it leaves
 lengths : (p : Part) (ws : List ℕ) → length (first_binding p ws) + length (after p ws) ≡ length ws

@@ -11,7 +11,7 @@ use lib.Bits.{bit_or, or_shr, or_step}
 use lib.Pow.{shl_exact, pow-lt, pow-add, shl-shr, shr_le}
 use lib.Dec.{eqb}
 use lib.ListN.{length, get_or, set, take, replicate, length-set, length-replicate}
-use lib.Seq.{take-length, take-suc, get_or-set_same, get_or-set_other}
+use lib.Seq.{take-suc, get_or-set_same, get_or-set_other}
 use Rattle.fields.specs.Fields.{field}
 use Rattle.lists.specs.Lists.{some, among}
 use Rattle.lists.proofs.Lists.{some-cons, some-snoc, length-tabulate, get_d_tabulate}
@@ -106,38 +106,16 @@ module _ (ms xs : List ℕ) (x : ℕ) (m : Marks ms xs) (h : x < 65536) where
             (same_or_not y x);
       }
 
--- the numbers before the last `left` are marked
-pub record Passed (ms xs : List ℕ) (left : ℕ) : Type 0 where
-  pub within : left ≤ length xs
-  pub marked : Marks ms (take (length xs - left) xs)
-
-module _ (xs : List ℕ) where
-  pub passed_none : (ms : List ℕ) (left : ℕ) → left ≡ length xs → Marks ms [] → Passed ms xs left
-  passed_none ms left e m =
-      let z : length xs - left ≡ 0 = omega arith in
-      record { within = omega arith; marked = rw z m }
-
-  -- one more
-  pub passed-more : (ms ms' : List ℕ) (left x : ℕ) → Passed ms xs left → 0 < left → x ≡ get_or xs (length xs - left) 0
-      → ((ys : List ℕ) → Marks ms ys → Marks ms' (x ∷ ys)) → Passed ms' xs (left - 1)
-  passed-more ms ms' left x p h e f =
-      let i = length xs - left in
-      let within = p.within in
-      let s : length xs - (left - 1) ≡ suc i = omega arith in
-      let g : i < length xs = omega arith in
-      let m = f (take i xs) p.marked in
-      record {
-        within = omega arith;
-        marked = record {
-          size = m.size;
-          each = λ y. m.each y ∙ some-cons (eqb y) x (take i xs) ∙ or_comm (eqb y x) (among (take i xs) y) ∙ sym (rw (s, take-suc xs i 0 g, ← e) (some-snoc (eqb y) (take i xs) x));
-        };
-      }
-
-  pub passed-all : (ms : List ℕ) (left : ℕ) → Passed ms xs left → left ≡ 0 → Marks ms xs
-  passed-all ms left p e =
-      let s : length xs - left ≡ length xs = omega arith in
-      rw (s, take-length xs) at p.marked
+-- one number more of a list is marked
+pub marks-more : (xs ms ms' : List ℕ) (i x : ℕ) → i < length xs → x ≡ get_or xs i 0
+    → Marks ms (take i xs) → ((ys : List ℕ) → Marks ms ys → Marks ms' (x ∷ ys)) → Marks ms' (take (i + 1) xs)
+marks-more xs ms ms' i x h e marked f =
+    let m = f (take i xs) marked in
+    let next : i + 1 ≡ suc i = omega arith in
+    record {
+      size = m.size;
+      each = λ y. m.each y ∙ some-cons (eqb y) x (take i xs) ∙ or_comm (eqb y x) (among (take i xs) y) ∙ sym (rw (next, take-suc xs i 0 h, ← e) (some-snoc (eqb y) (take i xs) x));
+    }
 
 -- words in bytes
 pub words-length : (s : List ℕ) → length (words_in s) ≡ length s / 2

@@ -5,6 +5,8 @@ use mathlib.Core.Bool.{false, cond}
 use mathlib.Core.List.{List, [], ◌∷◌, ◌++◌, append_assoc, append-nil}
 use mathlib.Core.Logic.{⊎_elim}
 use native.Mathlib.Omega.{arith}
+use native.Mathlib.Numerals.{add-one}
+use native.Mathlib.Nat.{mul-suc}
 use borrow.Author.Tests.{ne_eqb, eq-eqb, eqb-true}
 use lib.Dec.{eqb, eqb-suc-zero}
 use lib.ListN.{length, take, drop, length-append, length-drop, drop_of_length-le}
@@ -12,7 +14,7 @@ use lib.Seq.{take_all, length-take-le}
 use Rattle.fields.specs.Fields.{field}
 use Rattle.kinds.proofs.Refusing.{by-test, same_test}
 use Rattle.lists.proofs.Tests.{below_or_not}
-use Rattle.bindings.specs.Bindings.{words, through_zero, NoZero, head_words, first_binding, bindings_up_to, bindings_of, joined, same_words, is_part, refusal, place}
+use Rattle.bindings.specs.Bindings.{words, through_zero, NoZero, FirstZero, head_words, first_binding, bindings_up_to, bindings_of, joined, same_words, is_part, refusal, place}
 use Rattle.bindings.specs.declared.Part.{Part}
 use Rattle.bindings.specs.declared.Part.TheVariants.{Strings, Security}
 
@@ -71,6 +73,13 @@ no-zero-more s at n i k front rest = (
       (below_or_not j i),
 )
 
+-- one block of w words more
+pub block-more : (s : List ℕ) (at w k : ℕ) → NoZero s at (w * k) → NoZero s (at + 2 * (w * k)) w → NoZero s at (w * (k + 1))
+block-more s at w k front rest =
+    let more = no-zero-more s at (w * k + w) (w * k) w (omega arith, front) (omega arith, rest) in
+    let next : w * (k + 1) ≡ w * k + w = rw add-one (mul-suc w k) in
+    rw next more.1
+
 -- and the text that they leave
 pub text-passed : (s : List ℕ) (k at n : ℕ) → k ≤ n → NoZero s at k → k + length (through_zero (words s (at + 2 * k) (n - k))) ≡ length (through_zero (words s at n))
 text-passed s zero at n h z =
@@ -86,6 +95,24 @@ text-passed s (suc k) at n h z =
     let rest = text-passed s k (at + 2) (n - 1) (omega arith) more in
     let one = text-more s at (at + 2) n (n - 1) refl (omega arith) first in
     rw (a, b) (omega arith)
+
+-- a text by its first zero word
+pub text_at : (s : List ℕ) (at n i : ℕ) → FirstZero s at n i → length (through_zero (words s at n)) ≡ i + 1
+text_at s at n i f =
+    let passed = text-passed s i at n (omega (arith, f.within)) f.before in
+    let end = text-end s (at + 2 * i) (n - i) (omega (arith, f.within)) f.zero in
+    omega arith
+
+-- the first zero word of the first words is that of more words
+pub first_of_more : (s : List ℕ) (at k n i : ℕ) → k ≤ n → FirstZero s at k i → FirstZero s at n i
+first_of_more s at k n i h f = record { within = omega (arith, f.within); zero = f.zero; before = f.before }
+
+-- a text without a zero word
+pub text_all : (s : List ℕ) (at n : ℕ) → NoZero s at n → length (through_zero (words s at n)) ≡ n
+text_all s at n z =
+    let passed = text-passed s n at n (omega arith) z in
+    let end = text-none s (at + 2 * n) (n - n) (omega arith) in
+    omega arith
 
 -- a text is the front of the words
 through-front : (ws : List ℕ) → through_zero ws ++ drop (length (through_zero ws)) ws ≡ ws

@@ -1,7 +1,11 @@
 -- The binding list, DUALSTRINGARRAY (document 01, "Reference bytes"; 000, section 2.2.19): N and S, then N words, of which the first S
 -- are the string part and the others the security part.
-use Rattle.std.specs.Prelude.{ℕ, suc, zero, ◌+◌, ◌*◌, ◌-◌, ◌<◌, ◌≡◌, Bool, true, false, cond, not, ◌&&◌, ◌||◌, List, [], ◌∷◌, ◌++◌, length, take, drop, eqb, ltb, leb}
+use Rattle.std.specs.Prelude.{ℕ, suc, zero, ◌+◌, ◌*◌, ◌-◌, ◌<◌, ◌≤◌, ◌≡◌, Bool, true, false, cond, not, ◌&&◌, ◌||◌, List, [], ◌∷◌, ◌++◌, length, take, drop, eqb, ltb, leb}
+use Rattle.std.specs.Prelude.{Result, Ok, Err}
+use Rattle.std.specs.declared.ops.Range.{Range}
+use Rattle.kinds.specs.Answers.{refusal_number}
 use Rattle.kinds.specs.Refusals.{◌gives◌, passes, order}
+use Rattle.kinds.specs.declared.refusal.Refusal.{Refusal}
 use Rattle.fields.specs.Fields.{field}
 use Rattle.bindings.specs.declared.Part.{Part}
 use Rattle.bindings.specs.declared.Part.TheVariants.{Strings, Security}
@@ -22,6 +26,12 @@ through_zero (w ∷ ws) = w ∷ cond (eqb w 0) [] (through_zero ws)
 -- none of the k words from at is zero
 abbrev pub NoZero : List ℕ → ℕ → ℕ → Type 0
 NoZero s at k = (j : ℕ) → j < k → field s (at + 2 * j) 2 ≡ 0 → ⊥
+
+-- word i is the first zero word of the n words from at
+pub record FirstZero (s : List ℕ) (at n i : ℕ) : Type 0 where
+  pub within : i < n
+  pub zero : field s (at + 2 * i) 2 ≡ 0
+  pub before : NoZero s at i
 
 -- the words of a binding before its address or name: a tower word; a service word and one word of any content
 abbrev pub head_words : Part → ℕ
@@ -103,6 +113,11 @@ list_answer s = order (passes (front_answer s) ∷ ltb (list_length s) (length s
 abbrev pub refusal : ℕ → Place
 refusal n = record { answer = n; from = 0; to = 0 }
 
+-- a place that was found, or refused, as C takes it
+abbrev pub placed : Result (Range ℕ) Refusal → Place
+placed (Ok found) = record { answer = 0; from = found.start; to = found.end }
+placed (Err why) = refusal (refusal_number why)
+
 -- where binding k stands among bindings whose words begin at the byte at
 unfoldable pub place : List (List ℕ) → ℕ → ℕ → Place
 place [] k at = refusal 24
@@ -116,6 +131,10 @@ binding_at s p k = cond (eqb (list_answer s) 0) (place (bindings_of p (part_word
 -- the binding that begins the n words from at, where they are there
 unfoldable pub binding_from : List ℕ → Part → ℕ → ℕ → Place
 binding_from s p at n = cond (leb (at + 2 * n) (length s)) (place (bindings_of p (words s at n)) 0 at) (refusal 13)
+
+-- a place lies within so many bytes
+abbrev pub Within : ℕ → Place → Type 0
+Within m x = (x.from ≤ x.to) × (x.to ≤ m)
 
 -- the bytes of a place
 abbrev pub bytes_at : List ℕ → Place → List ℕ

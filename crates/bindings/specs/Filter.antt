@@ -5,7 +5,7 @@ use Rattle.fields.specs.Fields.{field, Bytes}
 use Rattle.lists.specs.Lists.{keep, every, tabulate, among}
 use Rattle.bindings.specs.Bindings.{bindings_of, joined, part_words, is_bare, list_answer}
 use Rattle.bindings.specs.ListBytes.{parts_bytes}
-use Rattle.bindings.specs.declared.filter.Filtered.{Filtered}
+use Rattle.fields.specs.declared.Written.{Written}
 use Rattle.bindings.specs.declared.Part.TheVariants.{Strings, Security}
 
 -- a string binding is requested: its tower, which is its first word, is among the protocols
@@ -45,7 +45,7 @@ unfoldable pub filter_answer : List ℕ → List ℕ → ℕ → ℕ
 filter_answer protocols s n = order (passes (list_answer s) ∷ ltb n (length (filtered protocols s)) gives 15 ∷ [])
 
 -- the answer, and the number of bytes written
-unfoldable pub write_filtered : List ℕ → List ℕ → ℕ → Filtered
+unfoldable pub write_filtered : List ℕ → List ℕ → ℕ → Written
 write_filtered protocols s n =
     cond (eqb (filter_answer protocols s n) 0)
     (record { answer = 0; length = length (filtered protocols s) })

@@ -1,33 +1,20 @@
 // A binding list with only the string bindings of the requested protocols.
-ghost use Rattle.std.specs.Prelude.{◌≡◌, cond, List, [], ◌∷◌, ◌++◌, ℕ, ◌+◌, ◌*◌, ◌<◌, ◌≤◌, length, take};
+ghost use Rattle.std.specs.Prelude.{◌≡◌, cond, List, [], ◌∷◌, ◌++◌, ℕ, ◌+◌, ◌*◌, ◌<◌, ◌≤◌, length, take, get_or};
 ghost use Rattle.lists.specs.Lists.{among};
+ghost use Rattle.kinds.specs.Answers.{answer_number};
 ghost use Rattle.fields.specs.Fields.{written, stored};
+ghost use Rattle.fields.specs.Writers.{wrote};
 ghost use Rattle.bindings.specs.Bindings.{words, joined, split, list_answer};
 ghost use Rattle.bindings.specs.ListBytes.{word_bytes};
 ghost use Rattle.bindings.specs.Filter.{requested, filtered, chosen, words_in, towers_of, is_marked, Marks, write_filtered};
 
-use crate::{Part, binding_words, list_answer};
-use kinds::answer;
-
-// A writer's answer, and the number of bytes that it wrote.
-#[repr(C)]
-#[derive(Clone, Copy)]
-pub struct Filtered {
-    pub answer: u32,
-    pub length: usize,
-}
+use crate::{Part, Walk, list_answer};
+use kinds::Refusal;
 
 fn is_requested(protocols: &[u16], tower: u16) -> bool
     ensures { result ≡ among protocols.now tower }
 {
-    let mut i = 0;
-    while i < protocols.len() {
-        if tower == protocols[i] {
-            return true;
-        }
-        i += 1;
-    }
-    false
+    protocols.contains(&tower)
 }
 
 // Marks of the numbers below 65,536: a bit for each.
@@ -37,18 +24,25 @@ pub const MARKS: usize = 1024;
 fn mark(marks: &mut [u64; MARKS], x: u16)
     ensures { (xs : List ℕ) → Marks marks.old xs → Marks marks.new (x ∷ xs) }
 {
-    let n = x as usize;
-    let i = n / 64;
-    let bit = 1u64 << (n % 64);
-    marks[i] = marks[i] | bit;
+    let n = usize::from(x);
+    marks[n / 64] |= 1 << (n % 64);
 }
 
 fn is_marked(marks: &[u64; MARKS], x: u16) -> bool
     ensures { result ≡ is_marked marks.now x }
 {
-    let n = x as usize;
-    let i = n / 64;
-    (marks[i] >> (n % 64)) % 2 == 1
+    let n = usize::from(x);
+    (marks[n / 64] >> (n % 64)) % 2 == 1
+}
+
+// Marks the n numbers that number gives, where nothing is marked yet.
+fn mark_each<F: Fn(usize) -> u16>(marks: &mut [u64; MARKS], n: usize, number: F)
+    requires { Marks marks.old [] × ((k : ℕ) → k < n → F.pre number k) }
+    ensures { (xs : List ℕ) → length xs ≡ n → ((k x : ℕ) → k < n → F.post number k x → x ≡ get_or xs k 0) → Marks marks.new xs }
+{
+    for k in 0..n {
+        mark(marks, number(k));
+    }
 }
 
 // Marks the protocols, where nothing is marked yet.
@@ -56,13 +50,7 @@ pub fn mark_all(marks: &mut [u64; MARKS], protocols: &[u16])
     requires { Marks marks.old [] }
     ensures { Marks marks.new protocols.now }
 {
-    let n = protocols.len();
-    let mut left = n;
-    while 0 < left {
-        let x = protocols[n - left];
-        left -= 1;
-        mark(marks, x);
-    }
+    mark_each(marks, protocols.len(), |k| protocols[k]);
 }
 
 // The same of protocols in bytes, two for each.
@@ -70,25 +58,11 @@ pub fn mark_all_bytes(marks: &mut [u64; MARKS], protocols: &[u8])
     requires { Marks marks.old [] }
     ensures { Marks marks.new (words_in protocols.now) }
 {
-    let n = protocols.len() / 2;
-    let mut left = n;
-    while 0 < left {
-        let x = fields::word(protocols, 2 * (n - left));
-        left -= 1;
-        mark(marks, x);
-    }
-}
-
-// Puts a tower at n where it is wanted, and gives the place after it.
-fn note_tower(towers: &mut [u16], n: usize, tower: u16, wanted: bool) -> usize
-    requires { n < length towers.old }
-    ensures { (result ≤ n + 1) × (take result towers.new ≡ take n towers.old ++ chosen wanted (tower ∷ [])) }
-{
-    if wanted {
-        towers[n] = tower;
-        return n + 1;
-    }
-    n
+    mark_each(
+        marks,
+        protocols.len() / 2,
+        |k| fields::word(protocols, 2 * k),
+    );
 }
 
 // Puts the towers of a list's string bindings that are marked at the front of towers, and gives their number: of the protocols they
@@ -99,30 +73,21 @@ pub fn requested_towers(s: &[u8], marks: &[u64; MARKS], towers: &mut [u16]) -> u
         × ((protocols : List ℕ) → Marks marks.now protocols
         → take result towers.new ≡ towers_of protocols (words s.now 4 (split s.now))) }
 {
-    let mut i = 4;
-    let mut left = fields::read_u16(s, 2) as usize;
+    let walk = Walk {
+        s,
+        part: Part::Strings,
+        at: 4,
+        left: fields::read_u16(s, 2) as usize,
+    };
     let mut n = 0;
-    while 0 < left {
-        let tower = fields::word(s, i);
-        if tower == 0 {
-            return n;
+    for binding in walk {
+        let tower = fields::word(s, binding.start);
+        if is_marked(marks, tower) {
+            towers[n] = tower;
+            n += 1;
         }
-        n = note_tower(towers, n, tower, is_marked(marks, tower));
-        let m = binding_words(s, i, left, Part::Strings);
-        i += 2 * m;
-        left -= m;
     }
     n
-}
-
-// The m words of a binding, or none where its tower is not requested.
-fn counted(protocols: &[u16], tower: u16, m: usize) -> usize
-    ensures { result ≡ cond (among protocols.now tower) m 0 }
-{
-    if is_requested(protocols, tower) {
-        return m;
-    }
-    0
 }
 
 // How many words the requested bindings have, of the n words from at.
@@ -130,33 +95,19 @@ fn requested_words(s: &[u8], at: usize, n: usize, protocols: &[u16]) -> usize
     requires { at + 2 * n ≤ length s.now }
     ensures { (result ≡ length (joined (requested protocols.now (words s.now at n)))) × (result ≤ n) }
 {
-    let mut i = at;
-    let mut left = n;
+    let walk = Walk {
+        s,
+        part: Part::Strings,
+        at,
+        left: n,
+    };
     let mut sum = 0;
-    while 0 < left {
-        let tower = fields::word(s, i);
-        if tower == 0 {
-            return sum;
+    for binding in walk {
+        if is_requested(protocols, fields::word(s, binding.start)) {
+            sum += (binding.end - binding.start) / 2;
         }
-        let m = binding_words(s, i, left, Part::Strings);
-        sum += counted(protocols, tower, m);
-        i += 2 * m;
-        left -= m;
     }
     sum
-}
-
-// Writes src at to where it is wanted, and gives the place after it.
-fn put(buf: &mut [u8], to: usize, src: &[u8], wanted: bool) -> usize
-    requires { to + length (chosen wanted src.now) ≤ length buf.old }
-    ensures { (result ≡ to + length (chosen wanted src.now))
-        × (buf.new ≡ written buf.old to (chosen wanted src.now)) }
-{
-    if wanted {
-        fields::copy(buf, to, src);
-        return to + src.len();
-    }
-    to
 }
 
 // Writes the requested bindings of the n words from at, in their order.
@@ -165,19 +116,19 @@ fn put_requested(s: &[u8], at: usize, n: usize, protocols: &[u16], buf: &mut [u8
         × (to + 2 * length (joined (requested protocols.now (words s.now at n))) ≤ length buf.old) }
     ensures { buf.new ≡ written buf.old to (word_bytes (joined (requested protocols.now (words s.now at n)))) }
 {
-    let mut i = at;
-    let mut left = n;
+    let walk = Walk {
+        s,
+        part: Part::Strings,
+        at,
+        left: n,
+    };
     let mut next = to;
-    while 0 < left {
-        let tower = fields::word(s, i);
-        if tower == 0 {
-            return;
+    for binding in walk {
+        if is_requested(protocols, fields::word(s, binding.start)) {
+            let bytes = &s[binding.start..binding.end];
+            fields::copy(buf, next, bytes);
+            next += bytes.len();
         }
-        let m = binding_words(s, i, left, Part::Strings);
-        let end = i + 2 * m;
-        next = put(buf, next, &s[i..end], is_requested(protocols, tower));
-        i = end;
-        left -= m;
     }
 }
 
@@ -214,27 +165,15 @@ fn put_filtered(s: &[u8], protocols: &[u16], buf: &mut [u8])
 }
 
 // Writes the list with only the requested string bindings at the front of buf, and keeps the rest: 0; the list's refusals; 15.
-pub fn write_filtered(s: &[u8], protocols: &[u16], buf: &mut [u8]) -> Filtered
-    ensures { (result ≡ write_filtered protocols.now s.now (length buf.old))
-        × (buf.new ≡ stored result.answer (filtered protocols.now s.now) buf.old) }
+pub fn write_filtered(s: &[u8], protocols: &[u16], buf: &mut [u8]) -> Result<usize, Refusal>
+    ensures { (wrote result ≡ write_filtered protocols.now s.now (length buf.old))
+        × (buf.new ≡ stored (answer_number result) (filtered protocols.now s.now) buf.old) }
 {
-    let number = list_answer(s);
-    if number != answer::DONE {
-        return Filtered {
-            answer: number,
-            length: 0,
-        };
-    }
+    list_answer(s)?;
     let size = filtered_length(s, protocols);
     if buf.len() < size {
-        return Filtered {
-            answer: answer::NO_ROOM,
-            length: 0,
-        };
+        return Err(Refusal::NoRoom);
     }
     put_filtered(s, protocols, buf);
-    Filtered {
-        answer: answer::DONE,
-        length: size,
-    }
+    Ok(size)
 }

@@ -3,11 +3,13 @@
 
 pub mod filter;
 
-ghost use Rattle.std.specs.Prelude.{◌≡◌, true, cond, ◌+◌, ◌*◌, ◌-◌, ◌<◌, ◌≤◌, eqb, length};
-ghost use Rattle.bindings.specs.Bindings.{words, through_zero, NoZero, head_words, first_binding, bindings_of, is_part, two_parts};
-ghost use Rattle.bindings.specs.Bindings.{list_length, front_answer, list_answer, refusal, place, binding_at, binding_from, PartOf};
+ghost use Rattle.std.specs.Prelude.{◌≡◌, true, cond, ◌+◌, ◌*◌, ◌-◌, ◌<◌, ◌≤◌, eqb, length, MatchOption};
+ghost use Rattle.kinds.specs.Answers.{answer_number};
+ghost use Rattle.bindings.specs.Bindings.{words, through_zero, NoZero, FirstZero, head_words, first_binding, bindings_of, is_part, two_parts};
+ghost use Rattle.bindings.specs.Bindings.{list_length, front_answer, list_answer, placed, place, binding_at, binding_from, PartOf, Within};
 
-use kinds::answer;
+use kinds::Refusal;
+use std::ops::Range;
 
 // The two parts of a list.
 #[derive(Clone, Copy)]
@@ -16,7 +18,7 @@ pub enum Part {
     Security,
 }
 
-// Where a binding stands, or the number of its refusal.
+// Where a binding stands, or the number of its refusal, as C takes it.
 #[repr(C)]
 #[derive(Clone, Copy)]
 pub struct Place {
@@ -25,14 +27,21 @@ pub struct Place {
     pub to: usize,
 }
 
-impl Place {
-    fn refused(number: u32) -> Place
-        ensures { result ≡ refusal number }
-    {
-        Place {
-            answer: number,
-            from: 0,
-            to: 0,
+impl From<Result<Range<usize>, Refusal>> for Place {
+    ghost from_gives = { λ found place. place ≡ placed found };
+
+    fn from(found: Result<Range<usize>, Refusal>) -> Place {
+        match found {
+            Ok(there) => Place {
+                answer: 0,
+                from: there.start,
+                to: there.end,
+            },
+            Err(why) => Place {
+                answer: u32::from(why),
+                from: 0,
+                to: 0,
+            },
         }
     }
 }
@@ -43,12 +52,10 @@ fn is_text_block(s: &[u8], at: usize, w: usize) -> bool
     ensures { result ≡ true → NoZero s.now at w }
 {
     let mut all = true;
-    let mut j = 0;
-    while j < w {
+    for j in 0..w {
         if fields::word(s, at + 2 * j) == 0 {
             all = false;
         }
-        j += 1;
     }
     all
 }
@@ -58,14 +65,12 @@ fn whole_blocks(s: &[u8], at: usize, n: usize, w: usize) -> usize
     requires { (at + 2 * n ≤ length s.now) × (0 < w) }
     ensures { (result ≤ n) × NoZero s.now at result }
 {
-    let mut i = 0;
-    while w <= n - i {
-        if !is_text_block(s, at + 2 * i, w) {
-            return i;
+    for k in 0..n / w {
+        if !is_text_block(s, at + 2 * (w * k), w) {
+            return w * k;
         }
-        i += w;
     }
-    i
+    n / w * w
 }
 
 // The same by large blocks, then by small ones.
@@ -95,42 +100,44 @@ pub fn block_words(s: &[u8], at: usize, n: usize) -> usize
     i + far_words(s, at + 2 * i, n - i)
 }
 
+// The number of the first zero word among the n words from at.
+fn zero_word(s: &[u8], at: usize, n: usize) -> Option<usize>
+    requires { at + 2 * n ≤ length s.now }
+    ensures { MatchOption result (NoZero s.now at n) (FirstZero s.now at n) }
+{
+    for i in 0..n {
+        if fields::word(s, at + 2 * i) == 0 {
+            return Some(i);
+        }
+    }
+    None
+}
+
 // How many of the n words from at go up to and with the first zero word, by blocks first.
 fn long_words(s: &[u8], at: usize, n: usize) -> usize
     requires { at + 2 * n ≤ length s.now }
     ensures { (result ≡ length (through_zero (words s.now at n))) × (result ≤ n) }
 {
-    let mut i = block_words(s, at, n);
-    while i < n {
-        if fields::word(s, at + 2 * i) == 0 {
-            return i + 1;
-        }
-        i += 1;
+    let passed = block_words(s, at, n);
+    match zero_word(s, at + 2 * passed, n - passed) {
+        Some(i) => passed + i + 1,
+        None => n,
     }
-    n
 }
 
-// How many of n words are tested one by one before the blocks, for which a short text is too short.
-fn front_words(n: usize) -> usize
-    ensures { result ≤ n }
-{
-    if n < 3 { n } else { 3 }
-}
+// How many words are tested one by one before the blocks, for which a short text is too short.
+const FRONT: usize = 3;
 
 // The same as `long_words`, for texts that may be short.
 fn text_words(s: &[u8], at: usize, n: usize) -> usize
     requires { at + 2 * n ≤ length s.now }
     ensures { (result ≡ length (through_zero (words s.now at n))) × (result ≤ n) }
 {
-    let first = front_words(n);
-    let mut i = 0;
-    while i < first {
-        if fields::word(s, at + 2 * i) == 0 {
-            return i + 1;
-        }
-        i += 1;
+    let first = n.min(FRONT);
+    match zero_word(s, at, first) {
+        Some(i) => i + 1,
+        None => first + long_words(s, at + 2 * first, n - first),
     }
-    i + long_words(s, at + 2 * i, n - i)
 }
 
 // How many words a binding has before its address or name.
@@ -155,22 +162,58 @@ fn binding_words(s: &[u8], at: usize, n: usize, p: Part) -> usize
     head + text_words(s, at + 2 * head, n - head)
 }
 
+// The bindings that begin the `left` words from `at`, up to a zero word where a tower or service word is due.
+#[derive(Clone, Copy)]
+struct Walk<'a> {
+    s: &'a [u8],
+    part: Part,
+    at: usize,
+    left: usize,
+    ghost there: { at + 2 * left ≤ length s.now },
+}
+
+impl<'a> Iterator for Walk<'a> {
+    ghost use Rattle.std.specs.Iterator.{at_most};
+    ghost use Rattle.bindings.specs.Walk.{GivesBinding};
+
+    // From the first byte of a binding to its end.
+    type Item = Range<usize>;
+
+    ghost next_gives = { GivesBinding };
+
+    ghost remaining = { λ w. at_most w.left };
+
+    // Each step is as long as its binding.
+    fn next(&mut self) -> Option<Range<usize>> {
+        if self.left == 0 || fields::word(self.s, self.at) == 0 {
+            return None;
+        }
+        let from = self.at;
+        let m = binding_words(self.s, from, self.left, self.part);
+        *self = Walk {
+            s: self.s,
+            part: self.part,
+            at: from + 2 * m,
+            left: self.left - m,
+        };
+        Some(from..self.at)
+    }
+}
+
 // Whether the n words from at are a part.
 fn is_part(s: &[u8], at: usize, n: usize, p: Part) -> bool
     requires { at + 2 * n ≤ length s.now }
     ensures { result ≡ is_part p (words s.now at n) }
 {
-    let mut i = at;
-    let mut left = n;
-    while 0 < left {
-        if fields::word(s, i) == 0 {
-            return left == 1;
-        }
-        let m = binding_words(s, i, left, p);
-        i += 2 * m;
-        left -= m;
-    }
-    false
+    let mut walk = Walk {
+        s,
+        part: p,
+        at,
+        left: n,
+    };
+    // A walk: each step is as long as its binding.
+    while walk.next().is_some() {}
+    walk.left == 1
 }
 
 // Whether both parts are parts, where the list's words are all there. Without words, N and S are 0.
@@ -180,16 +223,9 @@ fn two_parts(s: &[u8]) -> bool
 {
     let n = fields::read_u16(s, 0) as usize;
     let k = fields::read_u16(s, 2) as usize;
-    if n < k {
-        return false;
-    }
-    if n == 0 {
-        return true;
-    }
-    if !is_part(s, 4, k, Part::Strings) {
-        return false;
-    }
-    is_part(s, 4 + 2 * k, n - k, Part::Security)
+    k <= n
+        && (n == 0
+            || (is_part(s, 4, k, Part::Strings) && is_part(s, 4 + 2 * k, n - k, Part::Security)))
 }
 
 // The length in bytes that the list at the front has by its N.
@@ -200,19 +236,16 @@ pub fn stated_length(s: &[u8]) -> usize
 }
 
 // Of the list at the front of the bytes; the bytes after it are not judged.
-pub fn front_answer(s: &[u8]) -> u32
-    ensures { result ≡ front_answer s.now }
+pub fn front_answer(s: &[u8]) -> Result<(), Refusal>
+    ensures { answer_number result ≡ front_answer s.now }
 {
-    if s.len() < 4 {
-        return answer::SHORT;
-    }
-    if s.len() < stated_length(s) {
-        return answer::SHORT;
+    if s.len() < 4 || s.len() < stated_length(s) {
+        return Err(Refusal::Short);
     }
     if two_parts(s) {
-        answer::DONE
+        Ok(())
     } else {
-        answer::LAYOUT
+        Err(Refusal::Layout)
     }
 }
 
@@ -220,76 +253,60 @@ pub fn front_answer(s: &[u8]) -> u32
 pub fn list_length(s: &[u8]) -> usize
     ensures { result ≡ cond (eqb (front_answer s.now) 0) (list_length s.now) 0 }
 {
-    if front_answer(s) != answer::DONE {
-        return 0;
+    match front_answer(s) {
+        Ok(_) => stated_length(s),
+        Err(_) => 0,
     }
-    stated_length(s)
 }
 
 // Of the bytes as a whole list: bytes left over are a broken layout.
-pub fn list_answer(s: &[u8]) -> u32
-    ensures { result ≡ list_answer s.now }
+pub fn list_answer(s: &[u8]) -> Result<(), Refusal>
+    ensures { answer_number result ≡ list_answer s.now }
 {
-    let front = front_answer(s);
-    if front != answer::DONE {
-        return front;
-    }
+    front_answer(s)?;
     if stated_length(s) < s.len() {
-        answer::LAYOUT
+        Err(Refusal::Layout)
     } else {
-        answer::DONE
+        Ok(())
     }
 }
 
 // Binding number k of the n words from at.
-fn find(s: &[u8], at: usize, n: usize, p: Part, k: usize) -> Place
+fn find(s: &[u8], at: usize, n: usize, p: Part, k: usize) -> Result<Range<usize>, Refusal>
     requires { at + 2 * n ≤ length s.now }
-    ensures { result ≡ place (bindings_of p (words s.now at n)) k at }
+    ensures { placed result ≡ place (bindings_of p (words s.now at n)) k at }
 {
-    let mut i = at;
-    let mut left = n;
     let mut skip = k;
-    while 0 < left {
-        if fields::word(s, i) == 0 {
-            return Place::refused(answer::NO_BINDING);
-        }
-        let m = binding_words(s, i, left, p);
+    for binding in (Walk {
+        s,
+        part: p,
+        at,
+        left: n,
+    }) {
         if skip == 0 {
-            return Place {
-                answer: answer::DONE,
-                from: i,
-                to: i + 2 * m,
-            };
+            return Ok(binding);
         }
         skip -= 1;
-        i += 2 * m;
-        left -= m;
     }
-    Place::refused(answer::NO_BINDING)
+    Err(Refusal::NoBinding)
 }
 
 // The binding that begins the n words from at, which a walk over a part has left: 0, or 13 where they are not all there; 24 where
 // there is none. Of a list that was accepted, the next one begins where this one ends.
-pub fn locate_from(s: &[u8], p: Part, at: usize, n: usize) -> Place
-    ensures { result ≡ binding_from s.now p at n }
+pub fn locate_from(s: &[u8], p: Part, at: usize, n: usize) -> Result<Range<usize>, Refusal>
+    ensures { placed result ≡ binding_from s.now p at n }
 {
-    if s.len() < at {
-        return Place::refused(answer::SHORT);
-    }
-    if (s.len() - at) / 2 < n {
-        return Place::refused(answer::SHORT);
+    if s.len() < at || (s.len() - at) / 2 < n {
+        return Err(Refusal::Short);
     }
     find(s, at, n, p, 0)
 }
 
 // Where binding number k of a part stands in a whole list: the list's refusals first, then its own.
-pub fn locate(s: &[u8], p: Part, k: usize) -> Place
-    ensures { result ≡ binding_at s.now p k }
+pub fn locate(s: &[u8], p: Part, k: usize) -> Result<Range<usize>, Refusal>
+    ensures { placed result ≡ binding_at s.now p k }
 {
-    let number = list_answer(s);
-    if number != answer::DONE {
-        return Place::refused(number);
-    }
+    list_answer(s)?;
     let n = fields::read_u16(s, 0) as usize;
     let v = fields::read_u16(s, 2) as usize;
     match p {
@@ -299,19 +316,27 @@ pub fn locate(s: &[u8], p: Part, k: usize) -> Place
 }
 
 // Whether there is a binding number k.
-pub fn binding_answer(s: &[u8], p: Part, k: usize) -> u32
-    ensures { result ≡ (binding_at s.now p k).answer }
+pub fn binding_answer(s: &[u8], p: Part, k: usize) -> Result<(), Refusal>
+    ensures { answer_number result ≡ (binding_at s.now p k).answer }
 {
-    let x = locate(s, p, k);
-    x.answer
+    locate(s, p, k)?;
+    Ok(())
+}
+
+// The bytes of a place; none where it is refused.
+pub fn bytes_of(s: &[u8], place: Result<Range<usize>, Refusal>) -> &[u8]
+    requires { Within (length s.now) (placed place) }
+    ensures { PartOf s.now s.entry.ref_ptr (placed place) result.ref_ptr result.now }
+{
+    match place {
+        Ok(there) => &s[there],
+        Err(_) => &s[..0],
+    }
 }
 
 // Binding number k, from its first word through its zero word; no bytes where it is refused.
 pub fn binding(s: &[u8], p: Part, k: usize) -> &[u8]
     ensures { PartOf s.now s.entry.ref_ptr (binding_at s.now p k) result.ref_ptr result.now }
 {
-    let x = locate(s, p, k);
-    let from = x.from;
-    let to = x.to;
-    &s[from..to]
+    bytes_of(s, locate(s, p, k))
 }

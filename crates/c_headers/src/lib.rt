@@ -9,7 +9,7 @@ ghost use Rattle.extension_writer.specs.Writing.{given};
 ghost use Rattle.headers.specs.Headers.{read_this, this_extension, this_bytes, this_written, this_writing, read_that, that_extension, that_bytes, that_writing, none};
 ghost use Rattle.cursors.specs.Cursors.{this_cursor, extensions_cursor, extension_step};
 
-use cursors::extents::{ExtensionCursor, ExtensionStep};
+use cursors::extents::{ExtensionCursor, ExtensionStep, ExtensionWalk};
 use extensions::{Extension, Walked};
 use headers::{OrpcThat, OrpcThis, ReadThat, ReadThis};
 use kinds::Guid;
@@ -19,7 +19,7 @@ use kinds::Guid;
 pub extern "C" fn rimonakh_this_read(bytes: &[u8]) -> ReadThis
     ensures { result ≡ read_this bytes.now }
 {
-    OrpcThis::read(bytes)
+    ReadThis::from(OrpcThis::read(bytes))
 }
 
 // Extension k of the ORPCTHIS at the front of bytes.
@@ -27,7 +27,7 @@ pub extern "C" fn rimonakh_this_read(bytes: &[u8]) -> ReadThis
 pub extern "C" fn rimonakh_this_extension(bytes: &[u8], k: usize) -> Extension
     ensures { result ≡ this_extension bytes.now k }
 {
-    OrpcThis::extension(bytes, k)
+    Extension::from(OrpcThis::extension(bytes, k))
 }
 
 // Writes an ORPCTHIS without extensions at the front of buffer.
@@ -48,7 +48,7 @@ pub extern "C" fn rimonakh_this_write(
         high: causality_high,
     };
     let header = OrpcThis::new(minor, flags, causality);
-    header.write(buffer)
+    kinds::number(header.write(buffer))
 }
 
 // Writes an ORPCTHIS with its extensions at the front of buffer: four words for each in entries, all data end to end in contents.
@@ -73,7 +73,7 @@ pub extern "C" fn rimonakh_this_write_extensions(
         high: causality_high,
     };
     let header = OrpcThis::new(minor, flags, causality);
-    header.write_with(pointer, array, entries, contents, buffer)
+    Walked::from(header.write_with(pointer, array, entries, contents, buffer))
 }
 
 // Reads the ORPCTHAT at the front of bytes.
@@ -81,7 +81,7 @@ pub extern "C" fn rimonakh_this_write_extensions(
 pub extern "C" fn rimonakh_that_read(bytes: &[u8]) -> ReadThat
     ensures { result ≡ read_that bytes.now }
 {
-    OrpcThat::read(bytes)
+    ReadThat::from(OrpcThat::read(bytes))
 }
 
 // Extension k of the ORPCTHAT at the front of bytes.
@@ -89,7 +89,7 @@ pub extern "C" fn rimonakh_that_read(bytes: &[u8]) -> ReadThat
 pub extern "C" fn rimonakh_that_extension(bytes: &[u8], k: usize) -> Extension
     ensures { result ≡ that_extension bytes.now k }
 {
-    OrpcThat::extension(bytes, k)
+    Extension::from(OrpcThat::extension(bytes, k))
 }
 
 // Writes an ORPCTHAT without extensions at the front of buffer.
@@ -99,7 +99,7 @@ pub extern "C" fn rimonakh_that_write(flags: u32, buffer: &mut [u8]) -> u32
         × (buffer.new ≡ stored result (that_bytes (record { flags = flags }) none) buffer.old) }
 {
     let header = OrpcThat::new(flags);
-    header.write(buffer)
+    kinds::number(header.write(buffer))
 }
 
 // Writes an ORPCTHAT with its extensions at the front of buffer: four words for each in entries, all data end to end in contents.
@@ -116,7 +116,7 @@ pub extern "C" fn rimonakh_that_write_extensions(
         × (buffer.new ≡ stored result.answer (that_bytes (record { flags = flags }) (given pointer array entries.now contents.now)) buffer.old) }
 {
     let header = OrpcThat::new(flags);
-    header.write_with(pointer, array, entries, contents, buffer)
+    Walked::from(header.write_with(pointer, array, entries, contents, buffer))
 }
 
 // Where a walk over the extensions of the ORPCTHIS at the front of bytes begins.
@@ -124,7 +124,7 @@ pub extern "C" fn rimonakh_that_write_extensions(
 pub extern "C" fn rimonakh_this_extensions(bytes: &[u8]) -> ExtensionCursor
     ensures { result ≡ this_cursor bytes.now }
 {
-    cursors::extents::start_this(bytes)
+    ExtensionCursor::from(cursors::extents::start_this(bytes))
 }
 
 // Where a walk over the extensions of the ORPCTHAT at the front of bytes begins.
@@ -132,7 +132,7 @@ pub extern "C" fn rimonakh_this_extensions(bytes: &[u8]) -> ExtensionCursor
 pub extern "C" fn rimonakh_that_extensions(bytes: &[u8]) -> ExtensionCursor
     ensures { result ≡ extensions_cursor bytes.now 4 }
 {
-    cursors::extents::start_that(bytes)
+    ExtensionCursor::from(cursors::extents::start_that(bytes))
 }
 
 // The extension where a walk stands.
@@ -145,5 +145,10 @@ pub extern "C" fn rimonakh_next_extension(
 ) -> ExtensionStep
     ensures { result ≡ extension_step bytes.now pointer at left }
 {
-    cursors::extents::next(bytes, pointer, at, left)
+    let walk = ExtensionWalk {
+        pointer: pointer,
+        at: at,
+        left: left,
+    };
+    ExtensionStep::from(walk.next(bytes))
 }

@@ -16,7 +16,7 @@ use Rattle.contexts.specs.Contexts.{context_answer, content_place, property_plac
 use Rattle.contexts.specs.declared.Context.{Context}
 use Rattle.contexts.specs.declared.Property.{Property}
 use Rattle.bindings.specs.declared.Place.{Place}
-use Rattle.bindings.proofs.ListAnswers.{Within}
+use Rattle.bindings.specs.Bindings.{Within}
 use Rattle.bindings.specs.Bindings.{refusal}
 
 -- ---- what an answer 0 says

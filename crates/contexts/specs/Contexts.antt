@@ -1,5 +1,8 @@
 -- The context in the object data of a custom reference (000, section 2.2.20) and its properties (section 2.2.20.1).
 use Rattle.std.specs.Prelude.{ℕ, suc, zero, ◌+◌, ◌-◌, Bool, cond, not, ◌&&◌, ◌||◌, List, [], ◌∷◌, ◌++◌, length, take, drop, eqb, ltb}
+use Rattle.std.specs.Prelude.{Result, Ok, Err}
+use Rattle.kinds.specs.Answers.{refusal_number}
+use Rattle.kinds.specs.declared.refusal.Refusal.{Refusal}
 use Rattle.kinds.specs.Refusals.{◌gives◌, passes, differ, order}
 use Rattle.kinds.specs.declared.Guid.{Guid}
 use Rattle.fields.specs.Fields.{field, encode, guid_at, guid_bytes}
@@ -123,6 +126,15 @@ head_answer s =
 
 unfoldable pub context_answer : List ℕ → ℕ
 context_answer s = order (passes (head_answer s) ∷ passes (properties_answer (field s 40 4) (drop 48 s)) ∷ [])
+
+-- a context or property that was found, or a refusal with zeros, as C takes it
+abbrev pub context_read : Result Context Refusal → ReadContext
+context_read (Ok x) = record { answer = 0; context = x }
+context_read (Err why) = record { answer = refusal_number why; context = no_context }
+
+abbrev pub property_read : Result Property Refusal → ReadProperty
+property_read (Ok x) = record { answer = 0; property = x }
+property_read (Err why) = record { answer = refusal_number why; property = no_property }
 
 unfoldable pub read_context : List ℕ → ReadContext
 read_context s =

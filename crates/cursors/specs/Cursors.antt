@@ -1,15 +1,23 @@
 -- Bindings, properties and extensions in one pass: where a walk begins, what one step of it meets, and that step k is number k.
 use Rattle.std.specs.Prelude.{ℕ, suc, zero, ◌+◌, ◌-◌, ◌/◌, ◌<◌, ◌≤◌, ◌≡◌, cond, List, [], ◌∷◌, length, eqb}
+use Rattle.std.specs.Prelude.{Result, Ok, Err}
+use Rattle.kinds.specs.Answers.{refusal_number}
 use Rattle.kinds.specs.Refusals.{◌gives◌, order}
+use Rattle.kinds.specs.declared.refusal.Refusal.{Refusal}
 use Rattle.fields.specs.Fields.{field, guid_at, rounded}
 use Rattle.bindings.specs.Bindings.{part_start, part_size, list_answer, binding_at, binding_from}
 use Rattle.bindings.specs.declared.Part.{Part}
 use Rattle.bindings.specs.declared.Place.{Place}
 use Rattle.contexts.specs.Contexts.{no_property, context_answer, property_place, read_property}
+use Rattle.contexts.specs.declared.Property.{Property}
 use Rattle.contexts.specs.declared.ReadProperty.{ReadProperty}
-use Rattle.extensions.specs.Extensions.{lacks, size_at, next_at, count_at, extents_start, extensions_answer, no_extension, extension_at, place_of}
+use Rattle.extensions.specs.Extensions.{lacks, size_at, next_at, count_at, extents_start, extensions_answer, no_extension, extension_of, extension_at, place_of}
+use Rattle.extensions.specs.declared.Found.{Found}
 use Rattle.headers.specs.Headers.{this_answer, this_extension}
 use Rattle.cursors.specs.declared.Cursor.{Cursor}
+use Rattle.cursors.specs.declared.Met.{Met}
+use Rattle.cursors.specs.declared.Walk.{Walk}
+use Rattle.cursors.specs.declared.extents.ExtensionWalk.{ExtensionWalk}
 use Rattle.cursors.specs.declared.extents.ExtensionCursor.{ExtensionCursor}
 use Rattle.cursors.specs.declared.extents.ExtensionStep.{ExtensionStep}
 use Rattle.cursors.specs.declared.parts.Step.{Step}
@@ -17,6 +25,11 @@ use Rattle.cursors.specs.declared.properties.PropertyStep.{PropertyStep}
 
 abbrev pub no_cursor : ℕ → Cursor
 no_cursor n = record { answer = n; at = 0; left = 0 }
+
+-- where a walk begins, or a refusal, as C takes it
+abbrev pub cursor_of : Result Walk Refusal → Cursor
+cursor_of (Ok x) = record { answer = 0; at = x.at; left = x.left }
+cursor_of (Err why) = no_cursor (refusal_number why)
 
 -- step k of a walk: its caller goes on where a step ended, as long as it was accepted
 unfoldable pub step_number : {C A : Type 0} → (C → A) → (A → ℕ) → (A → C) → C → ℕ → A
@@ -31,6 +44,11 @@ part_cursor s p = cond (eqb (list_answer s) 0) (record { answer = 0; at = part_s
 
 abbrev pub no_step : ℕ → Step
 no_step n = record { answer = n; from = 0; to = 0; left = 0 }
+
+-- a binding that was met, or a refusal, as C takes it
+abbrev pub step_of : Result Met Refusal → Step
+step_of (Ok x) = record { answer = 0; from = x.place.start; to = x.place.end; left = x.left }
+step_of (Err why) = no_step (refusal_number why)
 
 -- the binding at x, of n words, as a step: its words are not left
 abbrev pub step_to : Place → ℕ → Step
@@ -57,6 +75,11 @@ context_cursor s = cond (eqb (context_answer s) 0) (record { answer = 0; at = 48
 
 abbrev pub no_property_step : ℕ → PropertyStep
 no_property_step n = record { answer = n; property = no_property; from = 0; to = 0; left = 0 }
+
+-- a property that was met, or a refusal, as C takes it
+abbrev pub property_step_of : Result (Property × Met) Refusal → PropertyStep
+property_step_of (Ok x) = record { answer = 0; property = x.0; from = x.1.place.start; to = x.1.place.end; left = x.1.left }
+property_step_of (Err why) = no_property_step (refusal_number why)
 
 -- of the property that begins at the byte at, where n are left
 unfoldable pub property_step_answer : List ℕ → ℕ → ℕ → ℕ
@@ -99,6 +122,11 @@ PropertiesWalked =
 abbrev pub no_extension_cursor : ℕ → ExtensionCursor
 no_extension_cursor n = record { answer = n; pointer = 0; at = 0; left = 0 }
 
+-- where a walk begins, or a refusal, as C takes it
+abbrev pub extension_cursor_of : Result ExtensionWalk Refusal → ExtensionCursor
+extension_cursor_of (Ok x) = record { answer = 0; pointer = x.pointer; at = x.at; left = x.left }
+extension_cursor_of (Err why) = no_extension_cursor (refusal_number why)
+
 -- the first pointer number, the first extension, and how many there are: none under a null pointer; their refusals
 unfoldable pub extensions_cursor : List ℕ → ℕ → ExtensionCursor
 extensions_cursor s at =
@@ -128,6 +156,11 @@ extension_met s p at n =
       at = next_at s at;
       left = n - 1;
     }
+
+-- an extension that was met, or a refusal, as C takes it
+abbrev pub extension_step_of : Result (Found × ExtensionWalk) Refusal → ExtensionStep
+extension_step_of (Ok x) = record { extension = extension_of (Ok x.0); pointer = x.1.pointer; at = x.1.at; left = x.1.left }
+extension_step_of (Err why) = record { extension = no_extension (refusal_number why); pointer = 0; at = 0; left = 0 }
 
 unfoldable pub extension_step : List ℕ → ℕ → ℕ → ℕ → ExtensionStep
 extension_step s p at n =

@@ -1,3 +1,4 @@
+pub mod Entries
 pub mod Writes
 pub mod Forward
 pub mod Same

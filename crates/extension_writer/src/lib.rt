@@ -3,28 +3,24 @@
 #![tactic(auto)]
 
 ghost use Rattle.std.specs.Prelude.{◌≡◌, true, cond, [], ◌+◌, ◌*◌, ◌/◌, ◌≤◌, eqb, length};
+ghost use Rattle.kinds.specs.Answers.{answer_number};
 ghost use Rattle.fields.specs.Fields.{written, longest, rounded};
-ghost use Rattle.extensions.specs.Extensions.{pairs, extent_bytes, extents_bytes, pointers_bytes, pointed_bytes, array_bytes};
+ghost use Rattle.extensions.specs.Extensions.{pairs, extent_bytes, extents_bytes, pointers_bytes, pointed_bytes, array_bytes, reached};
 ghost use Rattle.extension_writer.specs.Writing.{described, given, sizes, entry_writable, words_writable, extents_length, array_length, takes, write_walk};
 
-use extensions::Walked;
-use kinds::answer;
+use kinds::Refusal;
 
 // Whether the sizes of the data are len in all.
 fn sizes_are(entries: &[u64], len: usize) -> bool
     ensures { result ≡ eqb (sizes entries.now 0 (length entries.now / 4)) len }
 {
-    let mut i = 0;
-    let mut left = entries.len() / 4;
     let mut rest = len as u64;
-    while 0 < left {
-        let size = entries[i + 3];
+    for entry in entries.chunks_exact(4) {
+        let size = entry[3];
         if rest < size {
             return false;
         }
         rest -= size;
-        i += 4;
-        left -= 1;
     }
     rest == 0
 }
@@ -45,14 +41,10 @@ fn entry_writable(pointer: u64, size: u64) -> bool
 fn words_writable(entries: &[u64]) -> bool
     ensures { result ≡ words_writable entries.now 0 (length entries.now / 4) }
 {
-    let mut i = 0;
-    let mut left = entries.len() / 4;
-    while 0 < left {
-        if !entry_writable(entries[i + 2], entries[i + 3]) {
+    for entry in entries.chunks_exact(4) {
+        if !entry_writable(entry[2], entry[3]) {
             return false;
         }
-        i += 4;
-        left -= 1;
     }
     true
 }
@@ -88,13 +80,9 @@ fn extents_length(entries: &[u64]) -> usize
     requires { (length entries.now / 4 ≤ 32) × (words_writable entries.now 0 (length entries.now / 4) ≡ true) }
     ensures { result ≡ extents_length entries.now 0 (length entries.now / 4) }
 {
-    let mut i = 0;
-    let mut left = entries.len() / 4;
     let mut total = 0;
-    while 0 < left {
-        total += 24 + fields::rounded(entries[i + 3] as u32) as usize;
-        i += 4;
-        left -= 1;
+    for entry in entries.chunks_exact(4) {
+        total += 24 + fields::rounded(entry[3] as u32) as usize;
     }
     total
 }
@@ -136,23 +124,13 @@ fn put_extents(buf: &mut [u8], at: usize, entries: &[u64], contents: &[u8])
         × (at + extents_length entries.now 0 (length entries.now / 4) ≤ length buf.old) }
     ensures { buf.new ≡ written buf.old at (extents_bytes (described entries.now contents.now 0 (length entries.now / 4))) }
 {
-    let mut i = 0;
-    let mut left = entries.len() / 4;
     let mut to = at;
     let mut from = 0;
-    while 0 < left {
-        let size = entries[i + 3] as usize;
-        put_extent(
-            buf,
-            to,
-            entries[i],
-            entries[i + 1],
-            &contents[from..from + size],
-        );
+    for entry in entries.chunks_exact(4) {
+        let size = entry[3] as usize;
+        put_extent(buf, to, entry[0], entry[1], &contents[from..from + size]);
         to += 24 + fields::rounded(size as u32) as usize;
         from += size;
-        i += 4;
-        left -= 1;
     }
 }
 
@@ -162,14 +140,10 @@ fn put_pointers(buf: &mut [u8], at: usize, entries: &[u64])
         × (at + 4 * (length entries.now / 4) ≤ length buf.old) }
     ensures { buf.new ≡ written buf.old at (pointers_bytes (described entries.now [] 0 (length entries.now / 4))) }
 {
-    let mut i = 0;
-    let mut left = entries.len() / 4;
     let mut to = at;
-    while 0 < left {
-        fields::write_u32(buf, to, entries[i + 2] as u32);
+    for entry in entries.chunks_exact(4) {
+        fields::write_u32(buf, to, entry[2] as u32);
         to += 4;
-        i += 4;
-        left -= 1;
     }
 }
 
@@ -210,7 +184,7 @@ fn put_array(buf: &mut [u8], at: usize, pointer: u32, array: u32, entries: &[u64
     put_pointed(buf, at + 16, entries, contents);
 }
 
-// Writes the header's pointer at at and what it points to: 0 and the header's length, or 14 or 15 with 0 and no change.
+// Writes the header's pointer at at and what it points to, and gives the header's length; or refuses by 14 or 15 with no change.
 pub fn write(
     buf: &mut [u8],
     at: usize,
@@ -218,26 +192,17 @@ pub fn write(
     array: u32,
     entries: &[u64],
     contents: &[u8],
-) -> Walked
-    ensures { (result ≡ write_walk pointer array entries.now contents.now at (length buf.old))
-        × (buf.new ≡ cond (eqb result.answer 0) (written buf.old at (array_bytes (given pointer array entries.now contents.now))) buf.old) }
+) -> Result<usize, Refusal>
+    ensures { (reached result ≡ write_walk pointer array entries.now contents.now at (length buf.old))
+        × (buf.new ≡ cond (eqb (answer_number result) 0) (written buf.old at (array_bytes (given pointer array entries.now contents.now))) buf.old) }
 {
     if !takes(pointer, array, entries, contents) {
-        return Walked {
-            answer: answer::LAYOUT,
-            to: 0,
-        };
+        return Err(Refusal::Layout);
     }
     let n = array_length(pointer, array, entries);
     if !fields::inside(buf.len(), at, n) {
-        return Walked {
-            answer: answer::NO_ROOM,
-            to: 0,
-        };
+        return Err(Refusal::NoRoom);
     }
     put_array(buf, at, pointer, array, entries, contents);
-    Walked {
-        answer: answer::DONE,
-        to: at + n,
-    }
+    Ok(at + n)
 }

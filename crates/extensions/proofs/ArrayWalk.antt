@@ -7,13 +7,17 @@ use native.Mathlib.Omega.{arith}
 use borrow.Author.Tests.{eq-eqb, ne_eqb, eqb-true, eqb-false, leb-true, ltb-true, ltb-false, le-ltb, not-false}
 use lib.Dec.{eqb, ltb, leb}
 use lib.ListN.{length, take, drop}
+use Rattle.std.specs.Prelude.{Result, Ok, Err}
+use Rattle.kinds.specs.Answers.{refusal_number, answer_number}
 use Rattle.kinds.specs.Refusals.{differ, order}
+use Rattle.kinds.specs.declared.refusal.Refusal.{Refusal}
+use Rattle.kinds.proofs.Answering.{refusal-some}
 use Rattle.kinds.proofs.Refusing.{true-false, by-test, differ-false, passed, passed_on, last_row}
 use Rattle.lists.proofs.Tests.{and_left, and_right}
 use Rattle.fields.specs.Fields.{field, all_zero, rounded}
 use Rattle.extensions.specs.Extensions.{pairs, padding_answer, pointers_answer, size_at, extent_answer, next_at, extents_answer, start_of}
 use Rattle.extensions.specs.Extensions.{count_at, array_at, extents_start, counted_answer, extensions_count, no_extension, pointed_answer, front_answer}
-use Rattle.extensions.specs.Extensions.{array_answer, extensions_answer, array_end, extensions_end, walked_to, walk, extension_from, extension_at}
+use Rattle.extensions.specs.Extensions.{array_answer, extensions_answer, array_end, extensions_end, walked_to, reached, walk, extension_from, extension_at}
 use Rattle.extensions.specs.declared.Extension.{Extension}
 use Rattle.extensions.specs.declared.Walked.{Walked}
 
@@ -22,8 +26,12 @@ both_true a b e = (and_left a b e, and_right a b e)
 
 -- ---- an answer and an end
 
-pub walked_stop : {r : ℕ} (n to : ℕ) → r ≡ n → (r ≡ 0 → ⊥) → ◌≡◌ {A = Walked} (record { answer = r; to = 0 }) (walked_to n to)
-walked_stop {r} n to e h = rw (← e, ne_eqb r 0 h)
+pub reached-answer : (r : Result ℕ Refusal) → (reached r).answer ≡ answer_number r
+reached-answer (Ok to) = refl
+reached-answer (Err why) = refl
+
+pub walked_stop : (why : Refusal) (n to : ℕ) → refusal_number why ≡ n → ◌≡◌ {A = Walked} (record { answer = refusal_number why; to = 0 }) (walked_to n to)
+walked_stop why n to e = rw (ne_eqb n 0 (refusal-some why e)) (λ u. record { answer = e u; to = 0 })
 
 pub walked-done : {r : ℕ} (n to : ℕ) → n ≡ 0 → r ≡ to → ◌≡◌ {A = Walked} (record { answer = 0; to = r }) (walked_to n to)
 walked-done {r} n to e h = rw (e, h)

@@ -2,6 +2,9 @@
 -- 3.2, for the rounding of counts and sizes). They begin with the header's pointer, its last field: byte 28 of ORPCTHIS, byte 4 of
 -- ORPCTHAT. Every item stands at a multiple of 4 from the header's start, so C706's alignment adds no bytes.
 use Rattle.std.specs.Prelude.{ℕ, suc, zero, ◌+◌, ◌-◌, ◌*◌, ◌/◌, Bool, cond, not, ◌&&◌, List, [], ◌∷◌, ◌++◌, length, take, drop, eqb, ltb, leb}
+use Rattle.std.specs.Prelude.{Result, Ok, Err}
+use Rattle.kinds.specs.Answers.{refusal_number}
+use Rattle.kinds.specs.declared.refusal.Refusal.{Refusal}
 use Rattle.kinds.specs.Refusals.{◌gives◌, passes, differ, order}
 use Rattle.kinds.specs.declared.Guid.{Guid}
 use Rattle.fields.specs.Fields.{field, encode, guid_at, guid_bytes, zeros, all_zero, rounded}
@@ -9,6 +12,7 @@ use Rattle.bindings.specs.declared.Place.{Place}
 use Rattle.extensions.specs.declared.Extensions.{Extensions}
 use Rattle.extensions.specs.declared.Walked.{Walked}
 use Rattle.extensions.specs.declared.Extension.{Extension}
+use Rattle.extensions.specs.declared.Found.{Found}
 
 -- a count of pointers, rounded up to a multiple of 2
 abbrev pub pairs : ℕ → ℕ
@@ -189,6 +193,11 @@ read_extensions s at =
 abbrev pub walked_to : ℕ → ℕ → Walked
 walked_to n to = cond (eqb n 0) (record { answer = 0; to = to }) (record { answer = n; to = 0 })
 
+-- where what was judged ends, or a refusal, as C takes it
+abbrev pub reached : Result ℕ Refusal → Walked
+reached (Ok to) = record { answer = 0; to = to }
+reached (Err why) = record { answer = refusal_number why; to = 0 }
+
 -- the answer, and the header's length
 unfoldable pub walk : List ℕ → ℕ → Walked
 walk s at = walked_to (extensions_answer s at) (extensions_end s at)
@@ -196,6 +205,11 @@ walk s at = walked_to (extensions_answer s at) (extensions_end s at)
 -- extension k: its refusals first, then 24; its pointer number, its id, and where its data stands, without padding
 abbrev pub no_extension : ℕ → Extension
 no_extension n = record { answer = n; pointer = 0; id = record { low = 0; high = 0 }; from = 0; to = 0 }
+
+-- an extension that was found, or a refusal, as C takes it
+abbrev pub extension_of : Result Found Refusal → Extension
+extension_of (Ok x) = record { answer = 0; pointer = x.pointer; id = x.id; from = x.place.start; to = x.place.end }
+extension_of (Err why) = no_extension (refusal_number why)
 
 unfoldable pub extension_from : List ℕ → ℕ → ℕ → ℕ → Extension
 extension_from s p at k =

@@ -1,15 +1,19 @@
 -- Laws of numbers as bytes, of fields, and of writing into a list; each holds for every width.
 use Prim.Native.Nat.{ℕ, suc, zero, ◌+◌, ◌-◌, ◌*◌, ◌/◌, ◌%◌, ◌^◌, ◌<◌, ◌≤◌}
 use mathlib.Core.Path.{◌≡◌, refl, sym, ap, ◌∙◌}
-use mathlib.Core.Bool.{Bool, true, false}
+use mathlib.Core.Bool.{Bool, true, false, ◌&&◌}
 use mathlib.Core.List.{List, [], ◌∷◌, ◌++◌, append_assoc}
 use native.Mathlib.Omega.{arith}
-use native.Mathlib.Numerals.{add-one}
 use native.Mathlib.Nat.{pow-suc, pow-zero, add-zero, zero-add, div-lt_iff_lt-mul, pow-le-pow_right}
 use borrow.Author.Tests.{le-leb, lt-leb, leb-true, leb-false, eq-eqb, ne_eqb, eqb-true}
 use lib.Dec.{eqb, leb}
 use lib.ListN.{length, get_or, take, drop, set, length-append, length-take, length-drop, length-set, take-append-drop}
 use lib.Seq.{drop-cons, drop-set-lt, take-suc-set, take_at, drop-drop, length-take-le, get_or-drop, append_snoc, drop-append-add, drop-append-le, take-append-le, take-take, take_all}
+use Rattle.std.specs.Int.{w16, w32, w64, from_le_bytes, to_le_bytes}
+use Rattle.std.specs.Prelude.{Option, Some, None, MatchOption}
+use lib.ListN.{drop_of_length-le}
+use borrow.Rule.Slice.PartMut.{put_mid, Post-is}
+use Rattle.std.specs.List.{list_all}
 use Rattle.kinds.proofs.Refusing.{by-test, same_test, true-false}
 use Rattle.kinds.specs.declared.Guid.{Guid}
 use Rattle.fields.specs.Fields.{bytes_number, encode, field, written, zeros, all_zero, guid_at, guid_bytes, Bytes, GuidFits}
@@ -48,20 +52,7 @@ power-positive w =
     let q : 0 ≤ w = omega arith in
     let p : 256 ^ 0 ≤ 256 ^ w = pow-le-pow_right (omega arith) q in omega (arith, pow-zero 256)
 
--- a number of less than 8 bytes leaves room for one more
-pub bound-word : (k n : ℕ) → n < 256 ^ k → k < 8 → n < 2 ^ 56
-bound-word k n h l =
-    let q : k ≤ 7 = omega arith in
-    let p : 256 ^ k ≤ 256 ^ 7 = pow-le-pow_right (omega arith) q in omega arith
-
 -- ---- reading
-
--- the test `w <= n - at`
-pub leb-sub : (n at w : ℕ) → at ≤ n → leb w (n - at) ≡ leb (at + w) n
-leb-sub n at w h =
-    same_test (leb w (n - at)) (leb (at + w) n)
-    (λ e. let l = leb-true w (n - at) e in le-leb (at + w) n (omega arith))
-    (λ e. let l = leb-true (at + w) n e in le-leb w (n - at) (omega arith))
 
 pub field_in : (s : List ℕ) (at w : ℕ) → at + w ≤ length s → field s at w ≡ bytes_number (take w (drop at s))
 unfolding field
@@ -79,41 +70,68 @@ field-front l rest at w h =
     let room : w ≤ length (drop at l) = rw length-drop (omega arith) in
     rw (field_in (l ++ rest) at w all, field_in l at w h, drop-append-le at l rest here, take-append-le w (drop at l) rest room)
 
--- one byte more below the w - i bytes that were read
-module _ (s : List ℕ) (at w i n : ℕ) (h : 0 < i) (l : i ≤ w) (room : at + w ≤ length s) where
-  pub read_more : n ≡ bytes_number (take (w - i) (drop (at + i) s)) → n * 256 + get_or s (at + (i - 1)) 0 ≡ bytes_number (take (w - (i - 1)) (drop (at + (i - 1)) s))
-  unfolding bytes_number
-  read_more e =
-      let p : at + (i - 1) < length s = omega arith in
-      let k : w - (i - 1) ≡ suc (w - i) = omega arith in
-      let q : suc (at + (i - 1)) ≡ at + i = omega arith in
-      rw (k, drop-cons s (at + (i - 1)) 0 p, q) (omega arith)
+-- ---- the library's bytes of a number, 2, 4 or 8
 
-  pub read-bound : n < 256 ^ (w - i) → get_or s (at + (i - 1)) 0 < 256 → n * 256 + get_or s (at + (i - 1)) 0 < 256 ^ (w - (i - 1))
-  read-bound b e =
-      let k : w - (i - 1) ≡ suc (w - i) = omega arith in
-      rw (k, pow-suc 256 (w - i)) (omega arith)
+number-next : (l : List ℕ) (k : ℕ) → bytes_number (drop k l) ≡ get_or l k 0 + 256 * bytes_number (drop (suc k) l)
+unfolding bytes_number
+number-next [] zero = refl
+number-next [] (suc k) = refl
+number-next (b ∷ l) zero = refl
+number-next (b ∷ l) (suc k) = number-next l k
 
--- the first byte of the w - i bytes from at + i, and the others
-module _ (s : List ℕ) (at w i : ℕ) (l : i < w) (room : at + w ≤ length s) where
-  first_byte : bytes_number (take (w - i) (drop (at + i) s)) ≡ get_or s (at + i) 0 + 256 * bytes_number (take (w - (i + 1)) (drop (at + (i + 1)) s))
-  unfolding bytes_number
-  first_byte =
-      let p : at + i < length s = omega arith in
-      let k : w - i ≡ suc (w - (i + 1)) = omega arith in
-      let q : suc (at + i) ≡ at + (i + 1) = omega arith in
-      rw (k, drop-cons s (at + i) 0 p, q) refl
+number_end : (l : List ℕ) (k : ℕ) → length l ≡ k → bytes_number (drop k l) ≡ 0
+unfolding bytes_number
+number_end l k h = rw (drop_of_length-le l {i = k} (omega arith)) refl
 
-  -- where it is zero, the number is zero exactly where that of the others is
-  pub zero-first : get_or s (at + i) 0 ≡ 0 → eqb (bytes_number (take (w - (i + 1)) (drop (at + (i + 1)) s))) 0 ≡ eqb (bytes_number (take (w - i) (drop (at + i) s))) 0
-  zero-first e =
-      let f = first_byte in
-      same_test (eqb (bytes_number (take (w - (i + 1)) (drop (at + (i + 1)) s))) 0) (eqb (bytes_number (take (w - i) (drop (at + i) s))) 0)
-      (λ t. let z = eqb-true (bytes_number (take (w - (i + 1)) (drop (at + (i + 1)) s))) 0 t in eq-eqb (bytes_number (take (w - i) (drop (at + i) s))) 0 (omega arith))
-      (λ t. let z = eqb-true (bytes_number (take (w - i) (drop (at + i) s))) 0 t in eq-eqb (bytes_number (take (w - (i + 1)) (drop (at + (i + 1)) s))) 0 (omega arith))
+pub number_2 : (l : List ℕ) → length l ≡ 2 → from_le_bytes w16 l ≡ bytes_number l
+number_2 l h = omega (arith, number-next l 0, number-next l 1, number_end l 2 h)
 
-  pub nonzero-first : (get_or s (at + i) 0 ≡ 0 → ⊥) → eqb (bytes_number (take (w - i) (drop (at + i) s))) 0 ≡ false
-  nonzero-first e = let f = first_byte in ne_eqb (bytes_number (take (w - i) (drop (at + i) s))) 0 (λ (z : bytes_number (take (w - i) (drop (at + i) s)) ≡ 0). e (omega arith))
+pub number_4 : (l : List ℕ) → length l ≡ 4 → from_le_bytes w32 l ≡ bytes_number l
+number_4 l h = omega (arith, number-next l 0, number-next l 1, number-next l 2, number-next l 3, number_end l 4 h)
+
+pub number_8 : (l : List ℕ) → length l ≡ 8 → from_le_bytes w64 l ≡ bytes_number l
+number_8 l h =
+    omega (arith, number-next l 0, number-next l 1, number-next l 2, number-next l 3, number-next l 4, number-next l 5, number-next l 6, number-next l 7, number_end l 8 h)
+
+pub le-bytes_2 : (n : ℕ) → to_le_bytes w16 n ≡ encode 2 n
+unfolding encode
+le-bytes_2 n = refl
+
+pub le-bytes_4 : (n : ℕ) → to_le_bytes w32 n ≡ encode 4 n
+unfolding encode
+le-bytes_4 n =
+    let e2 : n / 65536 ≡ n / 256 / 256 = omega arith in
+    let e3 : n / 16777216 ≡ n / 256 / 256 / 256 = omega arith in
+    rw (e2, e3) refl
+
+pub le-bytes_8 : (n : ℕ) → to_le_bytes w64 n ≡ encode 8 n
+unfolding encode
+le-bytes_8 n =
+    let e2 : n / 65536 ≡ n / 256 / 256 = omega arith in
+    let e3 : n / 16777216 ≡ n / 256 / 256 / 256 = omega arith in
+    let e4 : n / 4294967296 ≡ n / 256 / 256 / 256 / 256 = omega arith in
+    let e5 : n / 1099511627776 ≡ n / 256 / 256 / 256 / 256 / 256 = omega arith in
+    let e6 : n / 281474976710656 ≡ n / 256 / 256 / 256 / 256 / 256 / 256 = omega arith in
+    let e7 : n / 72057594037927936 ≡ n / 256 / 256 / 256 / 256 / 256 / 256 / 256 = omega arith in
+    rw (e2, e3, e4, e5, e6, e7) refl
+
+-- two bytes that are there
+pub word-field : (s : List ℕ) (at : ℕ) → at + 2 ≤ length s → get_or s at 0 + get_or s (at + 1) 0 * 256 ≡ field s at 2
+unfolding bytes_number
+word-field s at h =
+    let second : at + 1 ≡ suc at = omega arith in
+    let p : at < length s = omega arith in
+    let q : suc at < length s = omega arith in
+    rw (field_in s at 2 h, second, drop-cons s at 0 p, drop-cons s (suc at) 0 q) (omega arith)
+
+-- the bytes of a field where they are all there, decoded, and else 0
+pub read-field : (o : Option (List ℕ)) (decode : List ℕ → ℕ) (s : List ℕ) (at w r : ℕ) → ((l : List ℕ) → length l ≡ w → decode l ≡ bytes_number l)
+    → MatchOption o (length s < at + w) (λ l. (at + w ≤ length s) × (l ≡ take w (drop at s)))
+    → MatchOption o (r ≡ 0) (λ l. r ≡ decode l) → r ≡ field s at w
+read-field None decode s at w r d out e = e ∙ sym (field_out s at w out)
+read-field (Some l) decode s at w r d (room, is) e =
+    let size : length l ≡ w = rw is (length-take-le w (drop at s) (rw length-drop (omega arith))) in
+    e ∙ d l size ∙ (rw is (sym (field_in s at w room)))
 
 -- ---- zeros
 
@@ -144,9 +162,20 @@ zero-zeros [] e = refl
 zero-zeros (zero ∷ l) e = ap (λ (x : List ℕ). 0 ∷ x) (zero-zeros l e)
 zero-zeros (suc b ∷ l) e = absurd (true-false (sym (rw (ne_eqb (suc b) 0 (λ z. omega arith)) at e)))
 
+pub list_all-zero : (l : List ℕ) → list_all (λ b. eqb b 0) l ≡ all_zero l
+unfolding all_zero
+list_all-zero [] = refl
+list_all-zero (b ∷ l) = ap (λ t. eqb b 0 && t) (list_all-zero l)
+
 -- as `is_zero` asks it of bytes that are there
 pub zero_field : (s : List ℕ) (at w : ℕ) → at + w ≤ length s → eqb (field s at w) 0 ≡ all_zero (take w (drop at s))
 zero_field s at w l = rw (field_in s at w l) (zero_number (take w (drop at s)))
+
+-- the test of the part `&s[at..at + w]`
+pub zero_part : (s : List ℕ) (at w : ℕ) → at + w ≤ length s → list_all (λ b. eqb b 0) (take (at + w - at) (drop at s)) ≡ eqb (field s at w) 0
+zero_part s at w l =
+    let n : at + w - at ≡ w = omega arith in
+    rw n (list_all-zero (take w (drop at s)) ∙ sym (zero_field s at w l))
 
 pub drop-bytes : (s : List ℕ) (at : ℕ) → Bytes s → Bytes (drop at s)
 drop-bytes s at h i = rw (get_or-drop at s i 0) (h (at + i))
@@ -254,6 +283,11 @@ pub written_out : (s : List ℕ) (at : ℕ) (b : List ℕ) → length s < at + l
 unfolding written
 written_out s at b h = rw (lt-leb _ _ h)
 
+-- the part of a slice from at on, which got the bytes b
+pub written-part : (s b ys : List ℕ) (at n : ℕ) → length b ≡ n → at + n ≤ length s → ys ≡ b → put_mid at (at + n - at) s ys ≡ written s at b
+written-part s b ys at n e h same =
+    rw (same, Post-is at (at + n) s (omega arith), written_in_lem s at b (rw e h), e) refl
+
 -- bytes at the front of a buffer that has room for them
 pub written-front : (b x : List ℕ) → length x ≤ length b → written b 0 x ≡ x ++ drop (length x) b
 written-front b x h = written_in_lem b 0 x (rw zero-add h) ∙ (rw zero-add)
@@ -273,15 +307,6 @@ module _ (s : List ℕ) (at i : ℕ) where
       drop-set-lt (at + i + suc (length bs)) s (at + i) b (omega arith) in
       rw (o, written_in_lem (set s (at + i) b) (suc (at + i)) bs room, written_in_lem s (at + i) (b ∷ bs) h, e, d, take-suc-set s (at + i) b (omega arith))
       (append_snoc (take (at + i) s) b (bs ++ drop (at + i + suc (length bs)) s))
-
-  pub written_byte : (w n : ℕ) → i < w → at + w ≤ length s → written (set s (at + i) (n % 256)) (at + (i + 1)) (encode (w - (i + 1)) (n / 256)) ≡ written s (at + i) (encode (w - i) n)
-  unfolding encode
-  written_byte w n l h =
-      let e : w - i ≡ suc (w - (i + 1)) = omega arith in
-      rw e (written-more (n % 256) (encode (w - (i + 1)) (n / 256)) (rw (length-encode (w - (i + 1)) (n / 256)) (omega arith)))
-
-  pub written-copy : (src : List ℕ) → i < length src → at + length src ≤ length s → written (set s (at + i) (get_or src i 0)) (at + (i + 1)) (drop (i + 1) src) ≡ written s (at + i) (drop i src)
-  written-copy src l h = written-more (get_or src i 0) (drop (i + 1) src) (rw length-drop (omega arith)) ∙ rw (drop-cons src i 0 l, add-one i)
 
 pub length-written : (s : List ℕ) (at : ℕ) (b : List ℕ) → length (written s at b) ≡ length s
 unfolding written

@@ -1,5 +1,9 @@
 -- References that come in over several packets (document 02, request 8): standard, handler and custom.
 use Rattle.std.specs.Prelude.{ℕ, ◌+◌, ◌-◌, ◌*◌, min, ◌≡◌, Bool, false, cond, not, ◌&&◌, ◌||◌, List, [], ◌∷◌, length, take, drop, set, replicate, eqb, ltb, leb}
+use Rattle.std.specs.Prelude.{Result, Ok, Err}
+use Rattle.kinds.specs.Answers.{refusal_number}
+use Rattle.kinds.specs.declared.refusal.Refusal.{Refusal}
+use Rattle.fragments.specs.declared.Whole.{Whole}
 use Rattle.kinds.specs.Refusals.{◌gives◌, passes, differ, order}
 use Rattle.fields.specs.Fields.{field, guid_at, stored, Bytes}
 use Rattle.bindings.specs.Bindings.{joined}
@@ -122,6 +126,11 @@ end_answer f w n =
     ∷ is_nil_reference (reference_at f.head) gives 22
     ∷ (f.over || ltb (min w n) f.kept) gives 15
     ∷ [])
+
+-- a reference that came whole, or a refusal with zeros, as C takes it
+abbrev pub ended : Result Whole Refusal → Finished
+ended (Ok x) = record { answer = 0; reference = x.reference; length = x.length }
+ended (Err why) = record { answer = refusal_number why; reference = no_reference; length = 0 }
 
 unfoldable pub finished : Reading → ℕ → Finished
 finished r n = finished_by (end_answer r.state (length r.waiting) n) (reference_at r.state.head) r.state.kept

@@ -2,13 +2,14 @@
 #![tactic(auto)]
 
 ghost use Rattle.std.specs.Prelude.{◌≡◌, true, false, cond, not, ◌&&◌, ◌||◌, ℕ, ◌+◌, ◌*◌, ◌-◌, ◌/◌, ◌<◌, ◌≤◌, min, ltb, leb, length, set};
+ghost use Rattle.kinds.specs.Answers.{answer_number};
 ghost use Rattle.fields.specs.Fields.{field};
 ghost use Rattle.references.specs.References.{is_custom, fixed_size};
 ghost use Rattle.list_walk.specs.Walk.{next_mode, both_closed};
 ghost use Rattle.fragments.specs.Rest.{seen_after, low_after, kept_after, over_after, waiting_after, walk_after, quiet_end, Quiet, quiet_after};
-ghost use Rattle.fragments.specs.Fragments.{is_plain, is_nil_reference, none, form_of, in_tail, step_head, step, pushed, list_end, read_end, end_answer, finished, final_after};
+ghost use Rattle.fragments.specs.Fragments.{is_plain, is_nil_reference, none, form_of, in_tail, step_head, step, pushed, list_end, read_end, end_answer, ended, finished, final_after};
 
-use kinds::answer;
+use kinds::Refusal;
 use references::Reference;
 
 // What is kept between fragments.
@@ -29,13 +30,39 @@ pub struct Fragments {
     pub over: bool,
 }
 
-// A reference that was read and the length of its list or object data, or the number of a refusal with zeros.
+// A reference that was read, and the length of its list or object data.
+#[derive(Clone, Copy)]
+pub struct Whole {
+    pub reference: Reference,
+    pub length: usize,
+}
+
+// The same, or the number of a refusal with zeros, as C takes it.
 #[repr(C)]
 #[derive(Clone, Copy)]
 pub struct Finished {
     pub answer: u32,
     pub reference: Reference,
     pub length: usize,
+}
+
+impl From<Result<Whole, Refusal>> for Finished {
+    ghost from_gives = { λ found given. given ≡ ended found };
+
+    fn from(found: Result<Whole, Refusal>) -> Finished {
+        match found {
+            Ok(whole) => Finished {
+                answer: 0,
+                reference: whole.reference,
+                length: whole.length,
+            },
+            Err(why) => Finished {
+                answer: u32::from(why),
+                reference: Reference::zero(),
+                length: 0,
+            },
+        }
+    }
 }
 
 // Whether the flags name a form that is read here.
@@ -66,10 +93,7 @@ fn form_of(head: &[u8], seen: u32) -> u32
 fn in_tail(form: u32, seen: u32) -> bool
     ensures { result ≡ in_tail form seen }
 {
-    if form == 0 {
-        return false;
-    }
-    references::fixed_size(form) <= seen as usize
+    form != 0 && references::fixed_size(form) <= seen as usize
 }
 
 fn next_head(head: [u8; 84], seen: u32, b: u8) -> [u8; 84]
@@ -85,32 +109,21 @@ fn next_head(head: [u8; 84], seen: u32, b: u8) -> [u8; 84]
 fn next_kept(inside: bool, kept: usize, n: usize) -> usize
     ensures { result ≡ cond (inside && ltb kept n) (kept + 1) kept }
 {
-    if !inside {
-        return kept;
-    }
-    if kept < n { kept + 1 } else { kept }
+    if inside && kept < n { kept + 1 } else { kept }
 }
 
 fn next_over(over: bool, inside: bool, kept: usize, n: usize) -> bool
     ensures { result ≡ (over || (inside && leb n kept)) }
 {
-    if over {
-        return true;
-    }
-    if inside {
-        return n <= kept;
-    }
-    false
+    over || (inside && n <= kept)
 }
 
 // Stores a byte of the list or the object data where there is room.
 fn keep(waiting: &mut [u8], inside: bool, kept: usize, b: u8)
     ensures { waiting.new ≡ cond (inside && ltb kept (length waiting.old)) (set waiting.old kept b) waiting.old }
 {
-    if inside {
-        if kept < waiting.len() {
-            waiting[kept] = b;
-        }
+    if inside && kept < waiting.len() {
+        waiting[kept] = b;
     }
 }
 
@@ -158,19 +171,17 @@ impl Fragments {
         ensures { (result ≡ (step (record { state = self; waiting = waiting.old }) b).state)
             × (waiting.new ≡ (step (record { state = self; waiting = waiting.old }) b).waiting) }
     {
-        let head = self.head;
-        let form = form_of(&head, self.seen);
-        let mode = walked(&head, form, self.seen, self.low, self.mode, b);
+        let form = form_of(&self.head, self.seen);
+        let mode = walked(&self.head, form, self.seen, self.low, self.mode, b);
         let inside = in_tail(form, self.seen);
         let n = waiting.len();
         keep(waiting, inside, self.kept, b);
-        let next = next_head(head, self.seen, b);
         Fragments {
-            head: next,
+            head: next_head(self.head, self.seen, b),
             kept: next_kept(inside, self.kept, n),
             seen: list_walk::next_seen(self.seen),
             low: b,
-            mode: mode,
+            mode,
             over: next_over(self.over, inside, self.kept, n),
         }
     }
@@ -181,10 +192,8 @@ impl Fragments {
             × (waiting.new ≡ (pushed (record { state = self; waiting = waiting.old }) fragment.now).waiting) }
     {
         let mut state = self;
-        let mut i = 0;
-        while i < fragment.len() {
-            state = state.step(waiting, fragment[i]);
-            i += 1;
+        for b in fragment {
+            state = state.step(waiting, *b);
         }
         state
     }
@@ -208,38 +217,26 @@ fn seen_after(seen: u32, m: usize) -> u32
 fn low_after(low: u8, bytes: &[u8]) -> u8
     ensures { result ≡ low_after low bytes.now }
 {
-    let n = bytes.len();
-    if n == 0 {
-        return low;
+    match bytes.last() {
+        Some(b) => *b,
+        None => low,
     }
-    bytes[n - 1]
 }
 
 fn kept_after(inside: bool, kept: usize, size: usize, m: usize) -> usize
     ensures { result ≡ kept_after inside kept size m }
 {
-    if !inside {
-        return kept;
+    if inside {
+        kept + m.min(size.saturating_sub(kept))
+    } else {
+        kept
     }
-    if size <= kept {
-        return kept;
-    }
-    if m < size - kept { kept + m } else { size }
 }
 
 fn over_after(over: bool, inside: bool, kept: usize, size: usize, m: usize) -> bool
     ensures { result ≡ over_after over inside kept size m }
 {
-    if over {
-        return true;
-    }
-    if !inside {
-        return false;
-    }
-    if size <= kept {
-        return 0 < m;
-    }
-    size - kept < m
+    over || (inside && size.saturating_sub(kept) < m)
 }
 
 // Stores bytes of the list or the object data as far as there is room.
@@ -314,7 +311,7 @@ impl Fragments {
         let mut head = self.head;
         fields::copy(&mut head, self.seen as usize, bytes);
         Fragments {
-            head: head,
+            head,
             kept: self.kept,
             seen: self.seen + bytes.len() as u32,
             low: low_after(self.low, bytes),
@@ -329,19 +326,18 @@ impl Fragments {
         ensures { (result ≡ (pushed (record { state = self; waiting = waiting.old }) bytes.now).state)
             × (waiting.new ≡ (pushed (record { state = self; waiting = waiting.old }) bytes.now).waiting) }
     {
-        let head = self.head;
-        let form = form_of(&head, self.seen);
-        let mode = walk_after(&head, form, self.seen, self.low, self.mode, bytes);
+        let form = form_of(&self.head, self.seen);
+        let mode = walk_after(&self.head, form, self.seen, self.low, self.mode, bytes);
         let inside = form != 0;
         let n = waiting.len();
         keep_all(waiting, inside, self.kept, bytes);
         let m = bytes.len();
         Fragments {
-            head: head,
+            head: self.head,
             kept: kept_after(inside, self.kept, n, m),
             seen: seen_after(self.seen, m),
             low: low_after(self.low, bytes),
-            mode: mode,
+            mode,
             over: over_after(self.over, inside, self.kept, n, m),
         }
     }
@@ -374,14 +370,11 @@ impl Fragments {
     {
         let mut state = self;
         let mut at = 0;
-        let mut round: usize = 0;
-        while round < 2 {
-            let head = state.head;
-            let m = quiet(&head, state.seen, bytes.len() - at);
+        for _ in 0..2 {
+            let m = quiet(&state.head, state.seen, bytes.len() - at);
             let end = at + m;
             state = state.push_quiet(&bytes[at..end]);
             at = end;
-            round += 1;
         }
         state.push_tail(waiting, &bytes[at..])
     }
@@ -414,24 +407,24 @@ fn both_closed(n: u32, v: u32, mode: u8) -> bool
 }
 
 // The refusals of a list of which t bytes came.
-fn list_end(head: &[u8], start: usize, t: u32, mode: u8) -> u32
+fn list_end(head: &[u8], start: usize, t: u32, mode: u8) -> Result<(), Refusal>
     requires { start ≤ 80 }
-    ensures { result ≡ list_end head.now start t mode }
+    ensures { answer_number result ≡ list_end head.now start t mode }
 {
     if t < 4 {
-        return answer::SHORT;
+        return Err(Refusal::Short);
     }
     let n = fields::read_u16(head, start) as u32;
     if t < 4 + 2 * n {
-        return answer::SHORT;
+        return Err(Refusal::Short);
     }
     if !both_closed(n, fields::read_u16(head, start + 2) as u32, mode) {
-        return answer::LAYOUT;
+        return Err(Refusal::Layout);
     }
     if 4 + 2 * n < t {
-        return answer::LAYOUT;
+        return Err(Refusal::Layout);
     }
-    answer::DONE
+    Ok(())
 }
 
 // Whether a standard or handler reference has an OXID, OID or IPID of zero.
@@ -441,38 +434,37 @@ fn is_nil(r: Reference) -> bool
     if r.flags == Reference::CUSTOM {
         return false;
     }
-    let block = r.block;
-    block.has_nil()
+    r.block.has_nil()
 }
 
 // Of the list or the object data, once its beginning has come.
-fn tail_end(head: &[u8], f: u32, seen: u32, mode: u8) -> u32
+fn tail_end(head: &[u8], f: u32, seen: u32, mode: u8) -> Result<(), Refusal>
     requires { fixed_size f ≤ seen }
-    ensures { result ≡ cond (is_custom f) 0 (list_end head.now (fixed_size f) (seen - fixed_size f) mode) }
+    ensures { answer_number result ≡ cond (is_custom f) 0 (list_end head.now (fixed_size f) (seen - fixed_size f) mode) }
 {
     if f == Reference::CUSTOM {
-        return answer::DONE;
+        return Ok(());
     }
     let start = references::fixed_size(f);
     list_end(head, start, seen - start as u32, mode)
 }
 
 // The reference's own refusals.
-fn read_end(head: &[u8], seen: u32, mode: u8) -> u32
-    ensures { result ≡ read_end head.now seen mode }
+fn read_end(head: &[u8], seen: u32, mode: u8) -> Result<(), Refusal>
+    ensures { answer_number result ≡ read_end head.now seen mode }
 {
     if seen < 24 {
-        return answer::SHORT;
+        return Err(Refusal::Short);
     }
     if fields::read_u32(head, 0) != Reference::SIGNATURE {
-        return answer::LAYOUT;
+        return Err(Refusal::Layout);
     }
     let f = fields::read_u32(head, 4);
     if !is_plain(f) {
-        return answer::LAYOUT;
+        return Err(Refusal::Layout);
     }
     if (seen as usize) < references::fixed_size(f) {
-        return answer::SHORT;
+        return Err(Refusal::Short);
     }
     tail_end(head, f, seen, mode)
 }
@@ -492,44 +484,30 @@ fn fits(over: bool, kept: usize, w: usize, n: usize) -> bool
 
 impl Fragments {
     // The answer once the end is declared, for a waiting buffer of w bytes and a final one of n.
-    fn end_answer(self, w: usize, n: usize) -> u32
-        ensures { result ≡ end_answer self w n }
+    fn end_answer(self, w: usize, n: usize) -> Result<(), Refusal>
+        ensures { answer_number result ≡ end_answer self w n }
     {
-        let head = self.head;
-        let number = read_end(&head, self.seen, self.mode);
-        if number != answer::DONE {
-            return number;
-        }
-        if is_nil(Reference::fields(&head)) {
-            return answer::NIL_IDENTIFIER;
+        read_end(&self.head, self.seen, self.mode)?;
+        if is_nil(Reference::fields(&self.head)) {
+            return Err(Refusal::NilIdentifier);
         }
         if fits(self.over, self.kept, w, n) {
-            answer::DONE
+            Ok(())
         } else {
-            answer::NO_ROOM
+            Err(Refusal::NoRoom)
         }
     }
 
     // Declares the end: the fields, and the list or object data at the front of last, the rest kept; or a refusal.
-    pub fn finish(self, waiting: &[u8], last: &mut [u8]) -> Finished
-        ensures { (result ≡ finished (record { state = self; waiting = waiting.now }) (length last.old))
+    pub fn finish(self, waiting: &[u8], last: &mut [u8]) -> Result<Whole, Refusal>
+        ensures { (ended result ≡ finished (record { state = self; waiting = waiting.now }) (length last.old))
             × (last.new ≡ final_after (record { state = self; waiting = waiting.now }) last.old) }
     {
-        let number = self.end_answer(waiting.len(), last.len());
-        if number != answer::DONE {
-            return Finished {
-                answer: number,
-                reference: Reference::zero(),
-                length: 0,
-            };
-        }
-        let kept = self.kept;
-        let head = self.head;
-        fields::copy(last, 0, &waiting[0..kept]);
-        Finished {
-            answer: answer::DONE,
-            reference: Reference::fields(&head),
-            length: kept,
-        }
+        self.end_answer(waiting.len(), last.len())?;
+        fields::copy(last, 0, &waiting[..self.kept]);
+        Ok(Whole {
+            reference: Reference::fields(&self.head),
+            length: self.kept,
+        })
     }
 }

@@ -4,7 +4,7 @@ use mathlib.Core.Path.{◌≡◌, refl, sym, ap, ◌∙◌}
 use mathlib.Core.Bool.{true, not, ◌&&◌}
 use mathlib.Core.List.{List, [], ◌∷◌, ◌++◌, append_assoc, append-nil}
 use native.Mathlib.Omega.{arith}
-use borrow.Author.Tests.{ne_eqb, le-ltb, ltb-false, not-false}
+use borrow.Author.Tests.{le-ltb, ltb-false, not-false}
 use lib.Dec.{eqb, ltb}
 use lib.ListN.{length, take, drop, length-append}
 use lib.Seq.{length-take-le, drop-append_seam}
@@ -57,6 +57,10 @@ pub this-end : (s : List ℕ) (r : Walked) → r ≡ this_walk s → this_answer
 unfolding this_walk
 this-end s r e z = ap (λ (x : Walked). x.to) e ∙ walked_to_lem _ _ z
 
+pub that-number : (s : List ℕ) (r : Walked) → r ≡ walk s 4 → r.answer ≡ extensions_answer s 4
+unfolding walk
+that-number s r e = ap (λ (x : Walked). x.answer) e ∙ walked-answer _ _
+
 pub that-end : (s : List ℕ) (r : Walked) → r ≡ walk s 4 → extensions_answer s 4 ≡ 0 → r.to ≡ extensions_end s 4
 unfolding walk
 that-end s r e z = ap (λ (x : Walked). x.to) e ∙ walked_to_lem _ _ z
@@ -78,13 +82,6 @@ module _ (header pointer : ℕ) (ws d : List ℕ) (at n : ℕ) where
   module _ (r : Walked) (e : r ≡ write_walk header pointer ws d at n) where
     pub number : r.answer ≡ write_answer header pointer ws d at n
     number = ap (λ (x : Walked). x.answer) e ∙ write-answer
-
-    pub refused-walk : (r.answer ≡ 0 → ⊥) → ◌≡◌ {A = Walked} (record { answer = r.answer; to = 0 }) (write_walk header pointer ws d at n)
-    unfolding write_walk
-    refused-walk z = rw (ne_eqb (write_answer header pointer ws d at n) 0 (λ y. z (number ∙ y)), number)
-
-    pub done-walk : r.answer ≡ 0 → ◌≡◌ {A = Walked} (record { answer = 0; to = r.to }) (write_walk header pointer ws d at n)
-    done-walk z = (λ i. record { answer = sym z i; to = r.to }) ∙ e
 
     pub room : r.answer ≡ 0 → at + length (array_bytes (given header pointer ws d)) ≤ n
     room z = (able header pointer ws d at n (sym number ∙ z)).1

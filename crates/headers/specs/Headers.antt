@@ -1,11 +1,14 @@
 -- The call headers ORPCTHIS and ORPCTHAT with their extensions (document 01, "Call headers"; document 02, request 14; 000, section 2.2.13).
-use Rattle.std.specs.Prelude.{ℕ, ◌+◌, cond, ◌||◌, List, [], ◌∷◌, ◌++◌, length, eqb, ltb}
+use Rattle.std.specs.Prelude.{ℕ, ◌+◌, cond, ◌||◌, List, [], ◌∷◌, ◌++◌, length, eqb, ltb, Result, Ok, Err}
+use Rattle.kinds.specs.Answers.{refusal_number}
+use Rattle.kinds.specs.declared.refusal.Refusal.{Refusal}
 use Rattle.kinds.specs.Refusals.{◌gives◌, passes, differ, order}
 use Rattle.fields.specs.Fields.{field, encode, guid_at, guid_bytes}
 use Rattle.extensions.specs.Extensions.{Array, array_bytes, extensions_answer, extensions_end, read_extensions, extension_at, no_extension, walked_to}
 use Rattle.extension_writer.specs.Writing.{write_answer, write_walk, given}
 use Rattle.extensions.specs.declared.Extension.{Extension}
 use Rattle.extensions.specs.declared.Walked.{Walked}
+use Rattle.headers.specs.declared.Whole.{Whole}
 use Rattle.headers.specs.declared.OrpcThis.{OrpcThis}
 use Rattle.headers.specs.declared.ReadThis.{ReadThis}
 use Rattle.headers.specs.declared.OrpcThat.{OrpcThat}
@@ -55,6 +58,11 @@ no_this n =
       length = 0;
     }
 
+-- a header that was read, or a refusal, as C takes it
+abbrev pub this_read : Result (Whole OrpcThis) Refusal → ReadThis
+this_read (Ok x) = record { answer = 0; header = x.header; extensions = x.extensions; length = x.length }
+this_read (Err why) = no_this (refusal_number why)
+
 unfoldable pub read_this : List ℕ → ReadThis
 read_this s =
     cond (eqb (this_answer s) 0)
@@ -87,6 +95,10 @@ that_at s = record { flags = field s 0 4 }
 
 abbrev pub no_that : ℕ → ReadThat
 no_that n = record { answer = n; header = record { flags = 0 }; extensions = record { pointer = 0; array = 0; count = 0 }; length = 0 }
+
+abbrev pub that_read : Result (Whole OrpcThat) Refusal → ReadThat
+that_read (Ok x) = record { answer = 0; header = x.header; extensions = x.extensions; length = x.length }
+that_read (Err why) = no_that (refusal_number why)
 
 unfoldable pub read_that : List ℕ → ReadThat
 read_that s =

@@ -2,14 +2,24 @@
 #![tactic(auto)]
 
 ghost use Rattle.std.specs.Prelude.{◌≡◌, [], ◌≤◌, length};
+ghost use Rattle.kinds.specs.Answers.{answer_number};
 ghost use Rattle.fields.specs.Fields.{stored, written};
 ghost use Rattle.bindings.specs.Bindings.{PartOf};
-ghost use Rattle.extensions.specs.Extensions.{place_of};
+ghost use Rattle.extensions.specs.Extensions.{place_of, reached, extension_of};
 ghost use Rattle.extension_writer.specs.Writing.{given};
 ghost use Rattle.headers.specs.Headers.{this_walk, read_this, this_extension, this_front, this_bytes, this_written, this_writing, read_that, that_extension, that_bytes, that_writing, none};
+ghost use Rattle.headers.specs.Headers.{this_read, that_read};
 
-use extensions::{Extension, Extensions, Walked};
-use kinds::{Guid, answer};
+use extensions::{Extensions, Found};
+use kinds::{Guid, Refusal};
+
+// A header that was read, what it says of its extensions, and its length.
+#[derive(Clone, Copy)]
+pub struct Whole<H: Copy> {
+    pub header: H,
+    pub extensions: Extensions,
+    pub length: usize,
+}
 
 // The header of a call. Its major version is MAJOR.
 #[repr(C)]
@@ -20,7 +30,7 @@ pub struct OrpcThis {
     pub causality: Guid,
 }
 
-// A header that was read, what it says of its extensions, and its length; or the number of a refusal with zeros.
+// The same of one that was read, or the number of a refusal with zeros, as C takes it.
 #[repr(C)]
 #[derive(Clone, Copy)]
 pub struct ReadThis {
@@ -28,6 +38,35 @@ pub struct ReadThis {
     pub header: OrpcThis,
     pub extensions: Extensions,
     pub length: usize,
+}
+
+impl From<Result<Whole<OrpcThis>, Refusal>> for ReadThis {
+    ghost from_gives = { λ read given. given ≡ this_read read };
+
+    fn from(read: Result<Whole<OrpcThis>, Refusal>) -> ReadThis {
+        match read {
+            Ok(x) => ReadThis {
+                answer: 0,
+                header: x.header,
+                extensions: x.extensions,
+                length: x.length,
+            },
+            Err(why) => ReadThis {
+                answer: u32::from(why),
+                header: OrpcThis {
+                    minor: 0,
+                    flags: 0,
+                    causality: Guid::NIL,
+                },
+                extensions: Extensions {
+                    pointer: 0,
+                    array: 0,
+                    count: 0,
+                },
+                length: 0,
+            },
+        }
+    }
 }
 
 impl OrpcThis {
@@ -43,83 +82,57 @@ impl OrpcThis {
         ensures { result ≡ record { minor = minor; flags = flags; causality = causality } }
     {
         OrpcThis {
-            minor: minor,
-            flags: flags,
-            causality: causality,
+            minor,
+            flags,
+            causality,
         }
     }
 
-    // Whether s begins with a header, and its length: 0, or 13 short, 16 version not understood, 14 a broken array.
-    pub fn judge(s: &[u8]) -> Walked
-        ensures { result ≡ this_walk s.now }
+    // The length of the header at the front of s: 13 short, 16 version not understood, 14 a broken array.
+    pub fn judge(s: &[u8]) -> Result<usize, Refusal>
+        ensures { reached result ≡ this_walk s.now }
     {
         if s.len() < OrpcThis::SIZE {
-            return Walked {
-                answer: answer::SHORT,
-                to: 0,
-            };
+            return Err(Refusal::Short);
         }
         if fields::read_u16(s, 0) != OrpcThis::MAJOR {
-            return Walked {
-                answer: answer::VERSION,
-                to: 0,
-            };
+            return Err(Refusal::Version);
         }
         if OrpcThis::MINOR < fields::read_u16(s, 2) {
-            return Walked {
-                answer: answer::VERSION,
-                to: 0,
-            };
+            return Err(Refusal::Version);
         }
         extensions::judge(s, 28)
     }
 
     // Reads the header at the front of s. The bytes after it are the call's own.
-    pub fn read(s: &[u8]) -> ReadThis
-        ensures { result ≡ read_this s.now }
+    pub fn read(s: &[u8]) -> Result<Whole<OrpcThis>, Refusal>
+        ensures { this_read result ≡ read_this s.now }
     {
-        let x = OrpcThis::judge(s);
-        if x.answer != answer::DONE {
-            let nil = Guid { low: 0, high: 0 };
-            return ReadThis {
-                answer: x.answer,
-                header: OrpcThis::new(0, 0, nil),
-                extensions: Extensions {
-                    pointer: 0,
-                    array: 0,
-                    count: 0,
-                },
-                length: 0,
-            };
-        }
-        let causality = fields::read_guid(s, 12);
-        ReadThis {
-            answer: answer::DONE,
-            header: OrpcThis::new(fields::read_u16(s, 2), fields::read_u32(s, 4), causality),
+        let length = OrpcThis::judge(s)?;
+        Ok(Whole {
+            header: OrpcThis::new(
+                fields::read_u16(s, 2),
+                fields::read_u32(s, 4),
+                fields::read_guid(s, 12),
+            ),
             extensions: extensions::stated(s, 28),
-            length: x.to,
-        }
+            length: length,
+        })
     }
 
     // Extension k: the header's refusals first, then 24.
-    pub fn extension(s: &[u8], k: usize) -> Extension
-        ensures { result ≡ this_extension s.now k }
+    pub fn extension(s: &[u8], k: usize) -> Result<Found, Refusal>
+        ensures { extension_of result ≡ this_extension s.now k }
     {
-        let x = OrpcThis::judge(s);
-        if x.answer != answer::DONE {
-            return Extension::refused(x.answer);
-        }
-        Extension::numbered(s, 28, k)
+        OrpcThis::judge(s)?;
+        Found::numbered(s, 28, k)
     }
 
     // The data of extension k without its padding; no bytes where it is refused.
     pub fn extension_data(s: &[u8], k: usize) -> &[u8]
         ensures { PartOf s.now s.entry.ref_ptr (place_of (this_extension s.now k)) result.ref_ptr result.now }
     {
-        let x = OrpcThis::extension(s, k);
-        let from = x.from;
-        let to = x.to;
-        &s[from..to]
+        extensions::data_of(s, OrpcThis::extension(s, k))
     }
 
     // Writes the 28 bytes before the extensions.
@@ -131,24 +144,23 @@ impl OrpcThis {
         fields::write_u16(buf, 2, self.minor);
         fields::write_u32(buf, 4, self.flags);
         fields::write_u32(buf, 8, 0);
-        let causality = self.causality;
-        fields::write_guid(buf, 12, causality);
+        fields::write_guid(buf, 12, self.causality);
     }
 
     // Writes the header with no extensions at the front of buf and keeps the rest: 0, or 16 version not understood, 15 buffer too short.
-    pub fn write(self, buf: &mut [u8]) -> u32
-        ensures { (result ≡ this_written self 0 0 [] [] (length buf.old))
-            × (buf.new ≡ stored result (this_bytes 0 self none) buf.old) }
+    pub fn write(self, buf: &mut [u8]) -> Result<(), Refusal>
+        ensures { (answer_number result ≡ this_written self 0 0 [] [] (length buf.old))
+            × (buf.new ≡ stored (answer_number result) (this_bytes 0 self none) buf.old) }
     {
         if OrpcThis::MINOR < self.minor {
-            return answer::VERSION;
+            return Err(Refusal::Version);
         }
         if buf.len() < OrpcThis::SIZE {
-            return answer::NO_ROOM;
+            return Err(Refusal::NoRoom);
         }
         self.write_front(buf);
         fields::write_u32(buf, 28, 0);
-        answer::DONE
+        Ok(())
     }
 
     // Writes the header with its extensions at the front of buf and keeps the rest: 0 and the header's length, or 16 version not
@@ -160,28 +172,16 @@ impl OrpcThis {
         entries: &[u64],
         contents: &[u8],
         buf: &mut [u8],
-    ) -> Walked
-        ensures { (result ≡ this_writing self pointer array entries.now contents.now (length buf.old))
-            × (buf.new ≡ stored result.answer (this_bytes 0 self (given pointer array entries.now contents.now)) buf.old) }
+    ) -> Result<usize, Refusal>
+        ensures { (reached result ≡ this_writing self pointer array entries.now contents.now (length buf.old))
+            × (buf.new ≡ stored (answer_number result) (this_bytes 0 self (given pointer array entries.now contents.now)) buf.old) }
     {
         if OrpcThis::MINOR < self.minor {
-            return Walked {
-                answer: answer::VERSION,
-                to: 0,
-            };
+            return Err(Refusal::Version);
         }
-        let x = extension_writer::write(buf, 28, pointer, array, entries, contents);
-        if x.answer != answer::DONE {
-            return Walked {
-                answer: x.answer,
-                to: 0,
-            };
-        }
+        let length = extension_writer::write(buf, 28, pointer, array, entries, contents)?;
         self.write_front(buf);
-        Walked {
-            answer: answer::DONE,
-            to: x.to,
-        }
+        Ok(length)
     }
 }
 
@@ -192,7 +192,7 @@ pub struct OrpcThat {
     pub flags: u32,
 }
 
-// A header that was read, what it says of its extensions, and its length; or the number of a refusal with zeros.
+// The same of one that was read, or the number of a refusal with zeros, as C takes it.
 #[repr(C)]
 #[derive(Clone, Copy)]
 pub struct ReadThat {
@@ -202,45 +202,57 @@ pub struct ReadThat {
     pub length: usize,
 }
 
-impl OrpcThat {
-    pub const SIZE: usize = 8;
+impl From<Result<Whole<OrpcThat>, Refusal>> for ReadThat {
+    ghost from_gives = { λ read given. given ≡ that_read read };
 
-    pub fn new(flags: u32) -> OrpcThat
-        ensures { result ≡ record { flags = flags } }
-    {
-        OrpcThat { flags: flags }
-    }
-
-    // Reads the header at the front of s. The bytes after it are the call's own.
-    pub fn read(s: &[u8]) -> ReadThat
-        ensures { result ≡ read_that s.now }
-    {
-        let x = extensions::judge(s, 4);
-        if x.answer != answer::DONE {
-            return ReadThat {
-                answer: x.answer,
-                header: OrpcThat::new(0),
+    fn from(read: Result<Whole<OrpcThat>, Refusal>) -> ReadThat {
+        match read {
+            Ok(x) => ReadThat {
+                answer: 0,
+                header: x.header,
+                extensions: x.extensions,
+                length: x.length,
+            },
+            Err(why) => ReadThat {
+                answer: u32::from(why),
+                header: OrpcThat { flags: 0 },
                 extensions: Extensions {
                     pointer: 0,
                     array: 0,
                     count: 0,
                 },
                 length: 0,
-            };
+            },
         }
-        ReadThat {
-            answer: answer::DONE,
+    }
+}
+
+impl OrpcThat {
+    pub const SIZE: usize = 8;
+
+    pub fn new(flags: u32) -> OrpcThat
+        ensures { result ≡ record { flags = flags } }
+    {
+        OrpcThat { flags }
+    }
+
+    // Reads the header at the front of s. The bytes after it are the call's own.
+    pub fn read(s: &[u8]) -> Result<Whole<OrpcThat>, Refusal>
+        ensures { that_read result ≡ read_that s.now }
+    {
+        let length = extensions::judge(s, 4)?;
+        Ok(Whole {
             header: OrpcThat::new(fields::read_u32(s, 0)),
             extensions: extensions::stated(s, 4),
-            length: x.to,
-        }
+            length: length,
+        })
     }
 
     // Extension k: the header's refusals first, then 24.
-    pub fn extension(s: &[u8], k: usize) -> Extension
-        ensures { result ≡ that_extension s.now k }
+    pub fn extension(s: &[u8], k: usize) -> Result<Found, Refusal>
+        ensures { extension_of result ≡ that_extension s.now k }
     {
-        Extension::locate(s, 4, k)
+        Found::locate(s, 4, k)
     }
 
     // The data of extension k without its padding; no bytes where it is refused.
@@ -251,16 +263,16 @@ impl OrpcThat {
     }
 
     // Writes the header with no extensions at the front of buf and keeps the rest: 0, or 15 buffer too short.
-    pub fn write(self, buf: &mut [u8]) -> u32
-        ensures { (result ≡ (that_writing 0 0 [] [] (length buf.old)).answer)
-            × (buf.new ≡ stored result (that_bytes self none) buf.old) }
+    pub fn write(self, buf: &mut [u8]) -> Result<(), Refusal>
+        ensures { (answer_number result ≡ (that_writing 0 0 [] [] (length buf.old)).answer)
+            × (buf.new ≡ stored (answer_number result) (that_bytes self none) buf.old) }
     {
         if buf.len() < OrpcThat::SIZE {
-            return answer::NO_ROOM;
+            return Err(Refusal::NoRoom);
         }
         fields::write_u32(buf, 0, self.flags);
         fields::write_u32(buf, 4, 0);
-        answer::DONE
+        Ok(())
     }
 
     // Writes the header with its extensions at the front of buf and keeps the rest: 0 and the header's length, or 14 a broken array,
@@ -272,21 +284,12 @@ impl OrpcThat {
         entries: &[u64],
         contents: &[u8],
         buf: &mut [u8],
-    ) -> Walked
-        ensures { (result ≡ that_writing pointer array entries.now contents.now (length buf.old))
-            × (buf.new ≡ stored result.answer (that_bytes self (given pointer array entries.now contents.now)) buf.old) }
+    ) -> Result<usize, Refusal>
+        ensures { (reached result ≡ that_writing pointer array entries.now contents.now (length buf.old))
+            × (buf.new ≡ stored (answer_number result) (that_bytes self (given pointer array entries.now contents.now)) buf.old) }
     {
-        let x = extension_writer::write(buf, 4, pointer, array, entries, contents);
-        if x.answer != answer::DONE {
-            return Walked {
-                answer: x.answer,
-                to: 0,
-            };
-        }
+        let length = extension_writer::write(buf, 4, pointer, array, entries, contents)?;
         fields::write_u32(buf, 0, self.flags);
-        Walked {
-            answer: answer::DONE,
-            to: x.to,
-        }
+        Ok(length)
     }
 }

@@ -44,13 +44,6 @@ text-words s v (suc c) k at w k' at' w' t a b d =
     (text-words s v c (suc k) (at + 2) (w - 1) k' at' w' u (omega arith) (omega arith) (omega arith)
     ∙ sym (ap (λ (n : ℕ). walk_list v (suc k) n (words s (at + 2) (w - 1))) e))
 
-pub passed_none : (s : List ℕ) (v k m at w : ℕ) → 0 < w → TextPassed v k m s at w 0
-passed_none s v k m at w h =
-    let a : k + 0 ≡ k = omega arith in
-    let b : at + 2 * 0 ≡ at = omega arith in
-    let d : w - 0 ≡ w = omega arith in
-    (h, rw (a, b, d))
-
 pub passed-text : (s : List ℕ) (v k m at w r : ℕ) → m ≡ 2 → r < w → NoZero s at r → ((j : ℕ) → j < r → k + j ≡ v → ⊥) → TextPassed v k m s at w r
 passed-text s v k m at w r e h z p = (h, rw e (text-words s v r k at w (k + r) (at + 2 * r) (w - r) (λ j l. (z j l, p j l)) refl refl (omega arith)))
 

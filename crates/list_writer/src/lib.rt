@@ -2,14 +2,15 @@
 #![tactic(auto)]
 
 ghost use Rattle.std.specs.Prelude.{◌≡◌, ◌+◌, ◌*◌, ◌<◌, ◌≤◌, length, drop};
+ghost use Rattle.kinds.specs.Answers.{answer_number};
 ghost use Rattle.fields.specs.Fields.{written, stored};
+ghost use Rattle.fields.specs.Writers.{wrote};
 ghost use Rattle.bindings.specs.Bindings.{through_zero, first_binding, is_part};
 ghost use Rattle.bindings.specs.ListBytes.{word_bytes};
 ghost use Rattle.list_writer.specs.Writing.{ended, fits, made_list, write_list};
 
 use bindings::Part;
-use fields::Written;
-use kinds::answer;
+use kinds::Refusal;
 
 // The most words of bindings: N counts two more, which end the parts, and has 16 bits.
 const MOST_WORDS: usize = 65533;
@@ -19,12 +20,10 @@ fn text_end(words: &[u16], from: usize) -> usize
     requires { (length words.now ≤ 65533) × (from ≤ length words.now + 1) }
     ensures { (result ≡ from + length (through_zero (drop from (ended words.now)))) × (result ≤ length words.now + 1) }
 {
-    let mut i = from;
-    while i < words.len() {
+    for i in from..words.len() {
         if words[i] == 0 {
             return i + 1;
         }
-        i += 1;
     }
     words.len() + 1
 }
@@ -46,6 +45,7 @@ fn in_a_row(words: &[u16], p: Part) -> bool
     ensures { result ≡ is_part p (ended words.now) }
 {
     let mut i = 0;
+    // A walk: each step is as long as its binding.
     while i < words.len() {
         if words[i] == 0 {
             return false;
@@ -59,16 +59,9 @@ fn in_a_row(words: &[u16], p: Part) -> bool
 fn fit(strings: &[u16], security: &[u16]) -> bool
     ensures { result ≡ fits strings.now security.now }
 {
-    if MOST_WORDS < strings.len() {
-        return false;
-    }
-    if MOST_WORDS - strings.len() < security.len() {
-        return false;
-    }
-    if !in_a_row(strings, Part::Strings) {
-        return false;
-    }
-    in_a_row(security, Part::Security)
+    strings.len() + security.len() <= MOST_WORDS
+        && in_a_row(strings, Part::Strings)
+        && in_a_row(security, Part::Security)
 }
 
 // Writes words at to, and keeps the rest.
@@ -76,10 +69,8 @@ fn put_words(buf: &mut [u8], to: usize, words: &[u16])
     requires { to + 2 * length words.now ≤ length buf.old }
     ensures { buf.new ≡ written buf.old to (word_bytes words.now) }
 {
-    let mut i = 0;
-    while i < words.len() {
-        fields::write_u16(buf, to + 2 * i, words[i]);
-        i += 1;
+    for (i, &word) in words.iter().enumerate() {
+        fields::write_u16(buf, to + 2 * i, word);
     }
 }
 
@@ -101,26 +92,17 @@ fn put_list(strings: &[u16], security: &[u16], buf: &mut [u8])
 
 // Writes the list of these string and security bindings at the front of buf, and keeps the rest. Each binding is its words with its
 // zero word; the words that end the parts are not given. 14 where a part is no bindings in a row, or there are too many words; 15.
-pub fn write(strings: &[u16], security: &[u16], buf: &mut [u8]) -> Written
-    ensures { (result ≡ write_list strings.now security.now (length buf.old))
-        × (buf.new ≡ stored result.answer (made_list strings.now security.now) buf.old) }
+pub fn write(strings: &[u16], security: &[u16], buf: &mut [u8]) -> Result<usize, Refusal>
+    ensures { (wrote result ≡ write_list strings.now security.now (length buf.old))
+        × (buf.new ≡ stored (answer_number result) (made_list strings.now security.now) buf.old) }
 {
     if !fit(strings, security) {
-        return Written {
-            answer: answer::LAYOUT,
-            length: 0,
-        };
+        return Err(Refusal::Layout);
     }
     let size = 8 + 2 * (strings.len() + security.len());
     if buf.len() < size {
-        return Written {
-            answer: answer::NO_ROOM,
-            length: 0,
-        };
+        return Err(Refusal::NoRoom);
     }
     put_list(strings, security, buf);
-    Written {
-        answer: answer::DONE,
-        length: size,
-    }
+    Ok(size)
 }

@@ -13,7 +13,8 @@ use Rattle.fields.specs.Fields.{field}
 use Rattle.bindings.specs.Bindings.{words, first_binding, bindings_of, place, binding_from}
 use Rattle.bindings.specs.declared.Part.{Part}
 use Rattle.bindings.specs.declared.Place.{Place}
-use Rattle.bindings.proofs.ListAnswers.{Within, within-binding}
+use Rattle.bindings.specs.Bindings.{Within}
+use Rattle.bindings.proofs.ListAnswers.{within-binding}
 use Rattle.bindings.proofs.Parts.{length-words, after, binding-front, find_none, find-end, find-here}
 use Rattle.contexts.proofs.Properties.{property-within}
 use Rattle.references.proofs.Forms.{tail_within, within-reference, context-within}

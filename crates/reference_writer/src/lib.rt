@@ -2,13 +2,14 @@
 #![tactic(auto)]
 
 ghost use Rattle.std.specs.Prelude.{◌≡◌, ◌+◌, ◌≤◌, ◌++◌, cond, length};
+ghost use Rattle.kinds.specs.Answers.{answer_number};
+ghost use Rattle.fields.specs.Writers.{wrote};
 ghost use Rattle.fields.specs.Fields.{encode, written, stored, rounded, longest};
 ghost use Rattle.elements.specs.Elements.{element_bytes, content_answer, given_answer};
 ghost use Rattle.references.specs.References.{extended_signature, is_extended, fixed_size, answer_within};
 ghost use Rattle.reference_writer.specs.Writing.{inside_depth, block_bytes, header_bytes, body_bytes, elements_bytes, reference_bytes, tail_answer, element_given, value_answer, write_reference};
 
-use fields::Written;
-use kinds::{Guid, answer};
+use kinds::{Guid, Refusal};
 use references::{Block, Reference};
 
 // The levels that are left inside the outermost reference.
@@ -17,80 +18,71 @@ const INSIDE_DEPTH: usize = Reference::DEPTH - 1;
 // ---- what is refused
 
 // Of the list or the object data by itself.
-fn tail_answer(reference: Reference, tail: &[u8]) -> u32
-    ensures { result ≡ tail_answer reference tail.now }
+fn tail_answer(reference: Reference, tail: &[u8]) -> Result<(), Refusal>
+    ensures { answer_number result ≡ tail_answer reference tail.now }
 {
     let f = reference.flags;
     if !references::is_form(f) {
-        return answer::DONE;
+        return Ok(());
     }
     if f == Reference::CUSTOM {
-        let clsid = reference.clsid;
-        return references::object_answer(clsid, tail);
+        return references::object_answer(reference.clsid, tail);
     }
     bindings::list_answer(tail)
 }
 
 // Of data that goes into the element of the outermost reference.
-fn content_answer(x: &[u8]) -> u32
-    ensures { result ≡ content_answer (answer_within inside_depth) x.now }
+fn content_answer(x: &[u8]) -> Result<(), Refusal>
+    ensures { answer_number result ≡ content_answer (answer_within inside_depth) x.now }
 {
     if !elements::is_reference(x) {
-        return answer::DONE;
+        return Ok(());
     }
     references::answer_within(x, INSIDE_DEPTH)
 }
 
 // Of an identifier and data, to be written as an element.
-fn given_answer(id: Guid, x: &[u8]) -> u32
-    ensures { result ≡ given_answer (answer_within inside_depth) id x.now }
+fn given_answer(id: Guid, x: &[u8]) -> Result<(), Refusal>
+    ensures { answer_number result ≡ given_answer (answer_within inside_depth) id x.now }
 {
     if elements::is_nil(id) {
-        return answer::LAYOUT;
+        return Err(Refusal::Layout);
     }
     if x.len() == 0 {
-        return answer::LAYOUT;
+        return Err(Refusal::Layout);
     }
     if fields::LONGEST < x.len() as u64 {
-        return answer::LAYOUT;
+        return Err(Refusal::Layout);
     }
     content_answer(x)
 }
 
 // Of the element; a form without elements has none.
-fn element_given(reference: Reference, x: &[u8]) -> u32
-    ensures { result ≡ cond (is_extended reference.flags) (given_answer (answer_within inside_depth) reference.element x.now) 0 }
+fn element_given(reference: Reference, x: &[u8]) -> Result<(), Refusal>
+    ensures { answer_number result ≡ cond (is_extended reference.flags) (given_answer (answer_within inside_depth) reference.element x.now) 0 }
 {
     if reference.flags != Reference::EXTENDED {
-        return answer::DONE;
+        return Ok(());
     }
-    let id = reference.element;
-    given_answer(id, x)
+    given_answer(reference.element, x)
 }
 
 // What is refused before the room is looked at: 0, 13, 14, 21 or 22.
-fn value_answer(reference: Reference, tail: &[u8], x: &[u8]) -> u32
-    ensures { result ≡ value_answer reference tail.now x.now }
+fn value_answer(reference: Reference, tail: &[u8], x: &[u8]) -> Result<(), Refusal>
+    ensures { answer_number result ≡ value_answer reference tail.now x.now }
 {
     if !references::is_form(reference.flags) {
-        return answer::LAYOUT;
+        return Err(Refusal::Layout);
     }
-    let number = tail_answer(reference, tail);
-    if number != answer::DONE {
-        return number;
-    }
-    let given = element_given(reference, x);
-    if given != answer::DONE {
-        return given;
-    }
+    tail_answer(reference, tail)?;
+    element_given(reference, x)?;
     if reference.flags == Reference::CUSTOM {
-        return answer::DONE;
+        return Ok(());
     }
-    let block = reference.block;
-    if block.has_nil() {
-        return answer::NIL_IDENTIFIER;
+    if reference.block.has_nil() {
+        return Err(Refusal::NilIdentifier);
     }
-    answer::DONE
+    Ok(())
 }
 
 // ---- the bytes
@@ -112,8 +104,7 @@ fn write_header(reference: Reference, buf: &mut [u8])
 {
     fields::write_u32(buf, 0, Reference::SIGNATURE);
     fields::write_u32(buf, 4, reference.flags);
-    let iid = reference.iid;
-    fields::write_guid(buf, 8, iid);
+    fields::write_guid(buf, 8, reference.iid);
 }
 
 // Writes a block after the header.
@@ -123,12 +114,9 @@ fn write_block(block: Block, buf: &mut [u8])
 {
     fields::write_u32(buf, 24, block.flags);
     fields::write_u32(buf, 28, block.public);
-    let oxid = block.oxid;
-    fields::write_u64(buf, 32, oxid.0);
-    let oid = block.oid;
-    fields::write_u64(buf, 40, oid.0);
-    let ipid = block.ipid;
-    fields::write_guid(buf, 48, ipid);
+    fields::write_u64(buf, 32, block.oxid.0);
+    fields::write_u64(buf, 40, block.oid.0);
+    fields::write_guid(buf, 48, block.ipid);
 }
 
 // Writes the fixed fields that each form has after the header.
@@ -176,38 +164,25 @@ fn write_elements(reference: Reference, x: &[u8], buf: &mut [u8])
     ensures { buf.new ≡ written buf.old 0 (elements_bytes reference x.now) }
 {
     if reference.flags == Reference::EXTENDED {
-        let id = reference.element;
-        write_element(id, x, buf);
+        write_element(reference.element, x, buf);
     }
 }
 
 // Writes a reference with its list or object data, and the data of its element, at the front of buf, and keeps the rest.
-pub fn write(reference: Reference, tail: &[u8], x: &[u8], buf: &mut [u8]) -> Written
-    ensures { (result ≡ write_reference reference tail.now x.now (length buf.old))
-        × (buf.new ≡ stored result.answer (reference_bytes reference tail.now x.now) buf.old) }
+pub fn write(reference: Reference, tail: &[u8], x: &[u8], buf: &mut [u8]) -> Result<usize, Refusal>
+    ensures { (wrote result ≡ write_reference reference tail.now x.now (length buf.old))
+        × (buf.new ≡ stored (answer_number result) (reference_bytes reference tail.now x.now) buf.old) }
 {
-    let number = value_answer(reference, tail, x);
-    if number != answer::DONE {
-        return Written {
-            answer: number,
-            length: 0,
-        };
-    }
+    value_answer(reference, tail, x)?;
     let start = references::fixed_size(reference.flags);
     let at = start + tail.len();
     let length = at + elements_length(reference, x);
     if buf.len() < length {
-        return Written {
-            answer: answer::NO_ROOM,
-            length: 0,
-        };
+        return Err(Refusal::NoRoom);
     }
     write_header(reference, buf);
     write_body(reference, buf);
     fields::copy(buf, start, tail);
     write_elements(reference, x, &mut buf[at..length]);
-    Written {
-        answer: answer::DONE,
-        length: length,
-    }
+    Ok(length)
 }

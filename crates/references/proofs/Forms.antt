@@ -15,7 +15,8 @@ use Rattle.fields.proofs.Fields.{field-drop}
 use Rattle.bindings.specs.Bindings.{list_length, front_answer, binding_at, refusal, bytes_at}
 use Rattle.bindings.specs.declared.Part.{Part}
 use Rattle.bindings.specs.declared.Place.{Place}
-use Rattle.bindings.proofs.ListAnswers.{Within, within-binding}
+use Rattle.bindings.specs.Bindings.{Within}
+use Rattle.bindings.proofs.ListAnswers.{within-binding}
 use Rattle.contexts.specs.Contexts.{property_place, is_marshaler}
 use Rattle.contexts.proofs.Properties.{property-within}
 use Rattle.elements.specs.Elements.{signature, element_answer}

@@ -16,7 +16,7 @@ use Rattle.references.specs.References.{form_answer, layout_by, layout_answer, h
 use Rattle.elements.specs.Elements.{is_reference, element_front, element_content, content_answer, element_answer}
 use Rattle.references.specs.Parts.{ElementFound}
 use Rattle.bindings.specs.Bindings.{refusal}
-use Rattle.bindings.proofs.ListAnswers.{Within}
+use Rattle.bindings.specs.Bindings.{Within}
 use lib.Dec.{eqb}
 use Rattle.elements.proofs.ElementAnswers.{content-within}
 use Rattle.references.proofs.Forms.{by_form_lem, Headed, headed, opened}

@@ -1,6 +1,9 @@
 -- Object references, OBJREF, in the standard, handler, custom and extended forms (document 01, "Reference bytes"; document 02, requests 5 and
 -- 7; 000, sections 2.2.18 and 2.2.20).
 use Rattle.std.specs.Prelude.{ℕ, suc, zero, ◌+◌, ◌/◌, ◌%◌, Bool, false, cond, not, ◌&&◌, ◌||◌, List, [], ◌∷◌, length, take, drop, eqb, ltb}
+use Rattle.std.specs.Prelude.{Result, Ok, Err}
+use Rattle.kinds.specs.Answers.{refusal_number}
+use Rattle.kinds.specs.declared.refusal.Refusal.{Refusal}
 use Rattle.kinds.specs.Refusals.{◌gives◌, passes, differ, order}
 use Rattle.kinds.specs.declared.Guid.{Guid}
 use Rattle.fields.specs.Fields.{field, guid_at}
@@ -188,6 +191,11 @@ reference_answer s = answer_within most_depth s
 
 abbrev pub refused : ℕ → ReadReference
 refused n = record { answer = n; reference = no_reference }
+
+-- a reference that was found, or a refusal with zeros, as C takes it
+abbrev pub reference_read : Result Reference Refusal → ReadReference
+reference_read (Ok x) = record { answer = 0; reference = x }
+reference_read (Err why) = refused (refusal_number why)
 
 unfoldable pub read_reference : List ℕ → ReadReference
 read_reference s = cond (eqb (reference_answer s) 0) (record { answer = 0; reference = reference_at s }) (refused (reference_answer s))

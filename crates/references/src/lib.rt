@@ -2,15 +2,17 @@
 #![tactic(auto)]
 
 ghost use Rattle.std.specs.Prelude.{◌≡◌, ◌+◌, ◌≤◌, true, length};
-ghost use Rattle.bindings.specs.Bindings.{refusal, PartOf};
+ghost use Rattle.kinds.specs.Answers.{answer_number};
+ghost use Rattle.bindings.specs.Bindings.{placed, PartOf};
 ghost use Rattle.elements.specs.Elements.{element_answer};
 ghost use Rattle.references.specs.References.{fixed_size, is_no_ping, is_form, has_nil, names_nil, block_at, no_block, no_reference, standard, handler, custom, extended};
 ghost use Rattle.references.specs.References.{reference_at, object_answer, head_answer, plain_answer, list_end, extended_front, layout_answer, answer_within, reference_answer};
-ghost use Rattle.references.specs.References.{read_reference, tail_place, reference_binding, content_start, content_length, element_place, context_place};
+ghost use Rattle.references.specs.References.{reference_read, read_reference, tail_place, reference_binding, content_start, content_length, element_place, context_place};
 ghost use Rattle.references.specs.Parts.{ElementFound};
 
-use bindings::{Part, Place};
-use kinds::{Guid, Oid, Oxid, answer};
+use bindings::Part;
+use kinds::{Guid, Oid, Oxid, Refusal};
+use std::ops::Range;
 
 // The standard object block (STDOBJREF).
 #[repr(C)]
@@ -36,12 +38,29 @@ pub struct Reference {
     pub element: Guid,
 }
 
-// A reference that was read, or the number of a refusal with zeros.
+// A reference that was read, or the number of a refusal with zeros, as C takes it.
 #[repr(C)]
 #[derive(Clone, Copy)]
 pub struct ReadReference {
     pub answer: u32,
     pub reference: Reference,
+}
+
+impl From<Result<Reference, Refusal>> for ReadReference {
+    ghost from_gives = { λ found given. given ≡ reference_read found };
+
+    fn from(found: Result<Reference, Refusal>) -> ReadReference {
+        match found {
+            Ok(reference) => ReadReference {
+                answer: 0,
+                reference: reference,
+            },
+            Err(why) => ReadReference {
+                answer: u32::from(why),
+                reference: Reference::zero(),
+            },
+        }
+    }
 }
 
 impl Block {
@@ -52,19 +71,18 @@ impl Block {
         ensures { result ≡ record { flags = flags; public = public; oxid = oxid; oid = oid; ipid = ipid } }
     {
         Block {
-            flags: flags,
-            public: public,
-            oxid: oxid,
-            oid: oid,
-            ipid: ipid,
+            flags,
+            public,
+            oxid,
+            oid,
+            ipid,
         }
     }
 
     fn zero() -> Block
         ensures { result ≡ no_block }
     {
-        let nil = Guid { low: 0, high: 0 };
-        Block::new(0, 0, Oxid(0), Oid(0), nil)
+        Block::new(0, 0, Oxid(0), Oid(0), Guid::NIL)
     }
 
     // Whether the object is not pinged.
@@ -78,19 +96,7 @@ impl Block {
     pub fn has_nil(self) -> bool
         ensures { result ≡ has_nil self }
     {
-        let oxid = self.oxid;
-        if oxid.0 == 0 {
-            return true;
-        }
-        let oid = self.oid;
-        if oid.0 == 0 {
-            return true;
-        }
-        let ipid = self.ipid;
-        if ipid.low != 0 {
-            return false;
-        }
-        ipid.high == 0
+        self.oxid.0 == 0 || self.oid.0 == 0 || self.ipid == Guid::NIL
     }
 
     // The block of a standard or handler reference, after the header.
@@ -129,77 +135,72 @@ impl Reference {
     pub fn standard(iid: Guid, block: Block) -> Reference
         ensures { result ≡ standard iid block }
     {
-        let nil = Guid { low: 0, high: 0 };
         Reference {
             flags: Reference::STANDARD,
-            iid: iid,
-            block: block,
-            clsid: nil,
+            iid,
+            block,
+            clsid: Guid::NIL,
             extension: 0,
             size: 0,
-            element: nil,
+            element: Guid::NIL,
         }
     }
 
     pub fn handler(iid: Guid, block: Block, clsid: Guid) -> Reference
         ensures { result ≡ handler iid block clsid }
     {
-        let nil = Guid { low: 0, high: 0 };
         Reference {
             flags: Reference::HANDLER,
-            iid: iid,
-            block: block,
-            clsid: clsid,
+            iid,
+            block,
+            clsid,
             extension: 0,
             size: 0,
-            element: nil,
+            element: Guid::NIL,
         }
     }
 
     pub fn custom(iid: Guid, clsid: Guid, extension: u32, size: u32) -> Reference
         ensures { result ≡ custom iid clsid extension size }
     {
-        let nil = Guid { low: 0, high: 0 };
         let block = Block::zero();
         Reference {
             flags: Reference::CUSTOM,
-            iid: iid,
-            block: block,
-            clsid: clsid,
-            extension: extension,
-            size: size,
-            element: nil,
+            iid,
+            block,
+            clsid,
+            extension,
+            size,
+            element: Guid::NIL,
         }
     }
 
     pub fn extended(iid: Guid, block: Block, element: Guid) -> Reference
         ensures { result ≡ extended iid block element }
     {
-        let nil = Guid { low: 0, high: 0 };
         Reference {
             flags: Reference::EXTENDED,
-            iid: iid,
-            block: block,
-            clsid: nil,
+            iid,
+            block,
+            clsid: Guid::NIL,
             extension: 0,
             size: 0,
-            element: element,
+            element,
         }
     }
 
     pub fn zero() -> Reference
         ensures { result ≡ no_reference }
     {
-        let nil = Guid { low: 0, high: 0 };
         let block = Block::zero();
         Reference {
             flags: 0,
-            iid: nil,
-            block: block,
-            clsid: nil,
+            iid: Guid::NIL,
+            block,
+            clsid: Guid::NIL,
             extension: 0,
             size: 0,
-            element: nil,
+            element: Guid::NIL,
         }
     }
 
@@ -226,22 +227,13 @@ impl Reference {
         Reference::zero()
     }
 
-    // Reads a reference: its fields, or 13, 14, 21 or 22 with zeros. The fields are read first: what is copied from memory just written waits.
-    pub fn read(s: &[u8]) -> ReadReference
-        ensures { result ≡ read_reference s.now }
+    // Reads a reference: its fields, or 13, 14, 21 or 22. The fields are read first: what is copied from memory just written waits.
+    pub fn read(s: &[u8]) -> Result<Reference, Refusal>
+        ensures { reference_read result ≡ read_reference s.now }
     {
         let reference = Reference::fields(s);
-        let number = reference_answer(s);
-        if number != answer::DONE {
-            return ReadReference {
-                answer: number,
-                reference: Reference::zero(),
-            };
-        }
-        ReadReference {
-            answer: answer::DONE,
-            reference: reference,
-        }
+        reference_answer(s)?;
+        Ok(reference)
     }
 }
 
@@ -249,16 +241,10 @@ impl Reference {
 pub fn is_form(f: u32) -> bool
     ensures { result ≡ is_form f }
 {
-    if f == Reference::STANDARD {
-        return true;
-    }
-    if f == Reference::HANDLER {
-        return true;
-    }
-    if f == Reference::CUSTOM {
-        return true;
-    }
-    f == Reference::EXTENDED
+    f == Reference::STANDARD
+        || f == Reference::HANDLER
+        || f == Reference::CUSTOM
+        || f == Reference::EXTENDED
 }
 
 // The size of the fields before the list or the object data.
@@ -283,39 +269,39 @@ pub fn fixed_size(f: u32) -> usize
 // ---- judging a reference
 
 // Of the header and the length of the fixed fields.
-fn head_answer(s: &[u8]) -> u32
-    ensures { result ≡ head_answer s.now }
+fn head_answer(s: &[u8]) -> Result<(), Refusal>
+    ensures { answer_number result ≡ head_answer s.now }
 {
     if s.len() < 24 {
-        return answer::SHORT;
+        return Err(Refusal::Short);
     }
     if fields::read_u32(s, 0) != Reference::SIGNATURE {
-        return answer::LAYOUT;
+        return Err(Refusal::Layout);
     }
     let f = fields::read_u32(s, 4);
     if !is_form(f) {
-        return answer::LAYOUT;
+        return Err(Refusal::Layout);
     }
     if s.len() < fixed_size(f) {
-        return answer::SHORT;
+        return Err(Refusal::Short);
     }
-    answer::DONE
+    Ok(())
 }
 
 // Of object data: a context where the CLSID says so.
-pub fn object_answer(clsid: Guid, t: &[u8]) -> u32
-    ensures { result ≡ object_answer clsid t.now }
+pub fn object_answer(clsid: Guid, t: &[u8]) -> Result<(), Refusal>
+    ensures { answer_number result ≡ object_answer clsid t.now }
 {
     if contexts::is_marshaler(clsid) {
         return contexts::context_answer(t);
     }
-    answer::DONE
+    Ok(())
 }
 
 // Of what follows the fixed fields of a standard, handler or custom reference.
-fn plain_answer(s: &[u8]) -> u32
+fn plain_answer(s: &[u8]) -> Result<(), Refusal>
     requires { head_answer s.now ≡ 0 }
-    ensures { result ≡ plain_answer s.now }
+    ensures { answer_number result ≡ plain_answer s.now }
 {
     let f = fields::read_u32(s, 4);
     if f == Reference::CUSTOM {
@@ -333,72 +319,57 @@ fn list_end(s: &[u8]) -> usize
 }
 
 // Of an extended reference up to its element.
-fn extended_front(s: &[u8]) -> u32
+fn extended_front(s: &[u8]) -> Result<(), Refusal>
     requires { 68 ≤ length s.now }
-    ensures { result ≡ extended_front s.now }
+    ensures { answer_number result ≡ extended_front s.now }
 {
     if fields::read_u32(s, 64) != Reference::EXTENDED_SIGNATURE {
-        return answer::LAYOUT;
+        return Err(Refusal::Layout);
     }
-    let list = bindings::front_answer(&s[68..]);
-    if list != answer::DONE {
-        return list;
-    }
+    bindings::front_answer(&s[68..])?;
     let end = list_end(s);
     if s.len() < end + 4 {
-        return answer::SHORT;
+        return Err(Refusal::Short);
     }
     if fields::read_u32(s, end) != 1 {
-        return answer::LAYOUT;
+        return Err(Refusal::Layout);
     }
     if s.len() < end + 8 {
-        return answer::SHORT;
+        return Err(Refusal::Short);
     }
     if fields::read_u32(s, end + 4) != Reference::EXTENDED_SIGNATURE {
-        return answer::LAYOUT;
+        return Err(Refusal::Layout);
     }
-    answer::DONE
+    Ok(())
 }
 
 // Judges the element at the front of t, the last of its reference, with d levels of references left in it.
 #[cycle(element_layout)]
-fn element(t: &[u8], d: usize) -> u32
-    ensures { result ≡ element_answer (layout_answer d) t.now }
+fn element(t: &[u8], d: usize) -> Result<(), Refusal>
+    ensures { answer_number result ≡ element_answer (layout_answer d) t.now }
 {
-    let front = elements::element_front(t);
-    if front != answer::DONE {
-        return front;
-    }
+    elements::element_front(t)?;
     let to = 24 + (fields::read_u32(t, 16) as usize);
     if !elements::is_reference(&t[24..to]) {
         return elements::element_end(t);
     }
-    let inner = layout(&t[24..to], d);
-    if inner != answer::DONE {
-        return inner;
-    }
+    layout(&t[24..to], d)?;
     elements::element_end(t)
 }
 
 // Judges a reference with d levels left, itself counted.
 #[cycle(element_layout)]
-fn layout(s: &[u8], d: usize) -> u32
-    ensures { result ≡ layout_answer d s.now }
+fn layout(s: &[u8], d: usize) -> Result<(), Refusal>
+    ensures { answer_number result ≡ layout_answer d s.now }
 {
     if d == 0 {
-        return answer::TOO_DEEP;
+        return Err(Refusal::TooDeep);
     }
-    let head = head_answer(s);
-    if head != answer::DONE {
-        return head;
-    }
+    head_answer(s)?;
     if fields::read_u32(s, 4) != Reference::EXTENDED {
         return plain_answer(s);
     }
-    let front = extended_front(s);
-    if front != answer::DONE {
-        return front;
-    }
+    extended_front(s)?;
     let start = list_end(s) + 8;
     element(&s[start..], d - 1)
 }
@@ -448,204 +419,135 @@ fn names_nil(s: &[u8], d: usize) -> bool
 }
 
 // Whether the bytes are a reference, with d levels left: 0, 13, 14, 21 or 22.
-pub fn answer_within(s: &[u8], d: usize) -> u32
-    ensures { result ≡ answer_within d s.now }
+pub fn answer_within(s: &[u8], d: usize) -> Result<(), Refusal>
+    ensures { answer_number result ≡ answer_within d s.now }
 {
-    let number = layout(s, d);
-    if number != answer::DONE {
-        return number;
-    }
+    layout(s, d)?;
     if names_nil(s, d) {
-        return answer::NIL_IDENTIFIER;
+        return Err(Refusal::NilIdentifier);
     }
-    answer::DONE
+    Ok(())
 }
 
 // Whether the bytes are a reference: 0, 13, 14, 21 or 22.
-pub fn reference_answer(s: &[u8]) -> u32
-    ensures { result ≡ reference_answer s.now }
+pub fn reference_answer(s: &[u8]) -> Result<(), Refusal>
+    ensures { answer_number result ≡ reference_answer s.now }
 {
     answer_within(s, Reference::DEPTH)
 }
 
-// The place of a refusal.
-fn refused_place(number: u32) -> Place
-    ensures { result ≡ refusal number }
-{
-    Place {
-        answer: number,
-        from: 0,
-        to: 0,
-    }
-}
-
 // Where the binding list or the object data of a reference stands.
-pub fn tail_place(s: &[u8]) -> Place
-    ensures { result ≡ tail_place s.now }
+pub fn tail_place(s: &[u8]) -> Result<Range<usize>, Refusal>
+    ensures { placed result ≡ tail_place s.now }
 {
-    let number = reference_answer(s);
-    if number != answer::DONE {
-        return refused_place(number);
-    }
+    reference_answer(s)?;
     let f = fields::read_u32(s, 4);
     if f == Reference::EXTENDED {
-        return Place {
-            answer: answer::DONE,
-            from: 68,
-            to: list_end(s),
-        };
+        return Ok(68..list_end(s));
     }
-    Place {
-        answer: answer::DONE,
-        from: fixed_size(f),
-        to: s.len(),
-    }
+    Ok(fixed_size(f)..s.len())
 }
 
 // The binding list or the object data of a reference; no bytes where it is refused.
 pub fn tail(s: &[u8]) -> &[u8]
     ensures { PartOf s.now s.entry.ref_ptr (tail_place s.now) result.ref_ptr result.now }
 {
-    let x = tail_place(s);
-    let from = x.from;
-    let to = x.to;
-    &s[from..to]
+    bindings::bytes_of(s, tail_place(s))
 }
 
 // Where binding k of a part of a reference's list stands: the reference's refusals first; a custom reference has no list.
-pub fn locate(s: &[u8], p: Part, k: usize) -> Place
-    ensures { result ≡ reference_binding s.now p k }
+pub fn locate(s: &[u8], p: Part, k: usize) -> Result<Range<usize>, Refusal>
+    ensures { placed result ≡ reference_binding s.now p k }
 {
-    let x = tail_place(s);
-    if x.answer != answer::DONE {
-        return x;
-    }
+    let tail = tail_place(s)?;
     if fields::read_u32(s, 4) == Reference::CUSTOM {
-        return Place {
-            answer: answer::NO_BINDING,
-            from: 0,
-            to: 0,
-        };
+        return Err(Refusal::NoBinding);
     }
-    let from = x.from;
-    let to = x.to;
-    let found = bindings::locate(&s[from..to], p, k);
-    if found.answer != answer::DONE {
-        return found;
-    }
-    Place {
-        answer: answer::DONE,
-        from: from + found.from,
-        to: from + found.to,
-    }
+    let from = tail.start;
+    let found = bindings::locate(&s[tail], p, k)?;
+    Ok(from + found.start..from + found.end)
 }
 
 // Whether there is a binding k: 0, the reference's refusals, or 24.
-pub fn binding_answer(s: &[u8], p: Part, k: usize) -> u32
-    ensures { result ≡ (reference_binding s.now p k).answer }
+pub fn binding_answer(s: &[u8], p: Part, k: usize) -> Result<(), Refusal>
+    ensures { answer_number result ≡ (reference_binding s.now p k).answer }
 {
-    let x = locate(s, p, k);
-    x.answer
+    locate(s, p, k)?;
+    Ok(())
 }
 
 // Binding k, from its first word through its zero word; no bytes where it is refused.
 pub fn binding(s: &[u8], p: Part, k: usize) -> &[u8]
     ensures { PartOf s.now s.entry.ref_ptr (reference_binding s.now p k) result.ref_ptr result.now }
 {
-    let x = locate(s, p, k);
-    let from = x.from;
-    let to = x.to;
-    &s[from..to]
+    bindings::bytes_of(s, locate(s, p, k))
 }
 
 // ---- the element's data
 
 // Where the data of an accepted extended reference's element stands.
-fn content_place(s: &[u8]) -> Place
-    ensures { result ≡ record { answer = 0; from = content_start s.now; to = content_start s.now + content_length s.now } }
+fn content_place(s: &[u8]) -> Range<usize>
+    ensures { result ≡ record { start = content_start s.now; end = content_start s.now + content_length s.now } }
 {
     let from = list_end(s) + 32;
-    Place {
-        answer: answer::DONE,
-        from: from,
-        to: from + (fields::read_u32(s, from - 8) as usize),
-    }
+    from..from + (fields::read_u32(s, from - 8) as usize)
 }
 
 // Where the data of element k stands: the reference's refusals first, then 24.
-pub fn locate_element(s: &[u8], k: usize) -> Place
-    ensures { ElementFound s.now k result }
+pub fn locate_element(s: &[u8], k: usize) -> Result<Range<usize>, Refusal>
+    ensures { ElementFound s.now k (placed result) }
 {
-    let number = reference_answer(s);
-    if number != answer::DONE {
-        return refused_place(number);
-    }
+    reference_answer(s)?;
     if fields::read_u32(s, 4) != Reference::EXTENDED {
-        return refused_place(answer::NO_BINDING);
+        return Err(Refusal::NoBinding);
     }
     if k != 0 {
-        return refused_place(answer::NO_BINDING);
+        return Err(Refusal::NoBinding);
     }
-    content_place(s)
+    Ok(content_place(s))
 }
 
 // Whether there is an element k: 0, the reference's refusals, or 24.
-pub fn element_answer(s: &[u8], k: usize) -> u32
-    ensures { result ≡ (element_place s.now k).answer }
+pub fn element_answer(s: &[u8], k: usize) -> Result<(), Refusal>
+    ensures { answer_number result ≡ (element_place s.now k).answer }
 {
-    let x = locate_element(s, k);
-    x.answer
+    locate_element(s, k)?;
+    Ok(())
 }
 
 // The data of element k; no bytes where it is refused.
 pub fn element_data(s: &[u8], k: usize) -> &[u8]
     ensures { PartOf s.now s.entry.ref_ptr (element_place s.now k) result.ref_ptr result.now }
 {
-    let x = locate_element(s, k);
-    let from = x.from;
-    let to = x.to;
-    &s[from..to]
+    bindings::bytes_of(s, locate_element(s, k))
 }
 
 // Where the data of context property k stands: the reference's refusals first, then 24.
-pub fn locate_property(s: &[u8], k: usize) -> Place
-    ensures { result ≡ context_place s.now k }
+pub fn locate_property(s: &[u8], k: usize) -> Result<Range<usize>, Refusal>
+    ensures { placed result ≡ context_place s.now k }
 {
-    let number = reference_answer(s);
-    if number != answer::DONE {
-        return refused_place(number);
-    }
+    reference_answer(s)?;
     if fields::read_u32(s, 4) != Reference::CUSTOM {
-        return refused_place(answer::NO_BINDING);
+        return Err(Refusal::NoBinding);
     }
     if !contexts::is_marshaler(fields::read_guid(s, 24)) {
-        return refused_place(answer::NO_BINDING);
+        return Err(Refusal::NoBinding);
     }
-    let x = contexts::locate(&s[48..], k);
-    if x.answer != answer::DONE {
-        return x;
-    }
-    Place {
-        answer: answer::DONE,
-        from: 48 + x.from,
-        to: 48 + x.to,
-    }
+    let found = contexts::locate(&s[48..], k)?;
+    Ok(48 + found.start..48 + found.end)
 }
 
 // Whether there is a context property k: 0, the reference's refusals, or 24.
-pub fn property_answer(s: &[u8], k: usize) -> u32
-    ensures { result ≡ (context_place s.now k).answer }
+pub fn property_answer(s: &[u8], k: usize) -> Result<(), Refusal>
+    ensures { answer_number result ≡ (context_place s.now k).answer }
 {
-    let x = locate_property(s, k);
-    x.answer
+    locate_property(s, k)?;
+    Ok(())
 }
 
 // The data of context property k; no bytes where it is refused.
 pub fn property_data(s: &[u8], k: usize) -> &[u8]
     ensures { PartOf s.now s.entry.ref_ptr (context_place s.now k) result.ref_ptr result.now }
 {
-    let x = locate_property(s, k);
-    let from = x.from;
-    let to = x.to;
-    &s[from..to]
+    bindings::bytes_of(s, locate_property(s, k))
 }

@@ -9,18 +9,19 @@ use Rattle.kinds.specs.Refusals.{order}
 use Rattle.bindings.specs.Bindings.{two_parts, list_length, front_answer}
 use Rattle.bindings.proofs.ListAnswers.{front-done}
 use Rattle.bindings.proofs.front_answer.Goals as goal
+use Rattle.bindings.proofs.front_answer.Goals.{then-s-lt4-via-then-s-lt4, then-s-lt4-via-else-s-lt4+then-s-stated_length}
 
 pub returns-then-s-lt4 : goal.returns-then-s-lt4
 unfolding front_answer order
-returns-then-s-lt4 c = rw (lt-ltb _ _ c.if-s-lt4.true)
-
-pub returns-then-s-stated_length : goal.returns-then-s-stated_length
-unfolding front_answer order
-returns-then-s-stated_length c =
+returns-then-s-lt4 c =
     let s = c.args.s.now in
-    let h : 4 ≤ length s = omega arith in
-    let l : length s < list_length s = omega arith in
-    rw (le-ltb _ _ h, lt-ltb _ _ l)
+    elim c.then-s-lt4.branch [
+      | then-s-lt4-via-then-s-lt4 w ↦ rw (lt-ltb _ _ w.if-s-lt4.true)
+      | then-s-lt4-via-else-s-lt4+then-s-stated_length w ↦
+          let h : 4 ≤ length s = omega arith in
+          let l : length s < list_length s = omega arith in
+          rw (le-ltb _ _ h, lt-ltb _ _ l)
+    ]
 
 pub returns-then-two_parts : goal.returns-then-two_parts
 returns-then-two_parts c =

@@ -1,36 +1,16 @@
 -- `bindings::text_words`: the words passed and those of the text that is left make the whole text.
-use Prim.Native.Nat.{◌+◌, ◌*◌, ◌-◌}
-use mathlib.Core.Path.{◌≡◌, sym, ◌∙◌}
-use native.Mathlib.Nat.{zero-add}
+use mathlib.Core.Path.{sym}
 use native.Mathlib.Omega.{arith}
-use Rattle.bindings.proofs.Parts.{text-end, text-more}
+use Rattle.bindings.proofs.Parts.{text_at, text-passed, first_of_more}
 use Rattle.bindings.proofs.text_words.Goals as goal
 
-pub loop-i-init : goal.loop-i-init
-loop-i-init c =
-    let a = c.args in
-    let x : a.at + 2 * 0 ≡ a.at = omega arith in
-    let y : a.n - 0 ≡ a.n = omega arith in
-    (omega arith, c.front_words-first.ensures, rw (x, y, zero-add))
+pub returns-in-Some : goal.returns-in-Some
+returns-in-Some c =
+    let first = c.in-Some.ensures in
+    (sym (text_at _ _ _ _ (first_of_more _ _ _ c.args.n _ (omega arith) first)), omega (arith, first.within))
 
-pub returns-then-word-eq0 : goal.returns-then-word-eq0
-returns-then-word-eq0 c =
-    let a = c.args in
-    let l = c.loop-i in
-    let z = sym c.word.ensures ∙ c.if-word-eq0.true in
-    let e = text-end a.s.now (a.at + 2 * l.i) (a.n - l.i) (omega arith) z in
-    omega arith
-
-pub loop-i-preserved : goal.loop-i-preserved
-loop-i-preserved c =
-    let a = c.args in
-    let l = c.loop-i in
-    let r = c.word.ensures in
-    let e = text-more a.s.now (a.at + 2 * l.i) (a.at + 2 * (l.i + 1)) (a.n - l.i) (a.n - (l.i + 1)) (omega arith) (omega arith) (λ z. c.if-word-eq0.false (r ∙ z)) in
-    (omega arith, omega arith, omega arith)
-
-pub returns : goal.returns
-returns c =
-    let e = c.long_words.ensures in
-    let i = c.loop-i.invariant in
+pub returns-in-None : goal.returns-in-None
+returns-in-None c =
+    let front = text-passed _ _ c.args.at c.args.n (omega arith) c.in-None.ensures in
+    let rest = c.long_words.ensures in
     (omega arith, omega arith)

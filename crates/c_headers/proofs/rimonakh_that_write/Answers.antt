@@ -2,4 +2,4 @@
 use Rattle.c_headers.proofs.rimonakh_that_write.Goals as goal
 
 pub returns : goal.returns
-returns c = rw c.new-header.ensures at c.write.ensures
+returns c = rw c.number.ensures (rw c.new-header.ensures at c.write.ensures)

@@ -1,33 +1,6 @@
 -- `extensions::content`: the data lies within the bytes.
-use Prim.Native.Nat.{◌+◌}
-use mathlib.Core.Path.{ap}
-use lib.ListN.{length}
-use Rattle.bindings.specs.Bindings.{bytes_at}
-use Rattle.extensions.specs.Extensions.{place_of}
-use Rattle.extensions.specs.declared.Extension.{Extension}
-use Rattle.extensions.proofs.ArrayWalk.{Lies, lies}
+use Rattle.extensions.proofs.ArrayWalk.{lies}
 use Rattle.extensions.proofs.content.Goals as goal
 
-pub slice_bounds-result-count : goal.slice_bounds-result-count
-slice_bounds-result-count c =
-    let within : Lies (length c.args.s.now) c.locate-x.result = rw c.locate-x.ensures (lies _ _ _) in
-    (within).order
-
-pub slice_bounds-result-start : goal.slice_bounds-result-start
-slice_bounds-result-start c =
-    let within : Lies (length c.args.s.now) c.locate-x.result = rw c.locate-x.ensures (lies _ _ _) in
-    (within).order
-
-pub slice_bounds-result-end : goal.slice_bounds-result-end
-slice_bounds-result-end c =
-    let within : Lies (length c.args.s.now) c.locate-x.result = rw c.locate-x.ensures (lies _ _ _) in
-    (within).end
-
-pub returns : goal.returns
-returns c =
-    let s = c.args.s in
-    let e = c.locate-x.ensures in
-    record {
-      bytes = ap (λ (x : Extension). bytes_at s.now (place_of x)) e;
-      begins = ap (λ (x : Extension). (s.ref_ptr.0, x.from + s.ref_ptr.1)) e;
-    }
+pub data_of-requires : goal.data_of-requires
+data_of-requires c = rw c.locate.ensures (let h = lies c.args.s.now c.args.at c.args.k in (h.order, h.end))

@@ -1,9 +1,6 @@
-use mathlib.Core.Path.{◌≡◌}
+use Rattle.std.proofs.Common.{◌≡◌, ◌-◌}
 use Rattle.extensions.specs.Extensions.{pointers_answer}
 use Rattle.extensions.proofs.pointers_answer.Given as goal
 
-abbrev pub invariant-loop-left : goal.invariant-loop-left
-invariant-loop-left l = pointers_answer l.s l.i l.left ≡ pointers_answer l.s l.at l.n
-
-abbrev pub decreases-loop-left : goal.decreases-loop-left
-decreases-loop-left l = l.left
+abbrev pub invariant-loop : goal.invariant-loop
+invariant-loop l = pointers_answer l.s l.i (l.n - l.counter) ≡ pointers_answer l.s l.at l.n

@@ -3,10 +3,10 @@ use borrow.Author.Tests.{ne_eqb}
 use Rattle.fragments.specs.Fragments.{in_tail}
 use Rattle.fragments.proofs.in_tail.Goals as goal
 
-pub returns-then-form-eq0 : goal.returns-then-form-eq0
+pub returns-then-form-ne0 : goal.returns-then-form-ne0
 unfolding in_tail
-returns-then-form-eq0 c = rw c.if-form-eq0.true
+returns-then-form-ne0 c = rw (ne_eqb _ _ c.if-form-ne0.true, c.fixed_size.ensures)
 
-pub returns : goal.returns
+pub returns-else-form-ne0 : goal.returns-else-form-ne0
 unfolding in_tail
-returns c = rw (ne_eqb _ _ c.if-form-eq0.false, c.fixed_size.ensures)
+returns-else-form-ne0 c = rw c.if-form-ne0.false

@@ -1,4 +1,4 @@
-use Prim.Native.Nat.{◌+◌, ◌-◌, ◌*◌, ◌≤◌}
+use Prim.Native.Nat.{◌+◌, ◌*◌}
 use mathlib.Core.Path.{◌≡◌}
 use lib.ListN.{length, drop}
 use Rattle.fields.specs.Fields.{written}
@@ -7,9 +7,5 @@ use Rattle.list_writer.proofs.put_words.Given as goal
 
 abbrev pub invariant-loop-i : goal.invariant-loop-i
 invariant-loop-i l =
-    (l.i ≤ length l.words)
-    × (length l.buf ≡ length l.initial.buf)
+    (length l.buf ≡ length l.initial.buf)
     × (written l.buf (l.to + 2 * l.i) (word_bytes (drop l.i l.words)) ≡ written l.initial.buf l.to (word_bytes l.words))
-
-abbrev pub decreases-loop-i : goal.decreases-loop-i
-decreases-loop-i l = length l.words - l.i

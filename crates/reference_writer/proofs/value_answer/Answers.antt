@@ -4,6 +4,9 @@ use mathlib.Core.Path.{◌≡◌, sym, ◌∙◌}
 use borrow.Author.Tests.{not-true, not-false}
 use mathlib.Core.Bool.{Bool, true, false, cond, not}
 use mathlib.Core.List.{List}
+use borrow.Author.Rules.{rules}
+use Rattle.std.specs.Prelude.{Err}
+use Rattle.kinds.proofs.Answering.{refusal-not-0}
 use Rattle.kinds.specs.Refusals.{order}
 use Rattle.kinds.proofs.Refusing.{ne-differ, eq-differ}
 use Rattle.elements.specs.Elements.{given_answer}
@@ -47,17 +50,35 @@ module _ (r : Reference) (tail x : List ℕ) (b : Bool) (judged : b ≡ is_form 
 pub returns-then-not-is_form : goal.returns-then-not-is_form
 returns-then-not-is_form c = search no-form
 
-pub returns-then-number-ne-DONE : goal.returns-then-number-ne-DONE
-returns-then-number-ne-DONE c = search tail-refused
+pub returns-in_err-tail_answer : goal.returns-in_err-tail_answer
+returns-in_err-tail_answer c =
+    let e = c.in_err-tail_answer.ensures in
+    let bad = refusal-not-0 c.in_err-tail_answer.field-0.0 in
+    let r : c.from_residual.result ≡ Err c.in_err-tail_answer.field-0.0 = search rules in
+    rw r (search tail-refused)
 
-pub returns-then-given-ne-DONE : goal.returns-then-given-ne-DONE
-returns-then-given-ne-DONE c = search element-refused
+pub returns-in_err-element_given : goal.returns-in_err-element_given
+returns-in_err-element_given c =
+    let tail = c.in_ok-tail_answer.ensures in
+    let e = c.in_err-element_given.ensures in
+    let bad = refusal-not-0 c.in_err-element_given.field-0.0 in
+    let r : c.from_residual-in_err-element_given.result ≡ Err c.in_err-element_given.field-0.0 = search rules in
+    rw r (search element-refused)
 
 pub returns-then-reference-eq-CUSTOM : goal.returns-then-reference-eq-CUSTOM
-returns-then-reference-eq-CUSTOM c = search custom
+returns-then-reference-eq-CUSTOM c =
+    let tail = c.in_ok-tail_answer.ensures in
+    let element = c.in_ok-element_given.ensures in
+    search custom
 
 pub returns-then-has_nil : goal.returns-then-has_nil
-returns-then-has_nil c = search nil-named
+returns-then-has_nil c =
+    let tail = c.in_ok-tail_answer.ensures in
+    let element = c.in_ok-element_given.ensures in
+    search nil-named
 
 pub returns : goal.returns
-returns c = search done
+returns c =
+    let tail = c.in_ok-tail_answer.ensures in
+    let element = c.in_ok-element_given.ensures in
+    search done

@@ -7,6 +7,8 @@ use borrow.Author.Tests.{ne_eqb}
 use lib.ListN.{length}
 use borrow.Rule.Slice.PartMut.{put_mid, mid_len}
 use native.Mathlib.Nat.{add-sub_cancel_left}
+use Rattle.std.specs.Prelude.{Err}
+use Rattle.kinds.proofs.Answering.{refusal-some, refusal-eqb}
 use Rattle.fields.specs.Fields.{written}
 use Rattle.fields.specs.declared.Written.{Written}
 use Rattle.fields.proofs.Fields.{first-bytes, then-bytes}
@@ -20,12 +22,12 @@ use Rattle.reference_writer.proofs.write.Goals as goal
 from_place : (s y z : List ℕ) (a b : ℕ) → a ≡ b → z ≡ written s a y → z ≡ written s b y
 from_place s y z a b e h = h ∙ ap (λ (k : ℕ). written s k y) e
 
-pub returns-then-number-ne-DONE : goal.returns-then-number-ne-DONE
-returns-then-number-ne-DONE c =
-    let number = c.value_answer-number.ensures in
-    let no = c.if-number-ne-DONE.true in
+pub returns-in_err-value_answer : goal.returns-in_err-value_answer
+returns-in_err-value_answer c =
+    let number = c.in_err-value_answer.ensures in
     let refused : ℕ → Written = λ n. record { answer = n; length = 0 } in
-    (ap refused number ∙ sym (write-refused _ _ _ _ (λ z. no (number ∙ z))), simp (ne_eqb _ _ no))
+    let r : c.from_residual.result ≡ Err c.in_err-value_answer.field-0.0 = search rules in
+    rw r (ap refused number ∙ sym (write-refused _ _ _ _ (refusal-some _ number)), simp (refusal-eqb c.in_err-value_answer.field-0.0))
 
 pub overflow_add-at : goal.overflow_add-at
 overflow_add-at c = omega (arith, size-most c.args.reference.flags, c.fixed_size-start.ensures)
@@ -35,7 +37,7 @@ overflow_add-length c = omega (arith, size-most c.args.reference.flags, c.fixed_
 
 pub returns-then-buf-length : goal.returns-then-buf-length
 returns-then-buf-length c =
-    let done : let a = c.args in value_answer a.reference a.tail.now a.x.now ≡ 0 = sym c.value_answer-number.ensures ∙ c.if-number-ne-DONE.false in
+    let done : let a = c.args in value_answer a.reference a.tail.now a.x.now ≡ 0 = sym c.in_ok-value_answer.ensures in
     let size = c.fixed_size-start.ensures in
     let more = c.elements_length.ensures.0 in
     let short : length c.args.buf.now < written_length c.args.reference c.args.tail.now c.args.x.now = omega arith in
@@ -46,7 +48,7 @@ slice_bounds-write_elements-end c = search rules
 
 pub write_elements-requires : goal.write_elements-requires
 write_elements-requires c =
-    let done : let a = c.args in value_answer a.reference a.tail.now a.x.now ≡ 0 = sym c.value_answer-number.ensures ∙ c.if-number-ne-DONE.false in
+    let done : let a = c.args in value_answer a.reference a.tail.now a.x.now ≡ 0 = sym c.in_ok-value_answer.ensures in
     let ok : let a = c.args in Valued a.reference a.tail.now a.x.now = valued _ _ _ (done) in
     let tail = c.args.tail.now in
     let size = add-sub_cancel_left (c.fixed_size-start.result + length tail) c.elements_length.result ∙ c.elements_length.ensures.0 in
@@ -55,7 +57,7 @@ write_elements-requires c =
 pub returns : goal.returns
 unfolding reference_bytes
 returns c =
-    let done : let a = c.args in value_answer a.reference a.tail.now a.x.now ≡ 0 = sym c.value_answer-number.ensures ∙ c.if-number-ne-DONE.false in
+    let done : let a = c.args in value_answer a.reference a.tail.now a.x.now ≡ 0 = sym c.in_ok-value_answer.ensures in
     let ok : let a = c.args in Valued a.reference a.tail.now a.x.now = valued _ _ _ (done) in
     let room : let a = c.args in written_length a.reference a.tail.now a.x.now ≤ length a.buf.now = omega (arith, c.if-buf-length.false, c.elements_length.ensures.0, c.fixed_size-start.ensures) in
     let r = c.args.reference in
@@ -83,13 +85,13 @@ returns c =
 
 pub elements_length-requires : goal.elements_length-requires
 elements_length-requires c =
-    let done : let a = c.args in value_answer a.reference a.tail.now a.x.now ≡ 0 = sym c.value_answer-number.ensures ∙ c.if-number-ne-DONE.false in
+    let done : let a = c.args in value_answer a.reference a.tail.now a.x.now ≡ 0 = sym c.in_ok-value_answer.ensures in
     let ok : let a = c.args in Valued a.reference a.tail.now a.x.now = valued _ _ _ (done) in
     (ok).given
 
 pub write_header-requires : goal.write_header-requires
 write_header-requires c =
-    let done : let a = c.args in value_answer a.reference a.tail.now a.x.now ≡ 0 = sym c.value_answer-number.ensures ∙ c.if-number-ne-DONE.false in
+    let done : let a = c.args in value_answer a.reference a.tail.now a.x.now ≡ 0 = sym c.in_ok-value_answer.ensures in
     let ok : let a = c.args in Valued a.reference a.tail.now a.x.now = valued _ _ _ (done) in
     let room : let a = c.args in written_length a.reference a.tail.now a.x.now ≤ length a.buf.now = omega (arith, c.if-buf-length.false, c.elements_length.ensures.0, c.fixed_size-start.ensures) in
     let h = ok in omega (arith, h.least, room)

@@ -7,6 +7,9 @@ use native.Mathlib.Omega.{arith}
 use native.Mathlib.Nat.{add-sub_cancel_left}
 use borrow.Author.Tests.{not-true, not-false}
 use lib.ListN.{length, take, drop}
+use borrow.Author.Rules.{rules}
+use Rattle.std.specs.Prelude.{Err}
+use Rattle.kinds.proofs.Answering.{refusal-not-0}
 use Rattle.fields.specs.Fields.{field}
 use Rattle.fields.proofs.Fields.{take_rest}
 use Rattle.elements.specs.Elements.{content_size, element_content, is_reference, element_front, element_end, element_answer}
@@ -74,44 +77,82 @@ ended t r e h = sym e ∙ h
 headed-done : (s : List ℕ) (r : ℕ) → r ≡ head_answer s → r ≡ 0 → head_answer s ≡ 0
 headed-done s r e h = sym e ∙ h
 
-pub element-returns-then-front-ne-DONE : goal.element-returns-then-front-ne-DONE
-element-returns-then-front-ne-DONE t c = search front-refused
+pub element-returns-in_err-element_front : goal.element-returns-in_err-element_front
+element-returns-in_err-element_front t c =
+    let e = c.in_err-element_front.ensures in
+    let bad = refusal-not-0 c.in_err-element_front.field-0.0 in
+    let r : c.from_residual.result ≡ Err c.in_err-element_front.field-0.0 = search rules in
+    rw r (search front-refused)
 
 pub element-slice_bounds-is_reference-end : goal.element-slice_bounds-is_reference-end
-element-slice_bounds-is_reference-end t c = search within
+element-slice_bounds-is_reference-end t c =
+    let e = c.in_ok-element_front.ensures in
+    search within
 
 pub element-returns-then-not-is_reference : goal.element-returns-then-not-is_reference
-element-returns-then-not-is_reference t c = search other-data
+element-returns-then-not-is_reference t c =
+    let e = c.in_ok-element_front.ensures in
+    search other-data
 
 pub element-slice_bounds-layout-end : goal.element-slice_bounds-layout-end
-element-slice_bounds-layout-end t c = search within
+element-slice_bounds-layout-end t c =
+    let e = c.in_ok-element_front.ensures in
+    search within
 
-pub element-returns-then-inner-ne-DONE : goal.element-returns-then-inner-ne-DONE
-element-returns-then-inner-ne-DONE t c = search inner-refused
+pub element-returns-in_err-layout : goal.element-returns-in_err-layout
+element-returns-in_err-layout t c =
+    let front = c.in_ok-element_front.ensures in
+    let e = c.in_err-layout.ensures in
+    let bad = refusal-not-0 c.in_err-layout.field-0.0 in
+    let r : c.from_residual-in_err-layout.result ≡ Err c.in_err-layout.field-0.0 = search rules in
+    rw r (search inner-refused)
 
 pub element-returns : goal.element-returns
-element-returns t c = search inner-done
+element-returns t c =
+    let e = c.in_ok-element_front.ensures in
+    let inner = c.in_ok-layout.ensures in
+    search inner-done
 
 pub layout-returns-then-d-eq0 : goal.layout-returns-then-d-eq0
 layout-returns-then-d-eq0 t c = sym (layout-none _ _ c.if-d-eq0.true)
 
-pub layout-returns-then-head-ne-DONE : goal.layout-returns-then-head-ne-DONE
-layout-returns-then-head-ne-DONE t c = search head-refused
+pub layout-returns-in_err-head_answer : goal.layout-returns-in_err-head_answer
+layout-returns-in_err-head_answer t c =
+    let e = c.in_err-head_answer.ensures in
+    let bad = refusal-not-0 c.in_err-head_answer.field-0.0 in
+    let r : c.from_residual.result ≡ Err c.in_err-head_answer.field-0.0 = search rules in
+    rw r (search head-refused)
 
 pub layout-returns-then-read_u32-ne-EXTENDED : goal.layout-returns-then-read_u32-ne-EXTENDED
-layout-returns-then-read_u32-ne-EXTENDED t c = search plain_form
+layout-returns-then-read_u32-ne-EXTENDED t c =
+    let e = c.in_ok-head_answer.ensures in
+    search plain_form
 
-pub layout-extended_front-front-requires : goal.layout-extended_front-front-requires
-layout-extended_front-front-requires t c = search fixed-room
+pub layout-extended_front-requires : goal.layout-extended_front-requires
+layout-extended_front-requires t c =
+    let e = c.in_ok-head_answer.ensures in
+    search fixed-room
 
-pub layout-returns-then-front-ne-DONE : goal.layout-returns-then-front-ne-DONE
-layout-returns-then-front-ne-DONE t c = search opening-refused
+pub layout-returns-in_err-extended_front : goal.layout-returns-in_err-extended_front
+layout-returns-in_err-extended_front t c =
+    let head = c.in_ok-head_answer.ensures in
+    let e = c.in_err-extended_front.ensures in
+    let bad = refusal-not-0 c.in_err-extended_front.field-0.0 in
+    let r : c.from_residual-in_err-extended_front.result ≡ Err c.in_err-extended_front.field-0.0 = search rules in
+    rw r (search opening-refused)
 
 pub layout-slice_bounds-element-count : goal.layout-slice_bounds-element-count
-layout-slice_bounds-element-count t c = search begins
+layout-slice_bounds-element-count t c =
+    let e = c.in_ok-extended_front.ensures in
+    search begins
 
 pub layout-slice_bounds-element-start : goal.layout-slice_bounds-element-start
-layout-slice_bounds-element-start t c = search begins
+layout-slice_bounds-element-start t c =
+    let e = c.in_ok-extended_front.ensures in
+    search begins
 
 pub layout-returns : goal.layout-returns
-layout-returns t c = search element-last
+layout-returns t c =
+    let head = c.in_ok-head_answer.ensures in
+    let front = c.in_ok-extended_front.ensures in
+    search element-last

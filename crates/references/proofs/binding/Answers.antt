@@ -1,30 +1,6 @@
 -- `binding`: a binding lies within its reference.
-use Prim.Native.Nat.{◌+◌}
-use mathlib.Core.Path.{ap}
-use lib.ListN.{length}
-use Rattle.bindings.specs.Bindings.{bytes_at}
-use Rattle.bindings.specs.declared.Place.{Place}
-use Rattle.bindings.proofs.ListAnswers.{Within}
 use Rattle.references.proofs.Forms.{within-reference}
 use Rattle.references.proofs.binding.Goals as goal
 
-pub slice_bounds-result-count : goal.slice_bounds-result-count
-slice_bounds-result-count c =
-    let within : Within (length c.args.s.now) c.locate-x.result = rw c.locate-x.ensures (within-reference _ _ _) in
-    (within).0
-
-pub slice_bounds-result-start : goal.slice_bounds-result-start
-slice_bounds-result-start c =
-    let within : Within (length c.args.s.now) c.locate-x.result = rw c.locate-x.ensures (within-reference _ _ _) in
-    (within).0
-
-pub slice_bounds-result-end : goal.slice_bounds-result-end
-slice_bounds-result-end c =
-    let within : Within (length c.args.s.now) c.locate-x.result = rw c.locate-x.ensures (within-reference _ _ _) in
-    (within).1
-
-pub returns : goal.returns
-returns c =
-    let s = c.args.s in
-    let e = c.locate-x.ensures in
-    record { bytes = ap (bytes_at s.now) e; begins = ap (λ (x : Place). (s.ref_ptr.0, x.from + s.ref_ptr.1)) e }
+pub bytes_of-requires : goal.bytes_of-requires
+bytes_of-requires c = rw c.locate.ensures (within-reference _ _ _)

@@ -1,7 +1,15 @@
--- `element_answer`: the answer of the place.
-use mathlib.Core.Path.{ap}
+-- `element_answer`: a field of the place.
+use mathlib.Core.Path.{◌≡◌, ap, ◌∙◌}
+use borrow.Author.Rules.{rules}
+use Rattle.kinds.specs.Answers.{answer_number, refusal_number}
 use Rattle.bindings.specs.declared.Place.{Place}
 use Rattle.references.proofs.element_answer.Goals as goal
 
 pub returns : goal.returns
-returns c = ap (λ (x : Place). x.answer) c.locate_element-x.ensures.place
+returns c = ap (λ (x : Place). x.answer) c.in_ok-locate_element.ensures.place
+
+pub returns-in_err-locate_element : goal.returns-in_err-locate_element
+returns-in_err-locate_element c =
+    let e = ap (λ (x : Place). x.answer) c.in_err-locate_element.ensures.place in
+    let n : answer_number c.from_residual.result ≡ refusal_number c.in_err-locate_element.field-0.0 = search rules in
+    n ∙ e

@@ -7,6 +7,9 @@ use native.Mathlib.Omega.{arith}
 use borrow.Author.Tests.{lt-ltb, le-ltb, eq-eqb, ne_eqb}
 use lib.Dec.{ltb}
 use lib.ListN.{length, take, drop}
+use borrow.Author.Rules.{rules}
+use Rattle.std.specs.Prelude.{Err}
+use Rattle.kinds.proofs.Answering.{refusal-not-0}
 use Rattle.kinds.specs.Refusals.{◌gives◌, differ, order}
 use Rattle.kinds.proofs.Refusing.{ne-differ, eq-differ}
 use Rattle.fields.specs.Fields.{field}
@@ -63,23 +66,37 @@ module _ (s : List ℕ) (x : ℕ) (first : x ≡ field s 64 4) where
 pub returns-then-read_u32-ne-EXTENDED_SIGNATURE : goal.returns-then-read_u32-ne-EXTENDED_SIGNATURE
 returns-then-read_u32-ne-EXTENDED_SIGNATURE c = search unsigned
 
-pub returns-then-list-ne-DONE : goal.returns-then-list-ne-DONE
-returns-then-list-ne-DONE c = search list-refused
+pub returns-in_err-front_answer : goal.returns-in_err-front_answer
+returns-in_err-front_answer c =
+    let e = c.in_err-front_answer.ensures in
+    let bad = refusal-not-0 c.in_err-front_answer.field-0.0 in
+    let r : c.from_residual.result ≡ Err c.in_err-front_answer.field-0.0 = search rules in
+    rw r (search list-refused)
 
 pub overflow_add-end : goal.overflow_add-end
 overflow_add-end c = omega (arith, c.list_end-end.ensures.1)
 
 pub returns-then-s-end : goal.returns-then-s-end
-returns-then-s-end c = search count-short
+returns-then-s-end c =
+    let e = c.in_ok-front_answer.ensures in
+    search count-short
 
 pub returns-then-read_u32-ne1 : goal.returns-then-read_u32-ne1
-returns-then-read_u32-ne1 c = search count-other
+returns-then-read_u32-ne1 c =
+    let e = c.in_ok-front_answer.ensures in
+    search count-other
 
 pub returns-then-s-end-2 : goal.returns-then-s-end-2
-returns-then-s-end-2 c = search mark-short
+returns-then-s-end-2 c =
+    let e = c.in_ok-front_answer.ensures in
+    search mark-short
 
 pub returns-then-read_u32-ne-EXTENDED_SIGNATURE-2 : goal.returns-then-read_u32-ne-EXTENDED_SIGNATURE-2
-returns-then-read_u32-ne-EXTENDED_SIGNATURE-2 c = search mark-other
+returns-then-read_u32-ne-EXTENDED_SIGNATURE-2 c =
+    let e = c.in_ok-front_answer.ensures in
+    search mark-other
 
 pub returns : goal.returns
-returns c = search done
+returns c =
+    let e = c.in_ok-front_answer.ensures in
+    search done

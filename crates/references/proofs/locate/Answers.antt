@@ -1,15 +1,19 @@
 -- `locate`: the reference's refusals; then the binding's place in the list, moved to where the list begins.
 use Prim.Native.Nat.{ℕ, ◌+◌, ◌≤◌}
-use mathlib.Core.Path.{◌≡◌, sym, ap, ◌∙◌}
+use mathlib.Core.Path.{◌≡◌, refl, sym, ap, ◌∙◌}
 use mathlib.Core.List.{List}
 use native.Mathlib.Omega.{arith}
 use borrow.Author.Tests.{eq-eqb, ne_eqb}
 use lib.ListN.{length}
+use borrow.Author.Rules.{rules}
+use Rattle.std.specs.Prelude.{Err}
+use Rattle.kinds.proofs.Answering.{refusal-not-0}
 use Rattle.fields.specs.Fields.{field}
 use Rattle.bindings.specs.Bindings.{refusal, binding_at, bytes_at}
 use Rattle.bindings.specs.declared.Part.{Part}
 use Rattle.bindings.specs.declared.Place.{Place}
-use Rattle.bindings.proofs.ListAnswers.{Within, within-binding}
+use Rattle.bindings.specs.Bindings.{Within}
+use Rattle.bindings.proofs.ListAnswers.{within-binding}
 use Rattle.references.specs.References.{fixed_size, reference_answer, tail_place, tail_of, moved, reference_binding}
 use Rattle.references.proofs.Forms.{tail-number, tail-start, tail_within, tail-length, binding-refused, binding-custom, binding-listed}
 use Rattle.references.proofs.locate.Goals as goal
@@ -57,33 +61,45 @@ module _ (s : List ℕ) (p : Part) (k : ℕ) (x : Place) (placed : x ≡ tail_pl
 inside : (s : List ℕ) (x : Place) → x ≡ tail_place s → Within (length s) x
 inside s x e = rw e (tail_within s)
 
-pub returns-then-x-ne-DONE : goal.returns-then-x-ne-DONE
-returns-then-x-ne-DONE c = search refused
+pub returns-in_err-tail : goal.returns-in_err-tail
+returns-in_err-tail c =
+    let placed = c.in_err-tail.ensures in
+    let bad = refusal-not-0 c.in_err-tail.field-0.0 in
+    let r : c.from_residual.result ≡ Err c.in_err-tail.field-0.0 = search rules in
+    rw r (search refused)
 
 pub returns-then-read_u32-eq-CUSTOM : goal.returns-then-read_u32-eq-CUSTOM
-returns-then-read_u32-eq-CUSTOM c = search custom
+returns-then-read_u32-eq-CUSTOM c =
+    let placed = c.in_ok-tail.ensures in
+    search custom
 
 pub slice_bounds-locate-count : goal.slice_bounds-locate-count
-slice_bounds-locate-count c = (inside _ _ c.tail_place-x.ensures).0
+slice_bounds-locate-count c = (inside _ _ c.in_ok-tail.ensures).0
 
 pub slice_bounds-locate-start : goal.slice_bounds-locate-start
-slice_bounds-locate-start c = (inside _ _ c.tail_place-x.ensures).0
+slice_bounds-locate-start c = (inside _ _ c.in_ok-tail.ensures).0
 
 pub slice_bounds-locate-end : goal.slice_bounds-locate-end
-slice_bounds-locate-end c = (inside _ _ c.tail_place-x.ensures).1
+slice_bounds-locate-end c = (inside _ _ c.in_ok-tail.ensures).1
 
-pub returns-then-found-ne-DONE : goal.returns-then-found-ne-DONE
-returns-then-found-ne-DONE c = search none
+pub returns-in_err-found : goal.returns-in_err-found
+returns-in_err-found c =
+    let placed = c.in_ok-tail.ensures in
+    let found = c.in_err-found.ensures in
+    let bad = refusal-not-0 c.in_err-found.field-0.0 in
+    let r : c.from_residual-in_err-found.result ≡ Err c.in_err-found.field-0.0 = search rules in
+    rw r (search none)
 
 pub overflow_add-result : goal.overflow_add-result
 overflow_add-result c =
-    let room-here : Room c.args.s.now c.tail_place-x.result c.locate-found.result = search room in
-    let h = room-here in omega arith
+    let h = room _ _ _ _ c.in_ok-tail.ensures refl _ c.in_ok-found.ensures in
+    omega arith
 
 pub overflow_add-result-2 : goal.overflow_add-result-2
 overflow_add-result-2 c =
-    let room-here : Room c.args.s.now c.tail_place-x.result c.locate-found.result = search room in
-    let h = room-here in omega arith
+    let h = room _ _ _ _ c.in_ok-tail.ensures refl _ c.in_ok-found.ensures in
+    omega arith
 
 pub returns : goal.returns
-returns c = search here
+returns c =
+    here _ _ _ _ c.in_ok-tail.ensures refl _ c.in_ok-found.ensures _ c.read_u32.ensures c.if-read_u32-eq-CUSTOM.false refl

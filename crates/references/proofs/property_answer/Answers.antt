@@ -1,7 +1,15 @@
--- `property_answer`: the answer of the place.
-use mathlib.Core.Path.{ap}
+-- `property_answer`: a field of the place.
+use mathlib.Core.Path.{◌≡◌, ap, ◌∙◌}
+use borrow.Author.Rules.{rules}
+use Rattle.kinds.specs.Answers.{answer_number, refusal_number}
 use Rattle.bindings.specs.declared.Place.{Place}
 use Rattle.references.proofs.property_answer.Goals as goal
 
 pub returns : goal.returns
-returns c = ap (λ (x : Place). x.answer) c.locate_property-x.ensures
+returns c = ap (λ (x : Place). x.answer) c.in_ok-locate_property.ensures
+
+pub returns-in_err-locate_property : goal.returns-in_err-locate_property
+returns-in_err-locate_property c =
+    let e = ap (λ (x : Place). x.answer) c.in_err-locate_property.ensures in
+    let n : answer_number c.from_residual.result ≡ refusal_number c.in_err-locate_property.field-0.0 = search rules in
+    n ∙ e

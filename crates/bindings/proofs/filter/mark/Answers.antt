@@ -8,4 +8,4 @@ pub returns : goal.returns
 returns c xs m =
     let x = c.args.x in
     let h : x < 65536 = omega arith in
-    rw (unit (x % 64) (omega arith)) (marks-one _ xs x m h)
+    rw (c.from-n.ensures, unit (x % 64) (omega arith)) (marks-one _ xs x m h)

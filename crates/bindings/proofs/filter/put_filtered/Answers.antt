@@ -41,8 +41,8 @@ slice_bounds-copy-start c = let h = accepted _ c.requires.0 in omega arith
 pub returns : goal.returns
 returns c =
     let some : count c.args.s.now ≡ 0 → ⊥ = λ z. c.if-n-eq0.false (c.read_u16-n.ensures ∙ z) in
-    let bytes : Bytes c.args.s.now = λ i. omega (arith, c.shared_slice_known-1.given i) in
-    filtered-written _ _ c.requires.0 (some) (bytes) _ _ _ c.read_u16-n.ensures c.read_u16-k.ensures c.requested_words-kept.ensures.0
+    let bytes : Bytes c.args.s.now = λ i. omega (arith, c.type_inv.s i) in
+    filtered-written _ _ c.requires.0 some bytes _ _ _ c.read_u16-n.ensures c.read_u16-k.ensures c.requested_words-kept.ensures.0
     c.args.buf.now _ _ _ _ c.requires.1 c.write_u16.ensures c.write_u16-2.ensures
     c.put_requested.ensures c.copy-2.ensures
 
@@ -52,13 +52,15 @@ overflow_sub-n c = let h = accepted _ c.requires.0 in omega arith
 pub overflow_cast-kept : goal.overflow_cast-kept
 overflow_cast-kept c =
     let some : count c.args.s.now ≡ 0 → ⊥ = λ z. c.if-n-eq0.false (c.read_u16-n.ensures ∙ z) in
-    let bytes : Bytes c.args.s.now = λ i. omega (arith, c.shared_slice_known-1.given i) in
-    let few : c.requested_words-kept.result + 1 + (c.read_u16-n.result - c.read_u16-k.result) < 65536 = filtered-count _ _ c.requires.0 (some) (bytes) _ _ _ c.read_u16-n.ensures c.read_u16-k.ensures c.requested_words-kept.ensures.0 in
+    let bytes : Bytes c.args.s.now = λ i. omega (arith, c.type_inv.s i) in
+    let few : c.requested_words-kept.result + 1 + (c.read_u16-n.result - c.read_u16-k.result) < 65536 =
+    filtered-count _ _ c.requires.0 some bytes _ _ _ c.read_u16-n.ensures c.read_u16-k.ensures c.requested_words-kept.ensures.0 in
     let h = few in omega arith
 
 pub overflow_cast-kept-2 : goal.overflow_cast-kept-2
 overflow_cast-kept-2 c =
     let some : count c.args.s.now ≡ 0 → ⊥ = λ z. c.if-n-eq0.false (c.read_u16-n.ensures ∙ z) in
-    let bytes : Bytes c.args.s.now = λ i. omega (arith, c.shared_slice_known-1.given i) in
-    let few : c.requested_words-kept.result + 1 + (c.read_u16-n.result - c.read_u16-k.result) < 65536 = filtered-count _ _ c.requires.0 (some) (bytes) _ _ _ c.read_u16-n.ensures c.read_u16-k.ensures c.requested_words-kept.ensures.0 in
+    let bytes : Bytes c.args.s.now = λ i. omega (arith, c.type_inv.s i) in
+    let few : c.requested_words-kept.result + 1 + (c.read_u16-n.result - c.read_u16-k.result) < 65536 =
+    filtered-count _ _ c.requires.0 some bytes _ _ _ c.read_u16-n.ensures c.read_u16-k.ensures c.requested_words-kept.ensures.0 in
     let h = few in omega arith

@@ -1,60 +1,59 @@
 -- `filter::put_requested`: what is written and what is left to write make the whole.
-use Prim.Native.Nat.{ℕ, ◌+◌, ◌-◌, ◌*◌}
+use Prim.Native.Nat.{ℕ}
 use mathlib.Core.Path.{◌≡◌, refl, sym, ap, ◌∙◌}
 use mathlib.Core.List.{List}
+use mathlib.Core.Bool.{true, false}
 use native.Mathlib.Omega.{arith}
-use borrow.Author.Rules.{rules}
-use lib.ListN.{length, take, drop}
+use native.Mathlib.Nat.{add-zero}
+use lib.ListN.{length}
 use Rattle.fields.specs.Fields.{written, field, Bytes}
-use Rattle.fields.proofs.Fields.{length-written}
+use Rattle.fields.proofs.Fields.{length-written, written_none}
 use Rattle.lists.specs.Lists.{among}
-use Rattle.bindings.specs.Filter.{chosen}
-use Rattle.bindings.proofs.FilterLoops.{requested-none, requested-end, written-empty, put-room, put_step}
+use Rattle.bindings.specs.ListBytes.{word_bytes}
+use Rattle.bindings.proofs.Walks.{strings-first, still-strings}
+use Rattle.bindings.proofs.FilterLoops.{left_requested, room-taken, bytes-taken, requested-ended, written-empty}
 use Rattle.bindings.proofs.filter.put_requested.Goals as goal
 
-pub returns-then-tower-eq0 : goal.returns-then-tower-eq0
-returns-then-tower-eq0 c =
+pub loop-binding-init : goal.loop-binding-init
+loop-binding-init c =
     let a = c.args in
-    let l = c.loop-left in
-    let z = sym c.word-tower.ensures ∙ c.if-tower-eq0.true in
-    sym (written-empty l.buf _ l.next (requested-end a.protocols.now a.s.now l.i l.left (omega arith) z)) ∙ l.invariant.3
+    let s = a.s.now in
+    let e = c.into_iter-binding-iterator.ensures.into_iter_gives in
+    let same = ap (left_requested a.protocols.now s) e in
+    let n = ap length same in
+    let room = c.requires.1 in
+    (strings-first s _ _ e refl refl, refl, omega arith, ap (λ (x : List ℕ). written a.buf.now a.to (word_bytes x)) same)
 
-pub put-next-requires : goal.put-next-requires
-put-next-requires c =
-    let bytes : Bytes c.args.s.now = λ i. omega (arith, c.shared_slice_known-1.given i) in
+pub loop-binding-preserved-then-is_requested : goal.loop-binding-preserved-then-is_requested
+loop-binding-preserved-then-is_requested c =
     let a = c.args in
-    let l = c.loop-left in
-    let b = c.binding_words-m.ensures in
-    let m = c.binding_words-m.result in
-    let r = c.word-tower.ensures in
-    let k : l.i + 2 * m - l.i ≡ 2 * m = omega arith in
-    let q : c.is_requested.result ≡ among a.protocols.now (field a.s.now l.i 2) = c.is_requested.ensures ∙ ap (among a.protocols.now) r in
-    let room = put-room _ _ l.i l.left (bytes) l.invariant.0 (omega arith) (λ z. c.if-tower-eq0.false (r ∙ z)) m b.0 (omega arith) l.next (length l.buf) l.invariant.2 in
-    rw (q, k) (omega arith)
+    let ps = a.protocols.now in
+    let s = a.s.now in
+    let l = c.loop-binding in
+    let b = c.in-Some.binding in
+    let t = c.in-Some.ensures.steps in
+    let bytes : Bytes s = λ i. omega (arith, c.type_inv.s i) in
+    let wanted : among ps (field s b.start 2) ≡ true = sym (c.is_requested.ensures ∙ ap (among ps) c.word.ensures) ∙ c.if-is_requested.true in
+    let room = rw wanted at (room-taken ps s _ _ _ l.invariant.0 t bytes l.next (length l.buf) l.invariant.2) in
+    let step = rw wanted at (bytes-taken ps s _ _ _ l.invariant.0 t bytes l.buf l.next l.invariant.2) in
+    let put = c.copy.ensures in
+    let same : length c.copy.new.buf ≡ length l.buf = ap length put ∙ length-written l.buf l.next _ in
+    (still-strings s _ _ _ l.invariant.0 t, same ∙ l.invariant.1, rw same room, rw put (step ∙ l.invariant.3))
 
-pub loop-left-preserved : goal.loop-left-preserved
-loop-left-preserved c =
-    let bytes : Bytes c.args.s.now = λ i. omega (arith, c.shared_slice_known-1.given i) in
+pub loop-binding-preserved : goal.loop-binding-preserved
+loop-binding-preserved c =
     let a = c.args in
-    let l = c.loop-left in
-    let b = c.binding_words-m.ensures in
-    let m = c.binding_words-m.result in
-    let r = c.word-tower.ensures in
-    let k : l.i + 2 * m - l.i ≡ 2 * m = omega arith in
-    let q : c.is_requested.result ≡ among a.protocols.now (field a.s.now l.i 2) = c.is_requested.ensures ∙ ap (among a.protocols.now) r in
-    let y : List ℕ = chosen (among a.protocols.now (field a.s.now l.i 2)) (take (2 * m) (drop l.i a.s.now)) in
-    let p : (c.put-next.result ≡ l.next + length y) × (c.put-next.new.buf ≡ written l.buf l.next y) = rw (q, k) at c.put-next.ensures in
-    let n = length-written l.buf l.next y in
-    let room = put-room _ _ l.i l.left (bytes) l.invariant.0 (omega arith) (λ z. c.if-tower-eq0.false (r ∙ z)) m b.0 (omega arith) l.next (length l.buf) l.invariant.2 in
-    let step = put_step _ _ l.i l.left (bytes) l.invariant.0 (omega arith) (λ z. c.if-tower-eq0.false (r ∙ z)) m b.0 (omega arith) l.buf l.next l.invariant.2 in
-    let same : length c.put-next.new.buf ≡ length l.buf = ap length p.1 ∙ n in
-    (omega arith, same ∙ l.invariant.1, rw (p.0, same) room, rw (p.0, p.1) (step ∙ l.invariant.3))
+    let ps = a.protocols.now in
+    let s = a.s.now in
+    let l = c.loop-binding in
+    let t = c.in-Some.ensures.steps in
+    let bytes : Bytes s = λ i. omega (arith, c.type_inv.s i) in
+    let unwanted : among ps (field s c.in-Some.binding.start 2) ≡ false = sym (c.is_requested.ensures ∙ ap (among ps) c.word.ensures) ∙ c.if-is_requested.false in
+    let room = rw unwanted at (room-taken ps s _ _ _ l.invariant.0 t bytes l.next (length l.buf) l.invariant.2) in
+    let step = rw (unwanted, written_none, add-zero) at (bytes-taken ps s _ _ _ l.invariant.0 t bytes l.buf l.next l.invariant.2) in
+    (still-strings s _ _ _ l.invariant.0 t, l.invariant.1, omega arith, step ∙ l.invariant.3)
 
 pub returns : goal.returns
 returns c =
-    let a = c.args in
-    let l = c.loop-left in
-    sym (written-empty l.buf _ l.next (requested-none a.protocols.now a.s.now l.i l.left (omega arith))) ∙ l.invariant.3
-
-pub loop-left-init : goal.loop-left-init
-loop-left-init c = (search rules, refl, search rules, refl)
+    let l = c.loop-binding in
+    sym (written-empty l.buf _ l.next (requested-ended c.args.protocols.now c.args.s.now _ _ l.invariant.0 c.in-None.ensures.steps)) ∙ l.invariant.3

@@ -1,47 +1,45 @@
 -- `filter::requested_words`: the words counted and those of the bindings that are left make the whole.
-use Prim.Native.Nat.{ℕ}
-use mathlib.Core.Path.{sym, ap, ◌∙◌}
-use mathlib.Core.Bool.{cond}
+use mathlib.Core.Bool.{true, false}
+use Rattle.fields.specs.Fields.{field}
+use Rattle.lists.specs.Lists.{among}
+use mathlib.Core.Path.{◌≡◌, refl, sym, ap, ◌∙◌}
 use native.Mathlib.Nat.{zero-add}
 use native.Mathlib.Omega.{arith}
-use borrow.Author.Rules.{rules}
 use lib.ListN.{length}
-use Rattle.lists.specs.Lists.{among}
-use Rattle.bindings.proofs.FilterLoops.{requested-none, requested-end, counted-more, counted-most}
+use Rattle.bindings.specs.declared.Walk.{Walk}
+use Rattle.bindings.proofs.Walks.{strings-first, still-strings}
+use Rattle.bindings.proofs.FilterLoops.{left_requested, words-taken, requested-ended}
 use Rattle.bindings.proofs.filter.requested_words.Goals as goal
 
-pub returns-then-tower-eq0 : goal.returns-then-tower-eq0
-returns-then-tower-eq0 c =
-    let a = c.args in
-    let l = c.loop-left in
-    let z = sym c.word-tower.ensures ∙ c.if-tower-eq0.true in
-    let e = ap length (requested-end a.protocols.now a.s.now l.i l.left (omega arith) z) in
-    omega arith
+pub loop-binding-init : goal.loop-binding-init
+loop-binding-init c =
+    let s = c.args.s.now in
+    let e = c.into_iter-binding-iterator.ensures.into_iter_gives in
+    let left = ap (λ (w : Walk). w.left) e in
+    (strings-first s _ _ e refl refl, omega arith, zero-add _ ∙ ap (λ (w : Walk). length (left_requested c.args.protocols.now s w)) e)
 
-pub overflow_add-sum : goal.overflow_add-sum
-overflow_add-sum c =
-    let a = c.args in
-    let k = counted-most (among a.protocols.now c.word-tower.result) c.binding_words-m.result in
-    omega arith
+pub loop-binding-preserved-then-is_requested : goal.loop-binding-preserved-then-is_requested
+loop-binding-preserved-then-is_requested c =
+    let ps = c.args.protocols.now in
+    let s = c.args.s.now in
+    let l = c.loop-binding in
+    let t = c.in-Some.ensures.steps in
+    let wanted : among ps (field s c.in-Some.binding.start 2) ≡ true = sym (c.is_requested.ensures ∙ ap (among ps) c.word.ensures) ∙ c.if-is_requested.true in
+    let more = rw wanted at (words-taken ps s _ _ _ l.invariant.0 t) in
+    (still-strings s _ _ _ l.invariant.0 t, omega (arith, t.from, t.to, t.left, t.most), omega arith)
 
-pub loop-left-preserved : goal.loop-left-preserved
-loop-left-preserved c =
-    let a = c.args in
-    let l = c.loop-left in
-    let b = c.binding_words-m.ensures in
-    let r = c.word-tower.ensures in
-    let m = c.binding_words-m.result in
-    let k = counted-most (among a.protocols.now c.word-tower.result) m in
-    let q = c.counted-sum.ensures ∙ ap (λ (t : ℕ). cond (among a.protocols.now t) m 0) r in
-    let e = counted-more a.protocols.now a.s.now l.i l.left (omega arith) (λ z. c.if-tower-eq0.false (r ∙ z)) m b.0 (omega arith) in
-    (omega arith, omega arith, omega arith)
+pub loop-binding-preserved : goal.loop-binding-preserved
+loop-binding-preserved c =
+    let ps = c.args.protocols.now in
+    let s = c.args.s.now in
+    let l = c.loop-binding in
+    let t = c.in-Some.ensures.steps in
+    let unwanted : among ps (field s c.in-Some.binding.start 2) ≡ false = sym (c.is_requested.ensures ∙ ap (among ps) c.word.ensures) ∙ c.if-is_requested.false in
+    let same = rw unwanted at (words-taken ps s _ _ _ l.invariant.0 t) in
+    (still-strings s _ _ _ l.invariant.0 t, omega (arith, t.left), omega arith)
 
 pub returns : goal.returns
 returns c =
-    let a = c.args in
-    let l = c.loop-left in
-    let e = ap length (requested-none a.protocols.now a.s.now l.i l.left (omega arith)) in
-    omega arith
-
-pub loop-left-init : goal.loop-left-init
-loop-left-init c = (search rules, omega arith, zero-add _)
+    let l = c.loop-binding in
+    let none = ap length (requested-ended c.args.protocols.now c.args.s.now _ _ l.invariant.0 c.in-None.ensures.steps) in
+    (omega arith, omega arith)

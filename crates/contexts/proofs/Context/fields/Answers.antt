@@ -5,7 +5,7 @@ pub returns : goal.returns
 returns c =
     λ u.
     record {
-      id = c.read_guid-id.ensures u;
+      id = c.read_guid.ensures u;
       reserved = c.read_u32.ensures u;
       marshal = c.read_u32-2.ensures u;
       count = c.read_u32-3.ensures u;

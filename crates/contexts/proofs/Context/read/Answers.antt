@@ -1,17 +1,20 @@
 -- `Context::read`: a refusal, or the fields.
-use mathlib.Core.Path.{sym, ◌∙◌}
+use mathlib.Core.Path.{◌≡◌, refl, sym}
 use borrow.Author.Tests.{eq-eqb, ne_eqb}
-use Rattle.contexts.specs.Contexts.{read_context}
+use borrow.Author.Rules.{rules}
+use Rattle.std.specs.Prelude.{Err}
+use Rattle.kinds.proofs.Answering.{refusal-some}
+use Rattle.contexts.specs.Contexts.{no_context, read_context}
 use Rattle.contexts.proofs.Context.read.Goals as goal
 
-pub returns-then-number-ne-DONE : goal.returns-then-number-ne-DONE
+pub returns-in_err-context_answer : goal.returns-in_err-context_answer
 unfolding read_context
-returns-then-number-ne-DONE c =
-    let number = c.context_answer-number.ensures in
-    simp (ne_eqb _ _ (λ z. c.if-number-ne-DONE.true (number ∙ z))) (λ u. record { answer = number u; context = c.zero.ensures u })
+returns-in_err-context_answer c =
+    let number = c.in_err-context_answer.ensures in
+    let r : c.from_residual.result ≡ Err c.in_err-context_answer.field-0.0 = search rules in
+    rw r (simp (ne_eqb _ _ (refusal-some _ number)) (λ u. record { answer = number u; context = no_context }))
 
 pub returns : goal.returns
 unfolding read_context
 returns c =
-    let number = c.context_answer-number.ensures in
-    simp (eq-eqb _ _ (sym number ∙ c.if-number-ne-DONE.false)) (λ u. record { answer = 0; context = c.fields.ensures u })
+    simp (eq-eqb _ _ (sym c.in_ok-context_answer.ensures)) (λ u. record { answer = 0; context = c.fields.ensures u })

@@ -5,6 +5,9 @@ use mathlib.Core.List.{List, append_assoc}
 use native.Mathlib.Omega.{arith}
 use borrow.Author.Tests.{eq-eqb, ne_eqb}
 use lib.ListN.{length}
+use borrow.Author.Rules.{rules}
+use Rattle.std.specs.Prelude.{Err}
+use Rattle.kinds.proofs.Answering.{refusal-some, refusal-eqb}
 use Rattle.fields.specs.Fields.{written, encode, guid_bytes}
 use Rattle.fields.proofs.Fields.{first-guid, then-guid, then-field, then-bytes}
 use Rattle.contexts.specs.Contexts.{property_bytes, write_property_answer, write_property}
@@ -12,28 +15,28 @@ use Rattle.contexts.specs.declared.Property.{Property}
 use Rattle.contexts.proofs.Properties.{property-writable}
 use Rattle.contexts.proofs.Property.write.Goals as goal
 
-pub returns-then-number-ne-DONE : goal.returns-then-number-ne-DONE
+pub returns-in_err-judge : goal.returns-in_err-judge
 unfolding write_property
-returns-then-number-ne-DONE c =
-    let number = c.judge-number.ensures in
-    let no = c.if-number-ne-DONE.true in
-    (simp (ne_eqb _ _ (λ z. no (number ∙ z))) (λ u. record { answer = number u; length = 0 }), simp (ne_eqb _ _ no))
+returns-in_err-judge c =
+    let number = c.in_err-judge.ensures in
+    let r : c.from_residual.result ≡ Err c.in_err-judge.field-0.0 = search rules in
+    rw r (simp (ne_eqb _ _ (refusal-some _ number)) (λ u. record { answer = number u; length = 0 }), simp (refusal-eqb c.in_err-judge.field-0.0))
 
 module _ (p : Property) (x b : List ℕ) where
-  answered : (n : ℕ) → n ≡ write_property_answer p x (length b) → n ≡ 0 → record { answer = 0; length = 40 + length x } ≡ write_property p x (length b)
+  answered : 0 ≡ write_property_answer p x (length b) → record { answer = 0; length = 40 + length x } ≡ write_property p x (length b)
   unfolding write_property
-  answered n judged good = simp (eq-eqb _ _ (sym judged ∙ good))
+  answered judged = simp (eq-eqb _ _ (sym judged))
 
-  small : (n : ℕ) → n ≡ write_property_answer p x (length b) → n ≡ 0 → length x < 4294967296
-  small n judged good = let h = (property-writable _ _ _ (sym judged ∙ good)).small in omega arith
+  small : 0 ≡ write_property_answer p x (length b) → length x < 4294967296
+  small judged = let h = (property-writable _ _ _ (sym judged)).small in omega arith
 
   -- the writes in a row
-  module _ (n : ℕ) (judged : n ≡ write_property_answer p x (length b)) (good : n ≡ 0) (b₁ b₂ b₃ b₄ b₅ : List ℕ) where
+  module _ (judged : 0 ≡ write_property_answer p x (length b)) (b₁ b₂ b₃ b₄ b₅ : List ℕ) where
     property-written : b₁ ≡ written b 0 (guid_bytes p.clsid) → b₂ ≡ written b₁ 16 (guid_bytes p.policy) → b₃ ≡ written b₂ 32 (encode 4 p.flags)
         → b₄ ≡ written b₃ 36 (encode 4 (length x)) → b₅ ≡ written b₄ 40 x → b₅ ≡ written b 0 (property_bytes p x)
     unfolding property_bytes
     property-written clsid policy flags size content =
-        let room = (property-writable _ _ _ (sym judged ∙ good)).room in
+        let room = (property-writable _ _ _ (sym judged)).room in
         let run = then-guid p.policy (first-guid p.clsid clsid) (omega arith) policy in
         let run2 = then-field 4 p.flags run (omega arith) flags in
         let run3 = then-field 4 (length x) run2 (omega arith) size in
@@ -41,11 +44,11 @@ module _ (p : Property) (x b : List ℕ) where
 
 pub returns : goal.returns
 returns c =
-    let judged = c.judge-number.ensures in (
-      answered _ _ c.args.buf.now _ judged c.if-number-ne-DONE.false,
-      property-written _ _ _ _ judged c.if-number-ne-DONE.false _ _ _ _ _ c.write_guid.ensures c.write_guid-2.ensures
+    let judged = c.in_ok-judge.ensures in (
+      answered _ _ c.args.buf.now judged,
+      property-written _ _ _ judged _ _ _ _ _ c.write_guid.ensures c.write_guid-2.ensures
           c.write_u32.ensures c.write_u32-2.ensures c.copy.ensures,
     )
 
 pub overflow_cast-content : goal.overflow_cast-content
-overflow_cast-content c = search small
+overflow_cast-content c = let judged = c.in_ok-judge.ensures in search small

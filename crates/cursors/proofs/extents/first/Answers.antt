@@ -9,7 +9,7 @@ use Rattle.cursors.proofs.extents.first.Goals as goal
 pub returns-then-read_u32-eq0 : goal.returns-then-read_u32-eq0
 unfolding extensions_cursor
 returns-then-read_u32-eq0 c =
-    rw (eq-eqb _ _ c.requires, sym c.read_u32.ensures ∙ c.if-read_u32-eq0.true) c.none.ensures
+    rw (eq-eqb _ _ c.requires, sym c.read_u32.ensures ∙ c.if-read_u32-eq0.true)
 
 pub overflow_add-result-3 : goal.overflow_add-result-3
 overflow_add-result-3 c =

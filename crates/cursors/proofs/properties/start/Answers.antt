@@ -1,15 +1,19 @@
 -- `properties::start`: the context's refusals, then the byte behind its head.
-use mathlib.Core.Path.{sym, ◌∙◌}
+use mathlib.Core.Path.{◌≡◌, sym, ap}
+use borrow.Author.Rules.{rules}
 use borrow.Author.Tests.{eq-eqb, ne_eqb}
-use Rattle.cursors.specs.Cursors.{context_cursor}
+use Rattle.std.specs.Prelude.{Err}
+use Rattle.kinds.proofs.Answering.{refusal-some}
+use Rattle.cursors.specs.Cursors.{no_cursor, context_cursor}
 use Rattle.cursors.proofs.properties.start.Goals as goal
 
-pub returns-then-number-ne-DONE : goal.returns-then-number-ne-DONE
+pub returns-in_err-context_answer : goal.returns-in_err-context_answer
 unfolding context_cursor
-returns-then-number-ne-DONE c =
-    let e = c.context_answer-number.ensures in
-    rw (ne_eqb _ _ (λ z. c.if-number-ne-DONE.true (e ∙ z)), ← e) c.refused.ensures
+returns-in_err-context_answer c =
+    let e = c.in_err-context_answer.ensures in
+    let r : c.from_residual.result ≡ Err c.in_err-context_answer.field-0.0 = search rules in
+    rw (r, ne_eqb _ _ (refusal-some _ e)) (ap no_cursor e)
 
 pub returns : goal.returns
 unfolding context_cursor
-returns c = rw (eq-eqb _ _ (sym c.context_answer-number.ensures ∙ c.if-number-ne-DONE.false), c.read_u32.ensures)
+returns c = rw (eq-eqb _ _ (sym c.in_ok-context_answer.ensures), c.read_u32.ensures)

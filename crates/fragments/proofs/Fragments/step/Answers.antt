@@ -13,4 +13,4 @@ returns c =
     let kept = rw inner at c.next_kept.ensures in
     let over = rw inner at c.next_over.ensures in
     let waiting = rw inner at c.keep.ensures in
-    (rw (c.next_head-next.ensures, kept, c.next_seen.ensures, mode, over), waiting)
+    (rw (c.next_head.ensures, kept, c.next_seen.ensures, mode, over), waiting)

@@ -1,0 +1,10 @@
+-- `fields::write_u16`: the library's bytes of the number.
+use Prim.Native.Nat.{ℕ}
+use mathlib.Core.Path.{ap, ◌∙◌}
+use mathlib.Core.List.{List}
+use Rattle.fields.specs.Fields.{written}
+use Rattle.fields.proofs.Fields.{le-bytes_2}
+use Rattle.fields.proofs.write_u16.Goals as goal
+
+pub returns : goal.returns
+returns c = let a = c.args in c.copy.ensures ∙ ap (λ (l : List ℕ). written a.buf.now a.at l) (c.to_le_bytes.ensures ∙ le-bytes_2 a.n)
