@@ -1,72 +1,53 @@
 // The context in the object data of a custom reference.
 use contexts::{Context, Property};
-use kinds::answer;
-use print::{Buffer, pattern};
+use cursors::{Walk, properties};
+use print::{Braced, Buffer, Margin, dump};
+use std::io;
+use std::io::Write;
 
-pub fn report(out: &mut Buffer, s: &[u8], n: usize) {
-    let r = Context::read(s);
-    let context = r.context;
-    fixed(out, context, n);
-    properties(out, s, n);
+pub fn report(out: &mut Buffer, s: &[u8], n: usize) -> io::Result<()> {
+    if let Ok(context) = Context::read(s) {
+        fixed(out, context, Margin(n))?;
+    }
+    match properties::start(s) {
+        Ok(walk) => listed(out, s, walk, n),
+        Err(_) => Ok(()),
+    }
 }
 
 // The fields before the properties.
-fn fixed(out: &mut Buffer, c: Context, n: usize) {
-    let id = c.id;
-    pattern::lines(
-        out,
-        n,
-        b"context id: @\nreserved: 0x~\nmarshal flags: 0x~\nfrozen: #\nproperties: #\n",
-        &[
-            id.low,
-            id.high,
-            c.reserved as u64,
-            c.marshal as u64,
-            c.frozen as u64,
-            c.count as u64,
-        ],
-    );
+fn fixed(out: &mut Buffer, c: Context, margin: Margin) -> io::Result<()> {
+    writeln!(out, "{margin}context id: {}", Braced(c.id))?;
+    writeln!(out, "{margin}reserved: 0x{:08x}", c.reserved)?;
+    writeln!(out, "{margin}marshal flags: 0x{:08x}", c.marshal)?;
+    writeln!(out, "{margin}frozen: {}", c.frozen)?;
+    writeln!(out, "{margin}properties: {}", c.count)
 }
 
-// A property has at least 40 bytes, so that there are fewer than the bound.
-fn properties(out: &mut Buffer, s: &[u8], n: usize) {
-    let c = cursors::properties::start(s);
-    let mut at = c.at;
-    let mut left = c.left;
-    let mut k = 0;
-    while k < 65536 {
-        let r = cursors::properties::next(s, at, left);
-        if r.answer != answer::DONE {
-            return;
-        }
-        let property = r.property;
-        fields(out, property, k, n);
-        let from = r.from;
-        let to = r.to;
-        print::dump::content(out, &s[from..to], n);
-        at = to;
-        left = r.left;
-        k += 1;
+// The properties from where a walk begins, each with its data.
+fn listed(out: &mut Buffer, s: &[u8], first: Walk, n: usize) -> io::Result<()> {
+    let mut walk = first;
+    for k in 0..first.left {
+        let Ok((found, met)) = walk.property(s) else {
+            break;
+        };
+        walk = met.rest();
+        property(out, found, k, Margin(n))?;
+        dump::content(out, &s[met.place], n)?;
     }
+    Ok(())
 }
 
-fn fields(out: &mut Buffer, p: Property, k: usize, n: usize) {
-    let clsid = p.clsid;
-    let policy = p.policy;
-    pattern::lines(
+fn property(out: &mut Buffer, p: Property, k: usize, margin: Margin) -> io::Result<()> {
+    let class = Braced(p.clsid);
+    let policy = Braced(p.policy);
+    let flags = match p.flags {
+        Property::PROPAGATE => "1 (propagate)",
+        Property::EXPOSE => "2 (expose)",
+        _ => "4 (envoy)",
+    };
+    write!(
         out,
-        n,
-        b"property #: class @, policy @",
-        &[k as u64, clsid.low, clsid.high, policy.low, policy.high],
-    );
-    let flags = b", flags 4 (envoy), \n, flags 1 (propagate), \n, flags 2 (expose), \n";
-    print::text(out, pattern::line(flags, flags_line(p.flags)));
-}
-
-fn flags_line(f: u32) -> usize {
-    match f {
-        1 => 1,
-        2 => 2,
-        _ => 0,
-    }
+        "{margin}property {k}: class {class}, policy {policy}, flags {flags}, "
+    )
 }

@@ -1,24 +1,25 @@
 // The object data of a custom reference, and the data of an element.
 use crate::context;
 use kinds::Guid;
-use print::{Buffer, pattern};
+use print::{Braced, Buffer, Margin, dump};
+use std::io;
+use std::io::Write;
 
 // A context where the CLSID says so.
-pub fn object(out: &mut Buffer, clsid: Guid, s: &[u8], n: usize) {
+pub fn object(out: &mut Buffer, clsid: Guid, s: &[u8], n: usize) -> io::Result<()> {
     if contexts::is_marshaler(clsid) {
-        context::report(out, s, n);
-    } else {
-        pattern::named(out, n, b"object data: ");
-        print::dump::content(out, s, n);
+        return context::report(out, s, n);
     }
+    write!(out, "{}object data: ", Margin(n))?;
+    dump::content(out, s, n)
 }
 
 // Data that is a reference is printed by itself.
-pub fn element(out: &mut Buffer, id: Guid, s: &[u8], n: usize) {
-    pattern::lines(out, n, b"element 0: @, ", &[id.low, id.high]);
+pub fn element(out: &mut Buffer, id: Guid, s: &[u8], n: usize) -> io::Result<()> {
+    write!(out, "{}element 0: {}, ", Margin(n), Braced(id))?;
     if elements::is_reference(s) {
-        pattern::filled(out, b"# bytes, a reference:\n", &[s.len() as u64]);
+        writeln!(out, "{} bytes, a reference:", s.len())
     } else {
-        print::dump::content(out, s, n);
+        dump::content(out, s, n)
     }
 }

@@ -2,85 +2,74 @@
 // further in.
 #![tactic(auto)]
 
-use kinds::answer;
-use print::Buffer;
+use kinds::Refusal;
+use print::{Buffer, input};
 use references::Reference;
 use std::io;
+use std::io::Write;
 
 mod context;
 mod data;
 mod form;
 
-fn main(rt: HostRuntime) -> io::Result<()> {
-    let mut input = [0u8; 65537];
-    whole(&rt, &mut input)
-}
+const LONGEST: usize = 65536;
 
 // Reads into a buffer that is one byte longer than a reference may be.
-fn whole(rt: &HostRuntime, input: &mut [u8]) -> io::Result<()> {
-    let n = print::input::read_full(&mut rt.stdin(), input)?;
+fn main(rt: HostRuntime) -> io::Result<()> {
+    let mut bytes = [0u8; LONGEST + 1];
+    let n = input::read_full(&mut rt.stdin(), &mut bytes)?;
     let mut out = Buffer::new(rt.stdout());
-    if 65536 < n {
-        print::text(&mut out, b"too long: more than 65,536 bytes\n");
+    if LONGEST < n {
+        writeln!(out, "too long: more than 65,536 bytes")?;
     } else {
-        report(&mut out, &input[..n]);
+        report(&mut out, &bytes[..n])?;
     }
-    print::flush(&mut out)
+    out.flush()
 }
 
-fn report(out: &mut Buffer, s: &[u8]) {
-    let number = references::reference_answer(s);
-    if number == answer::DONE {
-        nest(out, s, 0);
-    } else {
-        refused(out, number);
+fn report(out: &mut Buffer, s: &[u8]) -> io::Result<()> {
+    match references::reference_answer(s) {
+        Ok(_) => nest(out, s, 0),
+        Err(why) => writeln!(out, "refused {}{}", u32::from(why), reason(why)),
     }
 }
 
 // A reference at depth n, from 0, and the reference in its element.
-fn nest(out: &mut Buffer, s: &[u8], n: usize) {
+fn nest(out: &mut Buffer, s: &[u8], n: usize) -> io::Result<()> {
     if Reference::DEPTH <= n {
-        return;
+        return Ok(());
     }
-    single(out, s, n);
-    let x = references::element_data(s, 0);
-    if elements::is_reference(x) {
-        nest(out, x, n + 1);
+    if let Ok(reference) = Reference::read(s) {
+        single(out, reference, s, n)?;
     }
+    let data = references::element_data(s, 0);
+    if elements::is_reference(data) {
+        nest(out, data, n + 1)?;
+    }
+    Ok(())
 }
 
-fn single(out: &mut Buffer, s: &[u8], n: usize) {
-    let r = Reference::read(s);
-    let reference = r.reference;
-    form::fields(out, reference, n);
-    if reference.flags == Reference::CUSTOM {
-        let clsid = reference.clsid;
-        data::object(out, clsid, references::tail(s), n);
+fn single(out: &mut Buffer, r: Reference, s: &[u8], n: usize) -> io::Result<()> {
+    form::fields(out, r, n)?;
+    let rest = references::tail(s);
+    if r.flags == Reference::CUSTOM {
+        data::object(out, r.clsid, rest, n)?;
     } else {
-        print_bindings::parts(out, references::tail(s), n);
+        print_bindings::parts(out, rest, n)?;
     }
-    if reference.flags == Reference::EXTENDED {
-        let id = reference.element;
-        data::element(out, id, references::element_data(s, 0), n);
+    if r.flags == Reference::EXTENDED {
+        data::element(out, r.element, references::element_data(s, 0), n)?;
     }
+    Ok(())
 }
 
-fn refused(out: &mut Buffer, number: u32) {
-    print::pattern::filled(out, b"refused #", &[number as u64]);
-    let reasons =
-        b"\n: the bytes end before a field does\n: a layout rule is broken\n: references nested deeper than 8\n\
-        : an OXID, OID or IPID is zero\n";
-    print::text(out, print::pattern::line(reasons, reason(number)));
-    print::end_line(out);
-}
-
-// The line of the reason; 0 of a number that no reference is refused by.
-fn reason(number: u32) -> usize {
-    match number {
-        answer::SHORT => 1,
-        answer::LAYOUT => 2,
-        answer::TOO_DEEP => 3,
-        answer::NIL_IDENTIFIER => 4,
-        _ => 0,
+// Why, of each refusal of a reference.
+fn reason(why: Refusal) -> &'static str {
+    match why {
+        Refusal::Short => ": the bytes end before a field does",
+        Refusal::Layout => ": a layout rule is broken",
+        Refusal::TooDeep => ": references nested deeper than 8",
+        Refusal::NilIdentifier => ": an OXID, OID or IPID is zero",
+        _ => "",
     }
 }

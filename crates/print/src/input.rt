@@ -12,6 +12,7 @@ pub fn read_full<R: Read>(from: &mut R, into: &mut [u8]) -> io::Result<usize>
     ensures end { IfOk result (λ n. n < length into.new → IsAtEnd (R.remaining from.new)) }
 {
     let mut done = 0;
+    // A walk: each step is as long as what a read gives.
     while done < into.len() {
         let n = from.read(&mut into[done..])?;
         if n == 0 {

@@ -1,39 +1,21 @@
 // Text in words of 16 bits.
-use crate::Buffer;
+use std::fmt;
 
-// The words of s from word number first up to a zero word.
-pub fn text(out: &mut Buffer, s: &[u8], first: usize) {
-    let mut i = first;
-    while i < s.len() / 2 {
-        let w = fields::read_u16(s, 2 * i);
-        if w == 0 {
-            return;
+// The words of bytes from a word number up to a zero word: a printable ASCII character as it is, a backslash doubled, any other unit
+// as \uXXXX.
+#[derive(Clone, Copy)]
+pub struct Words<'a>(pub &'a [u8], pub usize);
+
+impl fmt::Display for Words<'_> {
+    fn fmt<W: fmt::Write>(&self, f: &mut fmt::Formatter<W>) -> fmt::Result {
+        for word in self.0.chunks_exact(2).skip(self.1) {
+            match fields::read_u16(word, 0) {
+                0 => break,
+                0x5C => f.write_str("\\\\")?,
+                unit @ 0x20..=0x7E => write!(f, "{}", char::from(unit as u8))?,
+                unit => write!(f, "\\u{unit:04x}")?,
+            }
         }
-        unit(out, w);
-        i += 1;
+        Ok(())
     }
-}
-
-// A printable ASCII character as it is, a backslash doubled, any other unit as \uXXXX.
-fn unit(out: &mut Buffer, w: u16) {
-    if w == 0x5C {
-        crate::text(out, b"\\\\");
-    } else if is_printable(w) {
-        character(out, w);
-    } else {
-        crate::text(out, b"\\u");
-        crate::hex(out, w as u64, 4);
-    }
-}
-
-fn is_printable(w: u16) -> bool {
-    if w < 0x20 {
-        return false;
-    }
-    w < 0x7F
-}
-
-fn character(out: &mut Buffer, w: u16) {
-    let c = [(w % 128) as u8];
-    crate::text(out, &c);
 }

@@ -2,110 +2,80 @@
 #![tactic(auto)]
 
 use bindings::Part;
-use cursors::parts;
-use kinds::answer;
-use print::{Buffer, pattern, words};
+use cursors::{Walk, parts};
+use print::words::Words;
+use print::{Buffer, Margin};
+use std::io;
+use std::io::Write;
 
 // The list's N and S (document 01), then its bindings.
-pub fn parts(out: &mut Buffer, s: &[u8], n: usize) {
-    pattern::lines(
-        out,
-        n,
-        b"binding list: N #, S #\n",
-        &[fields::read_u16(s, 0) as u64, fields::read_u16(s, 2) as u64],
-    );
-    part(out, s, Part::Strings, n);
-    part(out, s, Part::Security, n);
+pub fn parts(out: &mut Buffer, s: &[u8], n: usize) -> io::Result<()> {
+    let count = fields::read_u16(s, 0);
+    let security = fields::read_u16(s, 2);
+    writeln!(out, "{}binding list: N {count}, S {security}", Margin(n))?;
+    part(out, s, Part::Strings, n)?;
+    part(out, s, Part::Security, n)
 }
 
-// A line for each binding of a part, or one that says that there is none.
-fn part(out: &mut Buffer, s: &[u8], p: Part, n: usize) {
-    let c = parts::start(s, p);
-    let first = parts::next(s, p, c.at, c.left);
-    if first.answer == answer::DONE {
-        all(out, s, p, c.at, c.left, n);
-    } else {
-        none(out, p, n);
+// A line for each binding of a part, or one that says that there is none. A binding has a word at least, so that a part has no more
+// bindings than words.
+fn part(out: &mut Buffer, s: &[u8], p: Part, n: usize) -> io::Result<()> {
+    let first = parts::start(s, p).unwrap_or(Walk { at: 0, left: 0 });
+    let mut walk = first;
+    for k in 0..first.left {
+        let Ok(met) = walk.binding(s, p) else {
+            break;
+        };
+        walk = met.rest();
+        binding(out, p, k, &s[met.place], n)?;
     }
+    if walk.at == first.at {
+        writeln!(out, "{}{} bindings: none", Margin(n), kind(p))?;
+    }
+    Ok(())
 }
 
-fn none(out: &mut Buffer, p: Part, n: usize) {
+fn kind(p: Part) -> &'static str {
     match p {
-        Part::Strings => pattern::named(out, n, b"string bindings: none\n"),
-        Part::Security => pattern::named(out, n, b"security bindings: none\n"),
+        Part::Strings => "string",
+        Part::Security => "security",
     }
 }
 
-// The bindings of a part from at on. A list has at most 65,535 words, so it has fewer bindings than the bound.
-fn all(out: &mut Buffer, s: &[u8], p: Part, at: usize, words: usize, n: usize) {
-    let mut i = at;
-    let mut left = words;
-    let mut k = 0;
-    while k < 65536 {
-        let b = parts::next(s, p, i, left);
-        if b.answer != answer::DONE {
-            return;
+// Binding k of its part.
+fn binding(out: &mut Buffer, p: Part, k: usize, b: &[u8], n: usize) -> io::Result<()> {
+    let margin = Margin(n);
+    let first = fields::read_u16(b, 0);
+    write!(out, "{margin}{} binding {k}: ", kind(p))?;
+    match p {
+        Part::Strings => writeln!(
+            out,
+            "tower {first} ({}), address {}",
+            protocol(first),
+            Words(b, 1)
+        ),
+        Part::Security => {
+            let second = fields::read_u16(b, 2);
+            let name = Words(b, 2);
+            writeln!(
+                out,
+                "service {first} (0x{first:04x}), second word 0x{second:04x}, principal name {name}"
+            )
         }
-        let from = b.from;
-        let to = b.to;
-        binding(out, p, k, &s[from..to], n);
-        i = to;
-        left = b.left;
-        k += 1;
     }
-}
-
-fn binding(out: &mut Buffer, p: Part, k: usize, b: &[u8], n: usize) {
-    match p {
-        Part::Strings => string_binding(out, k, b, n),
-        Part::Security => security_binding(out, k, b, n),
-    }
-}
-
-fn string_binding(out: &mut Buffer, k: usize, b: &[u8], n: usize) {
-    let tower = fields::read_u16(b, 0);
-    pattern::lines(
-        out,
-        n,
-        b"string binding #: tower # (",
-        &[k as u64, tower as u64],
-    );
-    protocol(out, tower);
-    print::text(out, b"), address ");
-    words::text(out, b, 1);
-    print::end_line(out);
-}
-
-fn security_binding(out: &mut Buffer, k: usize, b: &[u8], n: usize) {
-    let service = fields::read_u16(b, 0) as u64;
-    pattern::lines(
-        out,
-        n,
-        b"security binding #: service # (0x^), second word 0x^, principal name ",
-        &[k as u64, service, service, fields::read_u16(b, 2) as u64],
-    );
-    words::text(out, b, 2);
-    print::end_line(out);
 }
 
 // The protocol of a tower number (document 001, section 3.2).
-fn protocol(out: &mut Buffer, tower: u16) {
-    let names =
-        b"unknown\nncacn_dnet_nsp\nncacn_ip_tcp\nncadg_ip_udp\nncacn_spx\nncacn_nb_ipx\nncadg_ipx\nncalrpc\nncacn_nb_nb\n";
-    print::text(out, pattern::line(names, protocol_line(tower)));
-}
-
-// The line of its name.
-fn protocol_line(tower: u16) -> usize {
+fn protocol(tower: u16) -> &'static str {
     match tower {
-        0x04 => 1,
-        0x07 => 2,
-        0x08 => 3,
-        0x0C => 4,
-        0x0D => 5,
-        0x0E => 6,
-        0x10 => 7,
-        0x12 => 8,
-        _ => 0,
+        0x04 => "ncacn_dnet_nsp",
+        0x07 => "ncacn_ip_tcp",
+        0x08 => "ncadg_ip_udp",
+        0x0C => "ncacn_spx",
+        0x0D => "ncacn_nb_ipx",
+        0x0E => "ncadg_ipx",
+        0x10 => "ncalrpc",
+        0x12 => "ncacn_nb_nb",
+        _ => "unknown",
     }
 }

@@ -3,60 +3,49 @@
 #![tactic(auto)]
 
 use kinds::{answer, limits};
-use print::Buffer;
+use print::{Buffer, input};
 use replay_rules::Outcome;
 use std::io;
+use std::io::Write;
 use tally::Tally;
 
 mod record;
 
+const LONGEST: usize = 1048576;
+
 fn main(rt: HostRuntime) -> io::Result<()> {
-    let mut input = [0u8; 1048577];
-    whole(&rt, &mut input)
+    let mut bytes = [0u8; 1048577];
+    whole(&rt, &mut bytes)
 }
 
-// The buffer is one byte longer than a recording may be here.
-fn whole(rt: &HostRuntime, input: &mut [u8; 1048577]) -> io::Result<()> {
-    read(rt, input)
+// The buffer is one byte longer than a recording may be here. Main, this and what reads are three: the check does not get through what is
+// done with an array of this size.
+fn whole(rt: &HostRuntime, bytes: &mut [u8; 1048577]) -> io::Result<()> {
+    read(rt, bytes)
 }
 
-fn read(rt: &HostRuntime, input: &mut [u8]) -> io::Result<()> {
-    let n = print::input::read_full(&mut rt.stdin(), input)?;
-    if 1048576 < n {
-        return too_long(rt);
+fn read(rt: &HostRuntime, bytes: &mut [u8]) -> io::Result<()> {
+    let n = input::read_full(&mut rt.stdin(), bytes)?;
+    let mut out = Buffer::new(rt.stdout());
+    if LONGEST < n {
+        writeln!(out, "too long: more than 1,048,576 bytes")?;
+    } else {
+        replayed(&mut out, &mut bytes[..n])?;
     }
-    report(rt, &mut input[..n])
+    out.flush()
 }
 
-fn too_long(rt: &HostRuntime) -> io::Result<()> {
-    let mut out = Buffer::new(rt.stdout());
-    print::text(&mut out, b"too long: more than 1,048,576 bytes\n");
-    print::flush(&mut out)
-}
-
-fn report(rt: &HostRuntime, s: &mut [u8]) -> io::Result<()> {
-    let mut out = Buffer::new(rt.stdout());
-    replayed(&mut out, s);
-    print::flush(&mut out)
-}
-
-fn replayed(out: &mut Buffer, s: &mut [u8]) {
+fn replayed(out: &mut Buffer, s: &mut [u8]) -> io::Result<()> {
     let r = outcome(s);
     if r.answer != answer::DONE {
-        refused(out, r.answer);
-        return;
+        return writeln!(out, "refused {}{}", r.answer, reason(r.answer));
     }
-    compared(out, s, r.differs);
-    tallied(out, r.tally);
-}
-
-// Record k differs, from 1, or none where it is 0.
-fn compared(out: &mut Buffer, s: &mut [u8], k: u32) {
-    if k == 0 {
-        print::text(out, b"agrees\n");
-        return;
+    // The number of the record that differs, from 1; none where it is 0.
+    match r.differs {
+        0 => writeln!(out, "agrees")?,
+        k => record::differing(out, s, k)?,
     }
-    record::differing(out, s, k);
+    tallied(out, r.tally)
 }
 
 fn outcome(s: &[u8]) -> Outcome {
@@ -66,34 +55,22 @@ fn outcome(s: &[u8]) -> Outcome {
 }
 
 // What is held is the rest of what was granted.
-fn tallied(out: &mut Buffer, t: Tally) {
-    let gone = std::num::wrapping_add_u64(t.taken, t.rundown);
-    print::pattern::filled(
+fn tallied(out: &mut Buffer, t: Tally) -> io::Result<()> {
+    let held = t.granted.wrapping_sub(t.taken).wrapping_sub(t.rundown);
+    writeln!(
         out,
-        b"granted #, taken #, run down #, held #\n",
-        &[
-            t.granted,
-            t.taken,
-            t.rundown,
-            std::num::wrapping_sub_u64(t.granted, gone),
-        ],
-    );
+        "granted {}, taken {}, run down {}, held {held}",
+        t.granted, t.taken, t.rundown
+    )
 }
 
-fn refused(out: &mut Buffer, number: u32) {
-    print::pattern::filled(out, b"refused #", &[number as u64]);
-    let reasons = b"\n: the bytes end before a number or a section does\n\
-        : a record is not in the form of its call, or bytes stand behind the last one\n: more than 16,384 records\n";
-    print::text(out, print::pattern::line(reasons, reason(number)));
-    print::end_line(out);
-}
-
-// The line of the reason; 0 of a number that no recording is refused by.
-fn reason(number: u32) -> usize {
+// Why, of each number that a recording is refused by.
+fn reason(number: u32) -> &'static str {
     match number {
-        answer::SHORT => 1,
-        answer::LAYOUT => 2,
-        answer::TOO_MANY => 3,
-        _ => 0,
+        answer::SHORT => ": the bytes end before a number or a section does",
+        answer::LAYOUT =>
+            ": a record is not in the form of its call, or bytes stand behind the last one",
+        answer::TOO_MANY => ": more than 16,384 records",
+        _ => "",
     }
 }

@@ -1,163 +1,197 @@
-// A record as text: its call and its answer are a line for each code, in which marks stand for the numbers.
+// A record as text: its call and its answer, in the words of its code.
 #![tactic(auto)]
 
-use print::Buffer;
+ghost use Rattle.std.specs.Prelude.{◌≤◌};
+
+use fields::{read_guid, read_u16, read_u32, read_u64};
+use kinds::Guid;
+use print::{Braced, Buffer, dump};
+use std::io;
+use std::io::Write;
 
 // Record k of a recording, from 1, which differs: its call and what was recorded. Where it begins.
-pub fn differing(out: &mut Buffer, s: &[u8], k: u32) -> usize {
-    let at = place(s, k);
-    print::pattern::filled(out, b"record # differs\n", &[k as u64]);
-    record(out, s, at);
-    at
+pub fn differing(out: &mut Buffer, s: &[u8], k: u32) -> io::Result<usize> {
+    let at = (1..k).fold(8, |at, _| recording::record_ends(s, at).shown);
+    writeln!(out, "record {k} differs")?;
+    record(out, s, at)?;
+    Ok(at)
 }
 
-// Where record k begins.
-fn place(s: &[u8], k: u32) -> usize {
-    let mut at = 8;
-    let mut i = 1;
-    while i < k {
-        let e = recording::record_ends(s, at);
-        at = e.shown;
-        i += 1;
-    }
-    at
-}
-
-fn record(out: &mut Buffer, s: &[u8], at: usize) {
+fn record(out: &mut Buffer, s: &[u8], at: usize) -> io::Result<()> {
     let e = recording::record_ends(s, at);
     let c = section(s, at, e.call);
-    call(out, c);
-    listed(out, b"  list: ", section(s, e.call, e.first));
-    listed(out, b"  deletes: ", section(s, e.first, e.second));
-    recorded(
-        out,
-        recording::byte(c, 0),
-        section(s, e.second, e.answer),
-        section(s, e.answer, e.shown),
-    );
+    let code = recording::byte(c, 0);
+    write!(out, "call: ")?;
+    call(out, code, c)?;
+    writeln!(out)?;
+    listed(out, "list", section(s, e.call, e.first))?;
+    listed(out, "deletes", section(s, e.first, e.second))?;
+    write!(out, "recorded: ")?;
+    let numbers = recorded(section(s, e.second, e.answer));
+    answered(out, code, &numbers, section(s, e.answer, e.shown))
 }
 
-// The bytes of the section that ends there, after one that ends at from.
+// The bytes of the section that ends there, after one that ends at from: behind the eight bytes of their number.
 pub fn section(s: &[u8], from: usize, to: usize) -> &[u8] {
-    if s.len() < to {
-        return &s[..0];
-    }
-    if to < from {
-        return &s[..0];
-    }
-    if to - from < 8 {
-        return &s[..0];
-    }
-    &s[from + 8..to]
+    s.get(from..to).and_then(|x| x.get(8..)).unwrap_or(&[])
 }
 
 // The call of a section: its name and its numbers.
-fn call(out: &mut Buffer, s: &[u8]) {
-    let from = fields::within(s, 1);
-    let lines = b"reset, time #\n\
-        enter exporter, OXID 0x*, remote unknown @\n\
-        remove exporter, OXID 0x*\n\
-        enter object, OID 0x*, OXID 0x*, IPID @, IID @, public $, not pinged: !\n\
-        enter interface, OID 0x*, IPID @, IID @, public $\n\
-        add, client $, IPID @, public $, private $\n\
-        release, client $, IPID @, public $, private $\n\
-        drop client $\n\
-        add list, client $, # bytes for results\n\
-        release list, client $, # bytes for results\n\
-        simple ping, set #\n\
-        complex ping, set #, sequence &\n\
-        clock, time #\n\
-        resolve, OXID 0x*, a buffer of # bytes\n\
-        resolve by protocols, OXID 0x*, a buffer of # bytes\n\
-        census\n\
-        members, set #\n\
-        next stop\n\
-        write snapshot, a buffer of # bytes\n\
-        load snapshot\n";
-    print::text(out, b"call: ");
-    print::pattern::told(
-        out,
-        print::pattern::line(lines, recording::byte(s, 0) as usize),
-        &s[from..],
-    );
-    print::end_line(out);
+fn call(out: &mut Buffer, code: u8, s: &[u8]) -> io::Result<()> {
+    let id = read_u64(s, 1);
+    match code {
+        0 => write!(out, "reset, time {id}"),
+        1 => write!(
+            out,
+            "enter exporter, OXID 0x{id:016x}, remote unknown {}",
+            Braced(read_guid(s, 9))
+        ),
+        2 => write!(out, "remove exporter, OXID 0x{id:016x}"),
+        3 => enter_object(out, s),
+        4 => enter_interface(out, s),
+        5 => counted(out, "add", s),
+        6 => counted(out, "release", s),
+        7 => write!(out, "drop client {}", read_u32(s, 1)),
+        8 => items(out, "add list", s),
+        9 => items(out, "release list", s),
+        10 => write!(out, "simple ping, set {id}"),
+        11 => write!(out, "complex ping, set {id}, sequence {}", read_u16(s, 9)),
+        12 => write!(out, "clock, time {id}"),
+        13 => resolve(out, "resolve", s),
+        14 => resolve(out, "resolve by protocols", s),
+        15 => write!(out, "census"),
+        16 => write!(out, "members, set {id}"),
+        17 => write!(out, "next stop"),
+        18 => write!(out, "write snapshot, a buffer of {id} bytes"),
+        19 => write!(out, "load snapshot"),
+        _ => Ok(()),
+    }
 }
 
-// The recorded answer of a call of this code.
-fn recorded(out: &mut Buffer, code: u8, s: &[u8], shown: &[u8]) {
-    answered(
+fn enter_object(out: &mut Buffer, s: &[u8]) -> io::Result<()> {
+    write!(
         out,
-        b"recorded: ",
-        code,
-        &[
-            fields::read_u64(s, 0),
-            fields::read_u64(s, 8),
-            fields::read_u64(s, 16),
-            fields::read_u64(s, 24),
-            fields::read_u64(s, 32),
-        ],
-        shown,
-    );
+        "enter object, OID 0x{:016x}, OXID 0x{:016x}, ",
+        read_u64(s, 1),
+        read_u64(s, 9)
+    )?;
+    interface(out, s, 17)?;
+    let unpinged = if fields::is_zero(s, 53, 1) {
+        "no"
+    } else {
+        "yes"
+    };
+    write!(out, ", not pinged: {unpinged}")
+}
+
+fn enter_interface(out: &mut Buffer, s: &[u8]) -> io::Result<()> {
+    write!(out, "enter interface, OID 0x{:016x}, ", read_u64(s, 1))?;
+    interface(out, s, 9)
+}
+
+// The numbers of an interface from byte at on.
+fn interface(out: &mut Buffer, s: &[u8], at: usize) -> io::Result<()>
+    requires { at ≤ 17 }
+{
+    let ipid = Braced(read_guid(s, at));
+    let iid = Braced(read_guid(s, at + 16));
+    write!(
+        out,
+        "IPID {ipid}, IID {iid}, public {}",
+        read_u32(s, at + 32)
+    )
+}
+
+fn counted(out: &mut Buffer, name: &str, s: &[u8]) -> io::Result<()> {
+    let client = read_u32(s, 1);
+    let ipid = Braced(read_guid(s, 5));
+    write!(
+        out,
+        "{name}, client {client}, IPID {ipid}, public {}, private {}",
+        read_u32(s, 21),
+        read_u32(s, 25)
+    )
+}
+
+fn items(out: &mut Buffer, name: &str, s: &[u8]) -> io::Result<()> {
+    write!(
+        out,
+        "{name}, client {}, {} bytes for results",
+        read_u32(s, 1),
+        read_u64(s, 5)
+    )
+}
+
+fn resolve(out: &mut Buffer, name: &str, s: &[u8]) -> io::Result<()> {
+    write!(
+        out,
+        "{name}, OXID 0x{:016x}, a buffer of {} bytes",
+        read_u64(s, 1),
+        read_u64(s, 9)
+    )
+}
+
+// The numbers of a recorded answer.
+fn recorded(s: &[u8]) -> [u64; 5] {
+    [0, 8, 16, 24, 32].map(|at| read_u64(s, at))
 }
 
 // Our answer, and where the bytes that it shows differ from those that were recorded.
-pub fn ours(out: &mut Buffer, code: u8, numbers: &[u64], shown: &[u8], recorded: &[u8]) {
-    answered(out, b"ours: ", code, numbers, shown);
-    let at = first_difference(recorded, shown);
-    if at != shown.len() {
-        differs_from(out, at);
-    } else if at != recorded.len() {
-        differs_from(out, at);
+pub fn ours(
+    out: &mut Buffer,
+    code: u8,
+    numbers: &[u64; 5],
+    shown: &[u8],
+    recorded: &[u8],
+) -> io::Result<()> {
+    write!(out, "ours: ")?;
+    answered(out, code, numbers, shown)?;
+    if shown != recorded {
+        let same = shown
+            .iter()
+            .zip(recorded)
+            .take_while(|(x, y)| x == y)
+            .count();
+        writeln!(out, "  the shown bytes differ from byte {same} on")?;
     }
+    Ok(())
 }
 
 // An answer: its number, its results and the bytes that it shows.
-fn answered(out: &mut Buffer, whose: &[u8], code: u8, numbers: &[u64], shown: &[u8]) {
-    let lines = b"#\n#\n#\n#\n#\n#\n\
-        #, taken public #, private #, interfaces that went #, objects #\n\
-        #\n#\n#\n#\n\
-        #, set #, backoff #\n\
-        #, exporters that went #, objects #, interfaces #, sets #\n\
-        #, length #, remote unknown @\n\
-        #, length #, remote unknown @\n\
-        #, exporters #, objects #, interfaces #, sets #\n\
-        #, members #\n\
-        #\n\
-        #, length #\n\
-        #\n";
-    print::text(out, whose);
-    print::pattern::filled(out, print::pattern::line(lines, code as usize), numbers);
-    print::end_line(out);
-    listed(out, b"  shown: ", shown);
-}
-
-fn differs_from(out: &mut Buffer, at: usize) {
-    print::pattern::filled(
-        out,
-        b"  the shown bytes differ from byte # on\n",
-        &[at as u64],
-    );
-}
-
-// The first byte in which two slices differ; the length of the shorter one where there is none.
-fn first_difference(a: &[u8], b: &[u8]) -> usize {
-    let mut i = 0;
-    while i < a.len() {
-        if b.len() <= i {
-            return i;
-        }
-        if a[i] != b[i] {
-            return i;
-        }
-        i += 1;
+fn answered(out: &mut Buffer, code: u8, numbers: &[u64; 5], shown: &[u8]) -> io::Result<()> {
+    let [number, a, b, c, d] = *numbers;
+    write!(out, "{number}")?;
+    match code {
+        6 => writeln!(
+            out,
+            ", taken public {a}, private {b}, interfaces that went {c}, objects {d}"
+        )?,
+        11 => writeln!(out, ", set {a}, backoff {b}")?,
+        12 => writeln!(
+            out,
+            ", exporters that went {a}, objects {b}, interfaces {c}, sets {d}"
+        )?,
+        13 | 14 => writeln!(
+            out,
+            ", length {a}, remote unknown {}",
+            Braced(Guid { low: b, high: c })
+        )?,
+        15 => writeln!(
+            out,
+            ", exporters {a}, objects {b}, interfaces {c}, sets {d}"
+        )?,
+        16 => writeln!(out, ", members {a}")?,
+        18 => writeln!(out, ", length {a}")?,
+        _ => writeln!(out)?,
     }
-    i
+    listed(out, "shown", shown)
 }
 
 // Bytes, if there are any.
-fn listed(out: &mut Buffer, what: &[u8], s: &[u8]) {
-    if s.len() != 0 {
-        print::text(out, what);
-        print::dump::content(out, s, 1);
+fn listed(out: &mut Buffer, what: &str, s: &[u8]) -> io::Result<()> {
+    if s.is_empty() {
+        return Ok(());
     }
+    write!(out, "  {what}: ")?;
+    dump::content(out, s, 1)
 }

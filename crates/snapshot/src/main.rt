@@ -2,46 +2,37 @@
 // exporters, objects, interfaces and ping sets, one to a line.
 #![tactic(auto)]
 
-use kinds::{answer, limits};
-use print::Buffer;
+use kinds::{Refusal, limits};
+use print::{Buffer, input};
 use std::io;
+use std::io::Write;
 
 mod rows;
 mod sections;
 
-fn main(rt: HostRuntime) -> io::Result<()> {
-    let mut input = [0u8; limits::LONGEST_SNAPSHOT + 1];
-    whole(&rt, &mut input)
-}
-
 // Reads into a buffer that is one byte longer than a snapshot may be.
-fn whole(rt: &HostRuntime, input: &mut [u8]) -> io::Result<()> {
-    let n = print::input::read_full(&mut rt.stdin(), input)?;
+fn main(rt: HostRuntime) -> io::Result<()> {
+    let mut bytes = [0u8; limits::LONGEST_SNAPSHOT + 1];
+    let n = input::read_full(&mut rt.stdin(), &mut bytes)?;
     let mut out = Buffer::new(rt.stdout());
-    report(&mut out, &input[..n]);
-    print::flush(&mut out)
+    report(&mut out, &bytes[..n])?;
+    out.flush()
 }
 
-fn report(out: &mut Buffer, s: &[u8]) {
-    let number = load(s);
-    if number == answer::DONE {
-        sections::print_all(out, s);
-    } else {
-        refused(out, number);
+fn report(out: &mut Buffer, s: &[u8]) -> io::Result<()> {
+    match load(s) {
+        Ok(()) => sections::print_all(out, s),
+        Err(why) => writeln!(
+            out,
+            "refused {}: the bytes are not the snapshot of any sound table",
+            u32::from(why)
+        ),
     }
 }
 
-// Whether the bytes are a snapshot: the number of a load into a table of our own.
-fn load(s: &[u8]) -> u32 {
+// Whether the bytes are a snapshot: a load into a table of our own.
+fn load(s: &[u8]) -> Result<(), Refusal> {
     let mut words = [0u64; limits::WORDS];
     let mut store = [0u8; limits::BYTES];
     call_load::load_snapshot(&mut words, &mut store, s)
-}
-
-fn refused(out: &mut Buffer, number: u32) {
-    print::pattern::filled(
-        out,
-        b"refused #: the bytes are not the snapshot of any sound table\n",
-        &[number as u64],
-    );
 }

@@ -1,8 +1,11 @@
 // A row of each section, at the front of bytes: it is printed, and its length is answered.
-use print::{Buffer, pattern};
+use fields::{read_guid, read_u16, read_u32, read_u64};
+use print::{Braced, Buffer};
 use snapshot_rows::Section;
+use std::io;
+use std::io::Write;
 
-pub fn row(out: &mut Buffer, section: Section, s: &[u8], clock: u64) -> usize {
+pub fn row(out: &mut Buffer, section: Section, s: &[u8], clock: u64) -> io::Result<usize> {
     match section {
         Section::Exporters => exporter(out, s),
         Section::Objects => object(out, s, clock),
@@ -11,80 +14,79 @@ pub fn row(out: &mut Buffer, section: Section, s: &[u8], clock: u64) -> usize {
     }
 }
 
-// A text with a mark for the seconds from a time to the clock.
-fn ago(out: &mut Buffer, what: &[u8], time: u64, clock: u64) {
-    if time <= clock {
-        pattern::filled(out, what, &[clock - time]);
+// The seconds from a time to the clock, and what was then.
+fn ago(out: &mut Buffer, what: &str, time: u64, clock: u64) -> io::Result<()> {
+    match clock.checked_sub(time) {
+        Some(seconds) => write!(out, ", {what} {seconds} seconds ago"),
+        None => Ok(()),
     }
 }
 
-fn exporter(out: &mut Buffer, s: &[u8]) -> usize {
-    pattern::told(out, b"  OXID 0x*, remote unknown @, list of & bytes\n", s);
-    let end = 26 + fields::read_u16(s, 24) as usize;
-    if end <= s.len() {
-        print_bindings::parts(out, &s[26..end], 2);
-    }
-    end
-}
-
-fn object(out: &mut Buffer, s: &[u8], clock: u64) -> usize {
-    pattern::told(out, b"  OID 0x*, exporter 0x*", s);
-    print::either(out, fields::is_zero(s, 16, 1), b", pinged", b", not pinged");
-    ago(
+fn exporter(out: &mut Buffer, s: &[u8]) -> io::Result<usize> {
+    let unknown = Braced(read_guid(s, 8));
+    let length = read_u16(s, 24);
+    writeln!(
         out,
-        b", heard # seconds ago",
-        fields::read_u64(s, 17),
-        clock,
-    );
-    print::end_line(out);
-    25
+        "  OXID 0x{:016x}, remote unknown {unknown}, list of {length} bytes",
+        read_u64(s, 0)
+    )?;
+    let end = 26 + length as usize;
+    if let Some(list) = s.get(26..end) {
+        print_bindings::parts(out, list, 2)?;
+    }
+    Ok(end)
 }
 
-fn interface(out: &mut Buffer, s: &[u8]) -> usize {
-    pattern::told(out, b"  IPID @, IID @, OID 0x*, public $", s);
-    privates(out, s);
-    print::end_line(out);
-    76
+fn object(out: &mut Buffer, s: &[u8], clock: u64) -> io::Result<usize> {
+    let pinged = if fields::is_zero(s, 16, 1) {
+        "pinged"
+    } else {
+        "not pinged"
+    };
+    write!(
+        out,
+        "  OID 0x{:016x}, exporter 0x{:016x}, {pinged}",
+        read_u64(s, 0),
+        read_u64(s, 8)
+    )?;
+    ago(out, "heard", read_u64(s, 17), clock)?;
+    writeln!(out)?;
+    Ok(25)
+}
+
+fn interface(out: &mut Buffer, s: &[u8]) -> io::Result<usize> {
+    let ipid = Braced(read_guid(s, 0));
+    let iid = Braced(read_guid(s, 16));
+    let oid = read_u64(s, 32);
+    write!(
+        out,
+        "  IPID {ipid}, IID {iid}, OID 0x{oid:016x}, public {}",
+        read_u32(s, 40)
+    )?;
+    privates(out, s)?;
+    writeln!(out)?;
+    Ok(76)
 }
 
 // The private references of each client that has some.
-fn privates(out: &mut Buffer, s: &[u8]) {
-    let mut client = 0;
-    while client < 8 {
-        private(out, client, fields::read_u32(s, 44 + 4 * client));
-        client += 1;
+fn privates(out: &mut Buffer, s: &[u8]) -> io::Result<()> {
+    for client in 0..8 {
+        let n = read_u32(s, 44 + 4 * client);
+        if n != 0 {
+            write!(out, ", client {client} private {n}")?;
+        }
     }
+    Ok(())
 }
 
-fn private(out: &mut Buffer, client: usize, n: u32) {
-    if n != 0 {
-        pattern::filled(out, b", client # private #", &[client as u64, n as u64]);
+// A set, and a line for each member.
+fn set(out: &mut Buffer, s: &[u8], clock: u64) -> io::Result<usize> {
+    let members = read_u16(s, 18) as usize;
+    write!(out, "  set {}, sequence {}", read_u64(s, 0), read_u16(s, 8))?;
+    ago(out, "pinged", read_u64(s, 10), clock)?;
+    writeln!(out, ", members {members}")?;
+    for k in 0..members {
+        writeln!(out, "    OID 0x{:016x}", read_u64(s, 20 + 8 * k))?;
     }
-}
-
-fn set(out: &mut Buffer, s: &[u8], clock: u64) -> usize {
-    let n = fields::read_u16(s, 18);
-    pattern::told(out, b"  set #, sequence &", s);
-    ago(
-        out,
-        b", pinged # seconds ago",
-        fields::read_u64(s, 10),
-        clock,
-    );
-    pattern::filled(out, b", members #\n", &[n as u64]);
-    members(out, s, n);
-    20 + 8 * n as usize
-}
-
-// A line for each member.
-fn members(out: &mut Buffer, s: &[u8], n: u16) {
-    let mut k = 0;
-    while k < n {
-        member(out, fields::read_u64(s, 20 + 8 * k as usize));
-        k += 1;
-    }
-}
-
-fn member(out: &mut Buffer, oid: u64) {
-    pattern::filled(out, b"    OID 0x*\n", &[oid]);
+    Ok(20 + 8 * members)
 }

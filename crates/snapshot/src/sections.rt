@@ -1,45 +1,40 @@
 // The sections of a snapshot, one after the other. Each begins with its count, of two bytes.
-ghost use Rattle.std.specs.Prelude.{◌≤◌, length};
-
 use crate::rows;
-use print::{Buffer, pattern};
+use print::Buffer;
 use snapshot_rows::Section;
+use std::io;
+use std::io::Write;
 
-pub fn print_all(out: &mut Buffer, s: &[u8]) {
+pub fn print_all(out: &mut Buffer, s: &[u8]) -> io::Result<()> {
     let clock = fields::read_u64(s, 2);
-    let from = fields::within(s, 2);
-    pattern::told(out, b"clock: # seconds\nnext set: #\n", &s[from..]);
-    let mut at = fields::within(s, 18);
-    at = print_section(out, b"exporters: #\n", s, at, Section::Exporters, clock);
-    at = print_section(out, b"objects: #\n", s, at, Section::Objects, clock);
-    at = print_section(out, b"interfaces: #\n", s, at, Section::Interfaces, clock);
-    print_section(out, b"sets: #\n", s, at, Section::Sets, clock);
+    writeln!(out, "clock: {clock} seconds")?;
+    writeln!(out, "next set: {}", fields::read_u64(s, 10))?;
+    let exporters = behind(s, 18);
+    let objects = section(out, "exporters", exporters, Section::Exporters, clock)?;
+    let interfaces = section(out, "objects", objects, Section::Objects, clock)?;
+    let sets = section(out, "interfaces", interfaces, Section::Interfaces, clock)?;
+    section(out, "sets", sets, Section::Sets, clock)?;
+    Ok(())
 }
 
-// The number of entries of the section at a place, and the entries; where it ends.
-fn print_section(
+// The number of entries of the section at the front of bytes, and the entries; the bytes behind it.
+fn section<'a>(
     out: &mut Buffer,
-    what: &[u8],
-    s: &[u8],
-    from: usize,
-    section: Section,
+    name: &str,
+    s: &'a [u8],
+    kind: Section,
     clock: u64,
-) -> usize
-    requires { from ≤ length s.now }
-    ensures { result ≤ length s.now }
-{
-    let n = fields::read_u16(s, from);
-    heading(out, what, n);
-    let mut at = from + fields::within(&s[from..], 2);
-    let mut i = 0;
-    while i < n {
-        let rest = &s[at..];
-        at += fields::within(rest, rows::row(out, section, rest, clock));
-        i += 1;
+) -> io::Result<&'a [u8]> {
+    let n = fields::read_u16(s, 0);
+    writeln!(out, "{name}: {n}")?;
+    let mut rest = behind(s, 2);
+    for _ in 0..n {
+        rest = behind(rest, rows::row(out, kind, rest, clock)?);
     }
-    at
+    Ok(rest)
 }
 
-fn heading(out: &mut Buffer, what: &[u8], n: u16) {
-    pattern::filled(out, what, &[n as u64]);
+// The bytes behind the first n; none where they are not as many.
+fn behind(s: &[u8], n: usize) -> &[u8] {
+    s.get(n..).unwrap_or(&[])
 }

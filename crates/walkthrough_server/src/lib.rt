@@ -3,10 +3,13 @@
 
 pub mod say;
 
+use fields::Written;
 use kinds::{Guid, Oid, Oxid, limits};
 use print::Buffer;
 use recorder::Log;
 use references::{Block, Reference};
+use resolver::LiveCounts;
+use std::io;
 
 // The table's words, and the bytes that it stores.
 pub type Words = [u64; limits::WORDS];
@@ -57,31 +60,40 @@ pub const SNAPSHOT: usize = 225;
 pub const OPENED: u64 = 42720;
 
 // Registers at eight minutes to noon.
-pub fn open(out: &mut Buffer, log: &mut Log, words: &mut Words, store: &mut Store) {
-    reset(out, log, words, store);
-    register(out, log, words, store);
+pub fn open(
+    out: &mut Buffer,
+    log: &mut Log,
+    words: &mut Words,
+    store: &mut Store,
+) -> io::Result<()> {
+    reset(out, log, words, store)?;
+    let mut list = [0u8; 44];
+    // The list is as long as its binding, so it is not refused.
+    let _ = list_writer::write(&EXPORTER, &[], &mut list);
+    register(out, log, words, store, &list)
 }
 
-fn reset(out: &mut Buffer, log: &mut Log, words: &mut Words, store: &Store) {
-    let number = resolver::reset(words, store, OPENED);
+fn reset(out: &mut Buffer, log: &mut Log, words: &mut Words, store: &Store) -> io::Result<()> {
+    let number = kinds::number(resolver::reset(words, store, OPENED));
     recorder::reset(log, OPENED, number);
-    say::done(
+    say::step(
         out,
         number,
-        b"server: resets its table at eight minutes to noon",
-    );
+        "server: resets its table at eight minutes to noon",
+    )
 }
 
-fn register(out: &mut Buffer, log: &mut Log, words: &mut Words, store: &mut Store) {
-    let mut list = [0u8; 44];
-    list_writer::write(&EXPORTER, &[], &mut list);
-    register_at(out, log, words, store, &list);
-}
-
-fn register_at(out: &mut Buffer, log: &mut Log, words: &mut Words, store: &mut Store, list: &[u8]) {
-    let number = resolver::enter_exporter(words, store, OXID, UNKNOWN, list);
+fn register(
+    out: &mut Buffer,
+    log: &mut Log,
+    words: &mut Words,
+    store: &mut Store,
+    list: &[u8],
+) -> io::Result<()> {
+    let entered = resolver::enter_exporter(words, store, OXID, UNKNOWN, list);
+    let number = kinds::number(entered);
     recorder::enter_exporter(log, OXID, UNKNOWN, list, number);
-    say::done(out, number, b"server: registers as exporter");
+    say::step(out, number, "server: registers as exporter")
 }
 
 // Enters the group and writes its reference, which carries the resolver's address (MS-DCOM, sections 2.2.18.4 and 2.2.19.3).
@@ -91,47 +103,54 @@ pub fn offer(
     words: &mut Words,
     store: &Store,
     reference: &mut [u8; REFERENCE],
-) {
-    enter(out, log, words, store);
-    write(out, reference);
+) -> io::Result<()> {
+    enter(out, log, words, store)?;
+    let mut list = [0u8; 30];
+    // The list is as long as its binding, so it is not refused.
+    let _ = list_writer::write(&RESOLVER, &[], &mut list);
+    write(out, &list, reference)
 }
 
-fn enter(out: &mut Buffer, log: &mut Log, words: &mut Words, store: &Store) {
-    let number = resolver::enter_object(words, store, OID, OXID, IPID, IID, 5, false);
+fn enter(out: &mut Buffer, log: &mut Log, words: &mut Words, store: &Store) -> io::Result<()> {
+    let entered = resolver::enter_object(words, store, OID, OXID, IPID, IID, 5, false);
+    let number = kinds::number(entered);
     recorder::enter_object(log, OID, OXID, IPID, IID, 5, number);
-    say::done(
+    say::step(
         out,
         number,
-        b"server: enters the tank level group with 5 public references",
-    );
+        "server: enters the tank level group with 5 public references",
+    )
 }
 
-fn write(out: &mut Buffer, reference: &mut [u8; REFERENCE]) {
-    let mut list = [0u8; 30];
-    list_writer::write(&RESOLVER, &[], &mut list);
-    write_with(out, &list, reference);
-}
-
-fn write_with(out: &mut Buffer, list: &[u8], reference: &mut [u8; REFERENCE]) {
-    let r = reference_writer::write(Reference::standard(IID, block()), list, b"", reference);
-    say::results(
+fn write(out: &mut Buffer, list: &[u8], reference: &mut [u8; REFERENCE]) -> io::Result<()> {
+    let r = Reference::standard(IID, block());
+    let written = reference_writer::write(r, list, b"", reference);
+    let n = written.unwrap_or(0);
+    say::step(
         out,
-        r.answer,
-        b"server: writes the reference, # bytes\n",
-        &[r.length as u64],
-    );
+        kinds::number(written),
+        format_args!("server: writes the reference, {n} bytes"),
+    )
 }
 
 // The snapshot of the box that goes.
-pub fn save(out: &mut Buffer, log: &mut Log, words: &Words, store: &Store, snapshot: &mut [u8]) {
-    let r = resolver::write_snapshot(words, store, snapshot);
+pub fn save(
+    out: &mut Buffer,
+    log: &mut Log,
+    words: &Words,
+    store: &Store,
+    snapshot: &mut [u8],
+) -> io::Result<()> {
+    let r = Written::from(resolver::write_snapshot(words, store, snapshot));
     recorder::write_snapshot(log, r.answer, snapshot, r.length);
-    say::results(
+    say::step(
         out,
         r.answer,
-        b"server: writes a snapshot of its table at noon, # bytes\n",
-        &[r.length as u64],
-    );
+        format_args!(
+            "server: writes a snapshot of its table at noon, {} bytes",
+            r.length
+        ),
+    )
 }
 
 // The box that comes; the clock from which it goes on by the seconds that pass there: the snapshot's, not its own.
@@ -141,50 +160,57 @@ pub fn take_over(
     words: &mut Words,
     store: &mut Store,
     snapshot: &[u8],
-) -> u64 {
-    let number = resolver::load_snapshot(words, store, snapshot);
+) -> io::Result<u64> {
+    let number = kinds::number(resolver::load_snapshot(words, store, snapshot));
     recorder::load_snapshot(log, snapshot, number);
-    say::done(
+    say::step(
         out,
         number,
-        b"server: loads it into another box, which takes over",
-    );
-    fields::read_u64(snapshot, 2)
+        "server: loads it into another box, which takes over",
+    )?;
+    Ok(fields::read_u64(snapshot, 2))
 }
 
 // Drops a client that was lost.
-pub fn drop_client(out: &mut Buffer, log: &mut Log, words: &mut Words, store: &Store) {
-    let number = resolver::drop_client(words, store, 1);
+pub fn drop_client(
+    out: &mut Buffer,
+    log: &mut Log,
+    words: &mut Words,
+    store: &Store,
+) -> io::Result<()> {
+    let number = kinds::number(resolver::drop_client(words, store, 1));
     recorder::drop_client(log, 1, number);
-    say::done(
+    say::step(
         out,
         number,
-        b"server: drops the private references of client 1",
-    );
+        "server: drops the private references of client 1",
+    )
 }
 
 // Leaves.
-pub fn close(out: &mut Buffer, log: &mut Log, words: &mut Words, store: &mut Store) {
-    let number = resolver::remove_exporter(words, store, OXID);
+pub fn close(
+    out: &mut Buffer,
+    log: &mut Log,
+    words: &mut Words,
+    store: &mut Store,
+) -> io::Result<()> {
+    let number = kinds::number(resolver::remove_exporter(words, store, OXID));
     recorder::remove_exporter(log, OXID, number);
-    say::done(out, number, b"server: leaves");
+    say::step(out, number, "server: leaves")
 }
 
 // What is live.
-pub fn census(out: &mut Buffer, log: &mut Log, words: &Words, store: &Store) {
-    let r = resolver::census(words, store);
-    let results = [
-        r.answer as u64,
-        r.exporters as u64,
-        r.objects as u64,
-        r.interfaces as u64,
-        r.sets as u64,
-    ];
-    recorder::census(log, &results);
-    say::results(
-        out,
-        r.answer,
-        b"server: census, # exporters, # objects, # interfaces, # sets\n",
-        &results[1..5],
+pub fn census(out: &mut Buffer, log: &mut Log, words: &Words, store: &Store) -> io::Result<()> {
+    let r = LiveCounts::from(resolver::census(words, store));
+    let [exporters, objects, interfaces, sets] = [r.exporters, r.objects, r.interfaces, r.sets].map(
+        |n| n as u64,
     );
+    recorder::census(
+        log,
+        &[r.answer as u64, exporters, objects, interfaces, sets],
+    );
+    let what = format_args!(
+        "server: census, {exporters} exporters, {objects} objects, {interfaces} interfaces, {sets} sets"
+    );
+    say::step(out, r.answer, what)
 }

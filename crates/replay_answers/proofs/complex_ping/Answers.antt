@@ -2,5 +2,5 @@
 use Rattle.table_view.proofs.Steps.{sound-table}
 use Rattle.replay_answers.proofs.complex_ping.Goals as goal
 
-pub complex_ping_bytes_step-r-requires : goal.complex_ping_bytes_step-r-requires
-complex_ping_bytes_step-r-requires c = search sound-table
+pub complex_ping_bytes_step-requires : goal.complex_ping_bytes_step-requires
+complex_ping_bytes_step-requires c = search sound-table

@@ -1,9 +1,0 @@
--- `end`: the records that were passed are counted up.
-use Rattle.std.proofs.Common.{◌-◌}
-use Rattle.recorder.proofs.end.Given as goal
-
-abbrev pub invariant-loop-k : goal.invariant-loop-k
-invariant-loop-k l = Unit {0}
-
-abbrev pub decreases-loop-k : goal.decreases-loop-k
-decreases-loop-k l = l.n - l.k

@@ -1,9 +1,0 @@
--- `rows::members`: the members are counted up.
-use Prim.Native.Nat.{◌-◌}
-use Rattle.snapshot.proofs.rows.members.Given as goal
-
-abbrev pub invariant-loop-k : goal.invariant-loop-k
-invariant-loop-k l = Unit {0}
-
-abbrev pub decreases-loop-k : goal.decreases-loop-k
-decreases-loop-k l = l.n - l.k
