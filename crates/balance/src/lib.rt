@@ -15,11 +15,8 @@ fn held_at(words: &[u64], i: usize) -> u64
     ensures { (result ≡ total (get_or (interfaces_of words.now) i no_interface).counts) × (result ≤ 9 * 2 ^ 32) }
 {
     let mut sum = 0;
-    let mut k = 0;
-    while k < 9 {
-        let n = find::count(words, i, k);
-        sum += n as u64;
-        k += 1;
+    for k in 0..9 {
+        sum += u64::from(find::count(words, i, k));
     }
     sum
 }
@@ -31,11 +28,8 @@ pub fn held(words: &[u64]) -> u64
 {
     let n = find::interface_count(words);
     let mut sum = 0;
-    let mut i = 0;
-    while i < n {
-        let one = held_at(words, i);
-        sum += one;
-        i += 1;
+    for i in 0..n {
+        sum += held_at(words, i);
     }
     sum
 }

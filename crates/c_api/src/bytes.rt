@@ -14,9 +14,9 @@ ghost use Rattle.reference_writer.specs.Writing.{reference_bytes, write_referenc
 
 use bindings::{Part, Place};
 use contexts::{Context, Property, ReadContext, ReadProperty};
-use cursors::Cursor;
 use cursors::parts::Step;
 use cursors::properties::PropertyStep;
+use cursors::{Cursor, Walk};
 use fields::Written;
 use kinds::{Guid, Oid, Oxid};
 use references::{Block, ReadReference, Reference};
@@ -26,7 +26,7 @@ use references::{Block, ReadReference, Reference};
 pub extern "C" fn rimonakh_list_answer(bytes: &[u8]) -> u32
     ensures { result ≡ list_answer bytes.now }
 {
-    bindings::list_answer(bytes)
+    kinds::number(bindings::list_answer(bytes))
 }
 
 // Of the binding list at the front of bytes.
@@ -34,7 +34,7 @@ pub extern "C" fn rimonakh_list_answer(bytes: &[u8]) -> u32
 pub extern "C" fn rimonakh_list_front_answer(bytes: &[u8]) -> u32
     ensures { result ≡ front_answer bytes.now }
 {
-    bindings::front_answer(bytes)
+    kinds::number(bindings::front_answer(bytes))
 }
 
 // The length of the binding list at the front of bytes.
@@ -50,7 +50,7 @@ pub extern "C" fn rimonakh_list_front_length(bytes: &[u8]) -> usize
 pub extern "C" fn rimonakh_list_string_binding(bytes: &[u8], k: usize) -> Place
     ensures { result ≡ binding_at bytes.now Part.Strings k }
 {
-    bindings::locate(bytes, Part::Strings, k)
+    Place::from(bindings::locate(bytes, Part::Strings, k))
 }
 
 // Where security binding k of a whole list stands.
@@ -58,7 +58,7 @@ pub extern "C" fn rimonakh_list_string_binding(bytes: &[u8], k: usize) -> Place
 pub extern "C" fn rimonakh_list_security_binding(bytes: &[u8], k: usize) -> Place
     ensures { result ≡ binding_at bytes.now Part.Security k }
 {
-    bindings::locate(bytes, Part::Security, k)
+    Place::from(bindings::locate(bytes, Part::Security, k))
 }
 
 // Writes the list of these string and security bindings at the front of buffer.
@@ -71,7 +71,7 @@ pub extern "C" fn rimonakh_list_write(
     ensures { (result ≡ write_list strings.now security.now (length buffer.old))
         × (buffer.new ≡ stored result.answer (made_list strings.now security.now) buffer.old) }
 {
-    list_writer::write(strings, security, buffer)
+    Written::from(list_writer::write(strings, security, buffer))
 }
 
 // Whether the bytes are a reference.
@@ -79,7 +79,7 @@ pub extern "C" fn rimonakh_list_write(
 pub extern "C" fn rimonakh_reference_answer(bytes: &[u8]) -> u32
     ensures { result ≡ reference_answer bytes.now }
 {
-    references::reference_answer(bytes)
+    kinds::number(references::reference_answer(bytes))
 }
 
 // Reads a reference.
@@ -87,7 +87,7 @@ pub extern "C" fn rimonakh_reference_answer(bytes: &[u8]) -> u32
 pub extern "C" fn rimonakh_reference_read(bytes: &[u8]) -> ReadReference
     ensures { result ≡ read_reference bytes.now }
 {
-    Reference::read(bytes)
+    ReadReference::from(Reference::read(bytes))
 }
 
 // Where the binding list or the object data of a reference stands.
@@ -95,7 +95,7 @@ pub extern "C" fn rimonakh_reference_read(bytes: &[u8]) -> ReadReference
 pub extern "C" fn rimonakh_reference_tail(bytes: &[u8]) -> Place
     ensures { result ≡ tail_place bytes.now }
 {
-    references::tail_place(bytes)
+    Place::from(references::tail_place(bytes))
 }
 
 // Where string binding k of a reference stands.
@@ -103,7 +103,7 @@ pub extern "C" fn rimonakh_reference_tail(bytes: &[u8]) -> Place
 pub extern "C" fn rimonakh_reference_string_binding(bytes: &[u8], k: usize) -> Place
     ensures { result ≡ reference_binding bytes.now Part.Strings k }
 {
-    references::locate(bytes, Part::Strings, k)
+    Place::from(references::locate(bytes, Part::Strings, k))
 }
 
 // Where security binding k of a reference stands.
@@ -111,7 +111,7 @@ pub extern "C" fn rimonakh_reference_string_binding(bytes: &[u8], k: usize) -> P
 pub extern "C" fn rimonakh_reference_security_binding(bytes: &[u8], k: usize) -> Place
     ensures { result ≡ reference_binding bytes.now Part.Security k }
 {
-    references::locate(bytes, Part::Security, k)
+    Place::from(references::locate(bytes, Part::Security, k))
 }
 
 // Where the data of element k of a reference stands.
@@ -119,7 +119,7 @@ pub extern "C" fn rimonakh_reference_security_binding(bytes: &[u8], k: usize) ->
 pub extern "C" fn rimonakh_reference_element(bytes: &[u8], k: usize) -> Place
     ensures { ElementFound bytes.now k result }
 {
-    references::locate_element(bytes, k)
+    Place::from(references::locate_element(bytes, k))
 }
 
 // Where the data of context property k of a reference stands.
@@ -127,7 +127,7 @@ pub extern "C" fn rimonakh_reference_element(bytes: &[u8], k: usize) -> Place
 pub extern "C" fn rimonakh_reference_property(bytes: &[u8], k: usize) -> Place
     ensures { result ≡ context_place bytes.now k }
 {
-    references::locate_property(bytes, k)
+    Place::from(references::locate_property(bytes, k))
 }
 
 // Reads a context, the object data of a custom reference with the context marshaler's CLSID.
@@ -135,7 +135,7 @@ pub extern "C" fn rimonakh_reference_property(bytes: &[u8], k: usize) -> Place
 pub extern "C" fn rimonakh_context_read(bytes: &[u8]) -> ReadContext
     ensures { result ≡ read_context bytes.now }
 {
-    Context::read(bytes)
+    ReadContext::from(Context::read(bytes))
 }
 
 // Reads the fields of property k of a context.
@@ -143,7 +143,7 @@ pub extern "C" fn rimonakh_context_read(bytes: &[u8]) -> ReadContext
 pub extern "C" fn rimonakh_context_property(bytes: &[u8], k: usize) -> ReadProperty
     ensures { result ≡ read_property bytes.now k }
 {
-    Property::read(bytes, k)
+    ReadProperty::from(Property::read(bytes, k))
 }
 
 // Writes a property with its data at the front of buffer.
@@ -174,7 +174,7 @@ pub extern "C" fn rimonakh_property_write(
         policy: policy,
         flags: flags,
     };
-    property.write(content, buffer)
+    Written::from(property.write(content, buffer))
 }
 
 // Writes a context with the bytes of its properties at the front of buffer.
@@ -204,7 +204,7 @@ pub extern "C" fn rimonakh_context_write(
         count: count,
         frozen: frozen,
     };
-    context.write(properties, buffer)
+    Written::from(context.write(properties, buffer))
 }
 
 // Writes a reference with its list or object data, and the data of its element, at the front of buffer. Fields that the form does not have are not written.
@@ -258,7 +258,13 @@ pub extern "C" fn rimonakh_reference_write(
         low: element_low,
         high: element_high,
     };
-    let block = Block::new(block_flags, public, Oxid(oxid), Oid(oid), ipid);
+    let block = Block {
+        flags: block_flags,
+        public: public,
+        oxid: Oxid(oxid),
+        oid: Oid(oid),
+        ipid: ipid,
+    };
     let reference = Reference {
         flags: flags,
         iid: iid,
@@ -268,7 +274,7 @@ pub extern "C" fn rimonakh_reference_write(
         size: size,
         element: element,
     };
-    reference_writer::write(reference, tail, content, buffer)
+    Written::from(reference_writer::write(reference, tail, content, buffer))
 }
 
 // ---- in one pass
@@ -278,7 +284,7 @@ pub extern "C" fn rimonakh_reference_write(
 pub extern "C" fn rimonakh_list_strings(bytes: &[u8]) -> Cursor
     ensures { result ≡ part_cursor bytes.now Part.Strings }
 {
-    cursors::parts::start(bytes, Part::Strings)
+    Cursor::from(cursors::parts::start(bytes, Part::Strings))
 }
 
 // Where a walk over the security bindings of a whole list begins.
@@ -286,7 +292,7 @@ pub extern "C" fn rimonakh_list_strings(bytes: &[u8]) -> Cursor
 pub extern "C" fn rimonakh_list_securities(bytes: &[u8]) -> Cursor
     ensures { result ≡ part_cursor bytes.now Part.Security }
 {
-    cursors::parts::start(bytes, Part::Security)
+    Cursor::from(cursors::parts::start(bytes, Part::Security))
 }
 
 // The string binding where a walk stands.
@@ -294,7 +300,8 @@ pub extern "C" fn rimonakh_list_securities(bytes: &[u8]) -> Cursor
 pub extern "C" fn rimonakh_list_next_string(bytes: &[u8], at: usize, left: usize) -> Step
     ensures { result ≡ binding_step bytes.now Part.Strings at left }
 {
-    cursors::parts::next(bytes, Part::Strings, at, left)
+    let walk = Walk { at: at, left: left };
+    Step::from(walk.binding(bytes, Part::Strings))
 }
 
 // The security binding where a walk stands.
@@ -302,7 +309,8 @@ pub extern "C" fn rimonakh_list_next_string(bytes: &[u8], at: usize, left: usize
 pub extern "C" fn rimonakh_list_next_security(bytes: &[u8], at: usize, left: usize) -> Step
     ensures { result ≡ binding_step bytes.now Part.Security at left }
 {
-    cursors::parts::next(bytes, Part::Security, at, left)
+    let walk = Walk { at: at, left: left };
+    Step::from(walk.binding(bytes, Part::Security))
 }
 
 // Where a walk over the properties of a context begins.
@@ -310,7 +318,7 @@ pub extern "C" fn rimonakh_list_next_security(bytes: &[u8], at: usize, left: usi
 pub extern "C" fn rimonakh_context_properties(bytes: &[u8]) -> Cursor
     ensures { result ≡ context_cursor bytes.now }
 {
-    cursors::properties::start(bytes)
+    Cursor::from(cursors::properties::start(bytes))
 }
 
 // The property where a walk stands.
@@ -322,5 +330,6 @@ pub extern "C" fn rimonakh_context_next_property(
 ) -> PropertyStep
     ensures { result ≡ property_step bytes.now at left }
 {
-    cursors::properties::next(bytes, at, left)
+    let walk = Walk { at: at, left: left };
+    PropertyStep::from(walk.property(bytes))
 }

@@ -23,7 +23,7 @@ pub extern "C" fn rimonakh_reset(words: &mut [u64], store: &[u8], time: u64) -> 
     ensures { Performed (Call.starting (Start.reset time)) (memory words.old store.now) (numbered result)
         (memory words.new store.now) }
 {
-    resolver::reset(words, store, time)
+    kinds::number(resolver::reset(words, store, time))
 }
 
 // The live number of each kind.
@@ -32,7 +32,7 @@ pub extern "C" fn rimonakh_census(words: &[u64], store: &[u8]) -> LiveCounts
     ensures { Performed (Call.looking Look.census) (memory words.now store.now) (census_reply result)
         (memory words.now store.now) }
 {
-    resolver::census(words, store)
+    resolver::census(words, store).into()
 }
 
 // The number of members of a set.
@@ -41,7 +41,7 @@ pub extern "C" fn rimonakh_members(words: &[u64], store: &[u8], set: u64) -> Mem
     ensures { Performed (Call.looking (Look.members set)) (memory words.now store.now) (members_reply result)
         (memory words.now store.now) }
 {
-    resolver::members(words, store, SetId(set))
+    resolver::members(words, store, SetId(set)).into()
 }
 
 // Enters an exporter.
@@ -61,7 +61,7 @@ pub extern "C" fn rimonakh_enter_exporter(
         low: unknown_low,
         high: unknown_high,
     };
-    resolver::enter_exporter(words, store, Oxid(oxid), unknown, list)
+    kinds::number(resolver::enter_exporter(words, store, Oxid(oxid), unknown, list))
 }
 
 // Removes an exporter.
@@ -70,7 +70,7 @@ pub extern "C" fn rimonakh_remove_exporter(words: &mut [u64], store: &mut [u8], 
     ensures { Performed (Call.editing (Edit.remove_exporter oxid)) (memory words.old store.old)
         (numbered result) (memory words.new store.new) }
 {
-    resolver::remove_exporter(words, store, Oxid(oxid))
+    kinds::number(resolver::remove_exporter(words, store, Oxid(oxid)))
 }
 
 // Enters an object with its first interface.
@@ -99,7 +99,7 @@ pub extern "C" fn rimonakh_enter_object(
         low: iid_low,
         high: iid_high,
     };
-    resolver::enter_object(
+    let entered = resolver::enter_object(
         words,
         store,
         Oid(oid),
@@ -108,7 +108,8 @@ pub extern "C" fn rimonakh_enter_object(
         iid,
         public,
         no_ping,
-    )
+    );
+    kinds::number(entered)
 }
 
 // Enters an interface of a live object.
@@ -134,7 +135,7 @@ pub extern "C" fn rimonakh_enter_interface(
         low: iid_low,
         high: iid_high,
     };
-    resolver::enter_interface(words, store, Oid(oid), ipid, iid, public)
+    kinds::number(resolver::enter_interface(words, store, Oid(oid), ipid, iid, public))
 }
 
 // Adds to the public count of an interface and to the private one of a client.
@@ -155,7 +156,7 @@ pub extern "C" fn rimonakh_add(
         low: ipid_low,
         high: ipid_high,
     };
-    resolver::add(words, store, client, ipid, public, private)
+    kinds::number(resolver::add(words, store, client, ipid, public, private))
 }
 
 // Gives references of an interface back, private ones of a client.
@@ -176,7 +177,7 @@ pub extern "C" fn rimonakh_release(
         low: ipid_low,
         high: ipid_high,
     };
-    resolver::release(words, store, client, ipid, public, private)
+    resolver::release(words, store, client, ipid, public, private).into()
 }
 
 // Drops every private reference of a client.
@@ -185,7 +186,7 @@ pub extern "C" fn rimonakh_drop_client(words: &mut [u64], store: &[u8], client: 
     ensures { Performed (Call.editing (Edit.drop_client client)) (memory words.old store.now)
         (numbered result) (memory words.new store.now) }
 {
-    resolver::drop_client(words, store, client)
+    kinds::number(resolver::drop_client(words, store, client))
 }
 
 // Adds references by a list of items of 24 bytes, and writes the number of each to its byte of results.
@@ -200,7 +201,7 @@ pub extern "C" fn rimonakh_add_list(
     ensures { Performed (Call.count_list adding client items.now results.old) (memory words.old store.now)
         (list_reply result results.new) (memory words.new store.now) }
 {
-    resolver::add_list(words, store, client, items, results)
+    kinds::number(resolver::add_list(words, store, client, items, results))
 }
 
 // Gives references back by a list of items, likewise.
@@ -215,7 +216,7 @@ pub extern "C" fn rimonakh_release_list(
     ensures { Performed (Call.count_list releasing client items.now results.old) (memory words.old store.now)
         (list_reply result results.new) (memory words.new store.now) }
 {
-    resolver::release_list(words, store, client, items, results)
+    kinds::number(resolver::release_list(words, store, client, items, results))
 }
 
 // Pings a set.
@@ -224,7 +225,7 @@ pub extern "C" fn rimonakh_simple_ping(words: &mut [u64], store: &[u8], set: u64
     ensures { Performed (Call.editing (Edit.simple_ping set)) (memory words.old store.now)
         (numbered result) (memory words.new store.now) }
 {
-    resolver::simple_ping(words, store, SetId(set))
+    kinds::number(resolver::simple_ping(words, store, SetId(set)))
 }
 
 // Adds objects to a set, takes objects out of it and pings it; set 0 makes a set.
@@ -240,7 +241,7 @@ pub extern "C" fn rimonakh_complex_ping(
     ensures { Performed (Call.editing (Edit.complex_ping set sequence adds.now deletes.now))
         (memory words.old store.now) (ping_reply result) (memory words.new store.now) }
 {
-    resolver::complex_ping(words, store, SetId(set), sequence, adds, deletes)
+    resolver::complex_ping(words, store, SetId(set), sequence, adds, deletes).into()
 }
 
 // Sets the clock.
@@ -249,7 +250,7 @@ pub extern "C" fn rimonakh_clock(words: &mut [u64], store: &[u8], time: u64) -> 
     ensures { Performed (Call.editing (Edit.clock time)) (memory words.old store.now)
         (clock_reply result) (memory words.new store.now) }
 {
-    resolver::clock(words, store, time)
+    resolver::clock(words, store, time).into()
 }
 
 // Writes an exporter's binding list at the front of buffer.
@@ -263,7 +264,7 @@ pub extern "C" fn rimonakh_resolve(
     ensures { Performed (Call.looking (Look.resolve oxid buffer.old)) (memory words.now store.now)
         (resolve_reply result buffer.new) (memory words.now store.now) }
 {
-    resolver::resolve(words, store, Oxid(oxid), buffer)
+    resolver::resolve(words, store, Oxid(oxid), buffer).into()
 }
 
 // Writes an exporter's binding list with only the string bindings of the requested protocols at the front of buffer.
@@ -278,7 +279,7 @@ pub extern "C" fn rimonakh_resolve_filtered(
     ensures { Performed (Call.looking (Look.resolve_filtered oxid protocols.now buffer.old)) (memory words.now store.now)
         (resolve_reply result buffer.new) (memory words.now store.now) }
 {
-    resolver::resolve_filtered(words, store, Oxid(oxid), protocols, buffer)
+    resolver::resolve_filtered(words, store, Oxid(oxid), protocols, buffer).into()
 }
 
 // Where to go next with a reference: the list of its exporter in the store, or its own list. A place in the store holds until the next
@@ -287,7 +288,7 @@ pub extern "C" fn rimonakh_resolve_filtered(
 pub extern "C" fn rimonakh_next_stop(words: &[u64], store: &[u8], reference: &[u8]) -> StopPlace
     ensures { StopFound (memory words.now store.now) reference.now result }
 {
-    resolver::next_stop_place(words, store, reference)
+    StopPlace::from(resolver::next_stop_place(words, store, reference))
 }
 
 // Writes the live entries as a snapshot, at the front of buffer.
@@ -296,7 +297,7 @@ pub extern "C" fn rimonakh_write_snapshot(words: &[u64], store: &[u8], buffer: &
     ensures { Performed (Call.looking (Look.write_snapshot buffer.old)) (memory words.now store.now)
         (written_reply result buffer.new) (memory words.now store.now) }
 {
-    resolver::write_snapshot(words, store, buffer)
+    resolver::write_snapshot(words, store, buffer).into()
 }
 
 // Loads a snapshot into the table.
@@ -309,7 +310,7 @@ pub extern "C" fn rimonakh_load_snapshot(
     ensures { Performed (Call.starting (Start.load_snapshot snapshot.now)) (memory words.old store.old) (numbered result)
         (memory words.new store.new) }
 {
-    resolver::load_snapshot(words, store, snapshot)
+    kinds::number(resolver::load_snapshot(words, store, snapshot))
 }
 
 // Replays a recorded shift from a reset at 0.

@@ -35,5 +35,5 @@ pub extern "C" fn rimonakh_fragments_finish(
     ensures { (result ≡ finished (record { state = state; waiting = waiting.now }) (length last.old))
         × (last.new ≡ final_after (record { state = state; waiting = waiting.now }) last.old) }
 {
-    state.finish(waiting, last)
+    Finished::from(state.finish(waiting, last))
 }

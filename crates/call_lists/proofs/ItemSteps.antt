@@ -9,6 +9,9 @@ use native.Mathlib.Nat.{add-zero}
 use borrow.Author.Tests.{eq-eqb, ne_eqb}
 use lib.ListN.{length, take, drop, length-drop}
 use lib.Seq.{length-take-le}
+use Rattle.std.specs.Prelude.{Result, Ok, Err}
+use Rattle.kinds.specs.Answers.{answer_number}
+use Rattle.kinds.specs.declared.refusal.Refusal.{Refusal}
 use Rattle.kinds.specs.Refusals.{order}
 use Rattle.kinds.specs.declared.Guid.{Guid}
 use Rattle.fields.specs.Fields.{bytes_number, field, guid_at}
@@ -22,8 +25,8 @@ use Rattle.rules.specs.Contract.{Memory}
 use Rattle.rules.proofs.Stepping.{reply-number, step-sound}
 use Rattle.rules.proofs.OneByOne.{item-done}
 use Rattle.table_view.specs.View.{memory, view, SoundTable, Stepped}
-use Rattle.call_references.specs.Replies.{release_reply}
-use Rattle.call_references.specs.declared.Released.{Released}
+use Rattle.call_references.specs.Replies.{release_reply, released}
+use Rattle.call_references.specs.declared.Taken.{Taken}
 use Rattle.call_lists.specs.Listing.{way_of, ItemStepped}
 
 -- the numbers of an item are bytes
@@ -57,10 +60,11 @@ item-stepped w c t {m} {m'} {x} s p words store =
 
 -- an item given back or added
 module _ (c : ℕ) (t : Item) (ws ws' st : List ℕ) (h : SoundTable (memory ws st)) (l : length ws' ≡ length ws) where
-  pub item_back : (b : Bool) (x : Released) → b ≡ true → Stepped (item_call releasing c t) (memory ws st) (release_reply x) (memory ws' st)
-      → ItemStepped (way_of b) c t (memory ws st) x.answer (memory ws' st)
+  pub item_back : (b : Bool) (x : Result Taken Refusal) → b ≡ true → Stepped (item_call releasing c t) (memory ws st) (release_reply (released x)) (memory ws' st)
+      → ItemStepped (way_of b) c t (memory ws st) (answer_number x) (memory ws' st)
   item_back false x e r = absurd (true≢false (sym e))
-  item_back true x e r = item-stepped releasing c t h r (l ∙ h.words) h.store
+  item_back true (Ok x) e r = item-stepped releasing c t h r (l ∙ h.words) h.store
+  item_back true (Err why) e r = item-stepped releasing c t h r (l ∙ h.words) h.store
 
   pub item-added : (b : Bool) (n : ℕ) → b ≡ false → Stepped (item_call adding c t) (memory ws st) (numbered n) (memory ws' st)
       → ItemStepped (way_of b) c t (memory ws st) n (memory ws' st)

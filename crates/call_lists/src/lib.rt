@@ -2,6 +2,7 @@
 #![tactic(auto)]
 
 ghost use Rattle.std.specs.Prelude.{◌≡◌, ◌≤◌, ◌<◌, eqb, length};
+ghost use Rattle.kinds.specs.Answers.{answer_number};
 ghost use Rattle.table_columns.specs.Buckets.{guid_bucket, Indexed};
 ghost use Rattle.rules.specs.Contract.{Whole};
 ghost use Rattle.rules.specs.Entries.{interface_row};
@@ -10,7 +11,7 @@ ghost use Rattle.rules.specs.Items.{item_at, item_count};
 ghost use Rattle.table_view.specs.View.{memory, Holds, SoundTable, Stepped, ipids_of};
 ghost use Rattle.call_lists.specs.Listing.{way_of, list_reply, item_of, ListTaken, ItemStepped};
 
-use kinds::{Guid, answer, limits};
+use kinds::{Guid, Refusal, answer, limits};
 use table_columns::buckets;
 use table_view::find;
 
@@ -24,23 +25,23 @@ pub fn list_step(
     items: &[u8],
     buffer: &mut [u8],
     rows: &mut [u8; buckets::BUCKETS],
-) -> u32
+) -> Result<(), Refusal>
     requires { SoundTable (memory words.old store.now) × Indexed guid_bucket rows.old (ipids_of words.old) }
     ensures { Stepped (Call.count_list (way_of back) client items.now buffer.old) (memory words.old store.now)
-        (list_reply result buffer.new) (memory words.new store.now) }
+        (list_reply (answer_number result) buffer.new) (memory words.new store.now) }
 {
     if limits::LAST_CLIENT < client {
-        return answer::NO_CLIENT;
+        return Err(Refusal::NoClient);
     }
     if items.len() % 24 != 0 {
-        return answer::SHORT;
+        return Err(Refusal::Short);
     }
     let n = items.len() / 24;
     if answer::MOST_LISTED < n {
-        return answer::TOO_MANY;
+        return Err(Refusal::TooMany);
     }
     if buffer.len() < n {
-        return answer::NO_ROOM;
+        return Err(Refusal::NoRoom);
     }
     count_items(words, store, back, client, items, buffer, rows)
 }
@@ -54,24 +55,22 @@ fn count_items(
     items: &[u8],
     buffer: &mut [u8],
     rows: &mut [u8; buckets::BUCKETS],
-) -> u32
+) -> Result<(), Refusal>
     requires { SoundTable (memory words.old store.now) × ListTaken client items.now buffer.old
         × Indexed guid_bucket rows.old (ipids_of words.old) }
     ensures { Stepped (Call.count_list (way_of back) client items.now buffer.old) (memory words.old store.now)
-        (list_reply result buffer.new) (memory words.new store.now) }
+        (list_reply (answer_number result) buffer.new) (memory words.new store.now) }
 {
     let n = items.len() / 24;
     let mut live = find::interface_count(words);
-    let mut k = 0;
-    while k < n {
+    for k in 0..n {
         let item = read_item(items, k);
         let row = row_of(words, store, rows, item.ipid);
         let number = item_step(words, store, back, client, item, row);
         buffer[k] = number as u8;
         live = follow_row(words, rows, row, live);
-        k += 1;
     }
-    answer::DONE
+    Ok(())
 }
 
 // The same where no judgement leaves an index. Any numbers but 0 are one; for a list of many items the rows are noted in it.
@@ -82,10 +81,10 @@ pub fn noted_list_step(
     client: u32,
     items: &[u8],
     buffer: &mut [u8],
-) -> u32
+) -> Result<(), Refusal>
     requires { SoundTable (memory words.old store.now) }
     ensures { Stepped (Call.count_list (way_of back) client items.now buffer.old) (memory words.old store.now)
-        (list_reply result buffer.new) (memory words.new store.now) }
+        (list_reply (answer_number result) buffer.new) (memory words.new store.now) }
 {
     let mut rows = [255u8; buckets::BUCKETS];
     note_rows(words, items.len(), &mut rows);
@@ -103,9 +102,7 @@ fn note_rows(words: &[u64], bytes: usize, rows: &mut [u8; buckets::BUCKETS])
     if bytes < SHORT {
         return;
     }
-    let mut i = find::interface_count(words);
-    while 0 < i {
-        i -= 1;
+    for i in (0..find::interface_count(words)).rev() {
         let b = buckets::of_guid(find::ipid(words, i));
         rows[b] = buckets::number_of(i);
     }
@@ -162,10 +159,8 @@ fn follow_row(words: &[u64], rows: &mut [u8; buckets::BUCKETS], row: usize, befo
         return n;
     }
     let gone = buckets::number_of(row);
-    let mut b = 0;
-    while b < buckets::BUCKETS {
-        rows[b] = moved(rows[b], gone);
-        b += 1;
+    for number in rows.iter_mut() {
+        *number = moved(*number, gone);
     }
     n
 }
@@ -178,7 +173,7 @@ fn moved(number: u8, gone: u8) -> u8
     if gone < number { number - 1 } else { number }
 }
 
-// An item of a list: an IPID and two counts.
+// An item of a list: an IPID and two counts, which are no length of anything.
 #[derive(Clone, Copy)]
 struct Counted {
     ipid: Guid,
@@ -225,9 +220,9 @@ fn item_step(
             item.public,
             item.private,
         );
-        return released.answer;
+        return kinds::number(released);
     }
-    call_references::add_at(
+    let added = call_references::add_at(
         words,
         store,
         client,
@@ -235,5 +230,6 @@ fn item_step(
         row,
         item.public,
         item.private,
-    )
+    );
+    kinds::number(added)
 }

@@ -1,23 +1,20 @@
 -- Loading a snapshot: loops over bytes and words, the snapshot of the table that was read, and the call.
-use Prim.Native.Nat.{ℕ, suc, ◌+◌, ◌^◌, ◌<◌, ◌≤◌}
+use Prim.Native.Nat.{ℕ, ◌^◌, ◌<◌, ◌≤◌}
 use mathlib.Core.Path.{◌≡◌, refl, sym, ap, ◌∙◌}
 use mathlib.Core.Bool.{Bool, true, false, ◌&&◌}
-use mathlib.Core.List.{List, [], ◌∷◌, ◌++◌, append-nil}
-use mathlib.Core.Logic.{⊎_elim}
+use mathlib.Core.List.{List, [], ◌∷◌}
 use native.Mathlib.Omega.{arith}
-use native.Mathlib.Numerals.{add-one}
-use borrow.Author.Tests.{eq-eqb, ne_eqb, le-ltb, lt-ltb}
+use borrow.Author.Tests.{le-ltb, lt-ltb}
 use lib.Dec.{eqb, ltb}
-use lib.ListN.{length, get_or, take, drop, set, length-append, drop_of_length-le}
-use lib.Seq.{drop-cons, take-suc, take-suc-set, take_at}
+use lib.Pointwise.{pointwise}
+use lib.ListN.{length, get_or, take, drop, length-append}
+use lib.Seq.{take_at}
 use Rattle.kinds.specs.Refusals.{order}
 use Rattle.kinds.proofs.Refusing.{true-false, same_test}
-use Rattle.fields.specs.Fields.{written, Bytes}
-use Rattle.fields.proofs.Fields.{written-front}
+use Rattle.fields.specs.Fields.{Bytes}
 use Rattle.fields.specs.declared.Written.{Written}
 use Rattle.bindings.specs.Bindings.{same_words}
 use Rattle.bindings.proofs.Filtering.{same_lists}
-use Rattle.lists.proofs.Tests.{true-or-false}
 use Rattle.lists.proofs.Lists.{every-from-at}
 use Rattle.rules.specs.Entries.{Entries}
 use Rattle.rules.specs.Calls.{Call, Start, Look, Reply}
@@ -41,42 +38,12 @@ use Rattle.call_load.specs.Loading.{SnapshotRead}
 
 -- ---- the same bytes
 
-pub other-lengths : (a b : List ℕ) → (length a ≡ length b → ⊥) → same_words a b ≡ false
-other-lengths a b h = ⊎_elim (λ t. absurd (h (ap length (same_lists a b t)))) (λ (f : same_words a b ≡ false). f) (true-or-false (same_words a b))
-
-module _ (a b : List ℕ) (i : ℕ) (h : i < length a) (g : i < length b) where
-  same_first : same_words (drop i a) (drop i b) ≡ (eqb (get_or a i 0) (get_or b i 0) && same_words (drop (suc i) a) (drop (suc i) b))
-  unfolding same_words
-  same_first = rw (drop-cons a i 0 h, drop-cons b i 0 g)
-
-  pub same_next : get_or a i 0 ≡ get_or b i 0 → same_words (drop i a) (drop i b) ≡ same_words (drop (i + 1) a) (drop (i + 1) b)
-  same_next e = rw (add-one i) (same_first ∙ rw (eq-eqb (get_or a i 0) (get_or b i 0) e))
-
-  pub same-stops : (get_or a i 0 ≡ get_or b i 0 → ⊥) → same_words (drop i a) (drop i b) ≡ false
-  same-stops e = same_first ∙ rw (ne_eqb (get_or a i 0) (get_or b i 0) e)
-
--- the same, where a block of both begins at `at`
-pub same-on : (a b : List ℕ) (at j : ℕ) → at + j < length a → at + j < length b → get_or a (at + j) 0 ≡ get_or b (at + j) 0
-    → same_words (drop (at + j) a) (drop (at + j) b) ≡ same_words (drop (at + (j + 1)) a) (drop (at + (j + 1)) b)
-same-on a b at j h g e =
-    let s : at + (j + 1) ≡ at + j + 1 = omega arith in
-    rw s (same_next a b (at + j) h g e)
-
-pub same_ended : (a b : List ℕ) (i : ℕ) → length a ≤ i → length b ≤ i → same_words (drop i a) (drop i b) ≡ true
+pub by-places : (a b : List ℕ) → pointwise eqb a b ≡ same_words a b
 unfolding same_words
-same_ended a b i h g = rw (drop_of_length-le a {i = i} h, drop_of_length-le b {i = i} g)
-
--- ---- words copied one by one
-
-pub copied_next : (to from : List ℕ) (i : ℕ) → i < length from → length to ≡ length from → take i to ≡ take i from → take (i + 1) (set to i (get_or from i 0)) ≡ take (i + 1) from
-copied_next to from i h l e =
-    rw (add-one i)
-    (take-suc-set to i (get_or from i 0) (omega arith)
-    ∙ ap (λ (x : List ℕ). x ++ (get_or from i 0 ∷ [])) e
-    ∙ sym (take-suc from i 0 h))
-
-pub copied_all : (b x : List ℕ) → length x ≡ length b → written b 0 x ≡ x
-copied_all b x e = written-front b x (omega arith) ∙ ap (λ (l : List ℕ). x ++ l) (drop_of_length-le b {i = length x} (omega arith)) ∙ append-nil x
+by-places [] [] = refl
+by-places [] (y ∷ ys) = refl
+by-places (x ∷ xs) [] = refl
+by-places (x ∷ xs) (y ∷ ys) = ap (λ (t : Bool). eqb x y && t) (by-places xs ys)
 
 -- ---- the snapshot of the table that was read
 
@@ -102,6 +69,10 @@ module _ (m : Memory) (t : SoundTable m) (l : Lent m) (b b' : List ℕ) (r : Wri
   answered : written_reply r b' ≡ accepted_reply (Call.looking (Look.write_snapshot b)) (view m)
   unfolding reply number refusals order
   answered = w.answered ∙ rw (le-ltb (length b) (length bytes) fits_in)
+
+  pub written-done : r.answer ≡ 0
+  unfolding accepted_reply
+  written-done = ap (λ (x : Reply). x.number) answered
 
   pub written-length : r.length ≡ length bytes
   unfolding accepted_reply results

@@ -1,5 +1,8 @@
 -- The next stop (document 01, "Where to go next"): its place, its number and its part, each the result of a function of its own.
 use Rattle.std.specs.Prelude.{ℕ, ◌+◌, ◌-◌, ◌≤◌, ◌≡◌, Bool, true, false, cond, List, [], ◌∷◌, length, take, drop, get_or, eqb}
+use Rattle.std.specs.Prelude.{Result, Ok, Err}
+use Rattle.kinds.specs.Answers.{refusal_number}
+use Rattle.kinds.specs.declared.refusal.Refusal.{Refusal}
 use Rattle.bindings.specs.declared.Place.{Place}
 use Rattle.references.specs.References.{tail_place}
 use Rattle.lists.specs.Lists.{first_index}
@@ -8,12 +11,20 @@ use Rattle.rules.specs.Calls.{Call, Look, Reply}
 use Rattle.rules.specs.Rules.{no_exporter, is_live_exporter, oxid_of, flag}
 use Rattle.rules.specs.Contract.{Memory, reply_to}
 use Rattle.table_view.specs.View.{list_start, exporters_of, view, Performed}
+use Rattle.call_look.specs.declared.routing.Stop.{Stop}
+use Rattle.call_look.specs.declared.routing.Stop.TheVariants.{InStore, InReference}
 use Rattle.call_look.specs.declared.routing.StopPlace.{StopPlace}
 
 -- ---- the place
 
 abbrev pub refused_stop : ℕ → StopPlace
 refused_stop n = record { answer = n; in_store = false; from = 0; to = 0 }
+
+-- a stop that was found, or a refusal, as C takes it
+abbrev pub stopped : Result Stop Refusal → StopPlace
+stopped (Ok (InStore there)) = record { answer = 0; in_store = true; from = there.start; to = there.end }
+stopped (Ok (InReference there)) = record { answer = 0; in_store = false; from = there.start; to = there.end }
+stopped (Err why) = refused_stop (refusal_number why)
 
 -- the list of exporter i, where it stands in the store until a call changes the store
 abbrev pub stop_in_store : Memory → ℕ → StopPlace

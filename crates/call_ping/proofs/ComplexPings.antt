@@ -1,13 +1,10 @@
 -- A complex ping: by its early number, what is left of its lists, its late number, and the arrays in between.
-use Rattle.std.proofs.Common.{◌≡◌, ℕ, ◌-◌, ◌*◌, ◌/◌, ◌^◌, ◌<◌, ◌≤◌, true, false, not, ◌&&◌, ◌||◌, eqb, List, [], ◌∷◌, length, get_or, set, sym, refl, ap, ◌∙◌, ⊎_elim, arith, length-append, length-set, ltb-true}
-use borrow.Author.Tests.{not-true, not-false}
+use Rattle.std.proofs.Common.{◌≡◌, ℕ, ◌-◌, ◌^◌, ◌<◌, ◌≤◌, true, false, not, ◌&&◌, ◌||◌, eqb, List, [], ◌∷◌, length, get_or, set, sym, refl, ap, ◌∙◌, ⊎_elim, arith, length-append, length-set, ltb-true}
 use lib.Seq.{get_or-append_seam}
 use Rattle.kinds.specs.Refusals.{order}
-use Rattle.fields.specs.Fields.{field}
 use Rattle.lists.specs.Lists.{keep, among}
 use Rattle.table_columns.specs.declared.members.Members.{Members}
 use Rattle.lists.proofs.Tests.{true-or-false}
-use Rattle.lists.proofs.Lists.{length-tabulate}
 use Rattle.rules.specs.Entries.{PingSet, Entries, oids, with_sets, with_sequence, with_members, set_row, set_places}
 use Rattle.rules.specs.Calls.{Call, Edit}
 use Rattle.rules.specs.Sound.{proper, sound}
@@ -21,8 +18,8 @@ use Rattle.table_view.specs.View.{set_count, sets_of, memory, view, Holds, Sound
 use Rattle.table_edit.specs.Edits.{Became}
 use Rattle.table_view.proofs.LiveRows.{sets-length}
 use Rattle.table_view.proofs.MemberRows.{oids-length}
-use Rattle.call_ping.specs.Pinging.{with_ping_set, ping_set_row, is_ping_set, early_rows, late_rows, oids_in, ping_members, AllListed, MembersBefore, updated_to, Reduced}
-use Rattle.call_ping.specs.declared.Listed.{Listed}
+use Rattle.call_ping.specs.Pinging.{with_ping_set, ping_set_row, is_ping_set, early_rows, late_rows, ping_members, AllListed, MembersBefore, updated_to, Reduced}
+use Rattle.std.specs.Prelude.{Some, None}
 use Rattle.call_ping.specs.declared.Pinged.{Pinged}
 use Rattle.call_ping.specs.Replies.{ping_reply}
 use Rattle.table_view.proofs.Steps.{refused-step, accepted-step}
@@ -30,15 +27,15 @@ use Rattle.call_ping.proofs.Memberships.{new-members}
 use Rattle.call_ping.proofs.Pings.{early-gives, dead-gives, late-left, early-named, late-fits}
 
 -- of both lists
-reduced : (s n : ℕ) (adds dels : List ℕ) (e : Entries) {m : Members} {a d : Listed} → proper (oids e) ≡ true → length (oids e) ≤ 128
+reduced : (s n : ℕ) (adds dels : List ℕ) (e : Entries) {m a d : Members} → proper (oids e) ≡ true → length (oids e) ≤ 128
     → order (early_rows s n (length adds) (length dels) e) ≡ 0 → MembersBefore s e m
-    → AllListed true (oids e) adds m a → a.live ≡ true → AllListed false (oids e) dels a.members d → Reduced s n adds dels e d.members
-reduced s n adds dels e {m} {a} {d} p l early before joins live leaves =
+    → AllListed true (oids e) adds m (Some a) → AllListed false (oids e) dels a (Some d) → Reduced s n adds dels e d
+reduced s n adds dels e {m} {a} {d} p l early before joins leaves =
     record {
       early = early;
-      alive = sym joins.live ∙ live;
+      alive = sym joins.live;
       members =
-          new-members (oids e) p adds dels m a.members d.members l before.past (joins.members live) (leaves.members leaves.live)
+          new-members (oids e) p adds dels m a d l before.past joins.members leaves.members
           ∙ ap (new_members e adds dels) before.values;
     }
 
@@ -52,44 +49,33 @@ pub record Passed (ws s : List ℕ) (x n : ℕ) (adds dels : List ℕ) : Type 0 
   pub table : SoundTable (memory ws s)
   pub early : Holds (λ e. order (early_rows x n (length adds) (length dels) e) ≡ 0) ws
 
-module _ (ws s : List ℕ) (x n : ℕ) (adds dels : List ℕ) (r : ℕ) where
-  pub passed-early : SoundTable (memory ws s) → r ≡ 0 → Holds (λ e. r ≡ order (early_rows x n (length adds) (length dels) e)) ws → Passed ws s x n adds dels
-  passed-early t z early = record { table = t; early = λ st. sym (early st) ∙ z }
+module _ (ws s : List ℕ) (x n : ℕ) (adds dels : List ℕ) (a d : ℕ) (more : a ≡ length adds) (fewer : d ≡ length dels) where
+  pub passed-early : SoundTable (memory ws s) → Holds (λ e. 0 ≡ order (early_rows x n a d e)) ws → Passed ws s x n adds dels
+  passed-early t early = record { table = t; early = λ st. rw (more, fewer) at (sym (early st)) }
 
-  pub early-refused : (r ≡ 0 → ⊥) → Holds (λ e. r ≡ order (early_rows x n (length adds) (length dels) e)) ws
+  pub early-refused : (r : ℕ) → (r ≡ 0 → ⊥) → Holds (λ e. r ≡ order (early_rows x n a d e)) ws
       → Stepped (Call.editing (Edit.complex_ping x n adds dels)) (memory ws s) (ping_reply (none r)) (memory ws s)
   unfolding refused_reply results
-  early-refused bad early = refused-step r (early s ∙ early-gives x n adds dels (view (memory ws s)) (λ z. bad (early s ∙ z))) bad
-
--- by the lengths of lists in bytes
-module _ (ws s : List ℕ) (x n : ℕ) (adds dels : List ℕ) (r : ℕ) where
-  early-bytes : Holds (λ e. r ≡ order (early_rows x n (length adds / 8) (length dels / 8) e)) ws → Holds (λ e. r ≡ order (early_rows x n (length (oids_in adds)) (length (oids_in dels)) e)) ws
-  early-bytes early st = early st ∙ rw (length-tabulate (length adds / 8) (λ k. field adds (8 * k) 8), length-tabulate (length dels / 8) (λ k. field dels (8 * k) 8))
-
-  pub passed-bytes : SoundTable (memory ws s) → r ≡ 0 → Holds (λ e. r ≡ order (early_rows x n (length adds / 8) (length dels / 8) e)) ws → Passed ws s x n (oids_in adds) (oids_in dels)
-  passed-bytes t z early = passed-early ws s x n (oids_in adds) (oids_in dels) r t z (early-bytes early)
-
-  pub bytes-refused : (r ≡ 0 → ⊥) → Holds (λ e. r ≡ order (early_rows x n (length adds / 8) (length dels / 8) e)) ws
-      → Stepped (Call.editing (Edit.complex_ping x n (oids_in adds) (oids_in dels))) (memory ws s) (ping_reply (none r)) (memory ws s)
-  bytes-refused bad early = early-refused ws s x n (oids_in adds) (oids_in dels) r bad (early-bytes early)
+  early-refused r bad early =
+      let h : r ≡ order (early_rows x n (length adds) (length dels) (view (memory ws s))) = rw (more, fewer) at (early s) in
+      refused-step r (h ∙ early-gives x n adds dels (view (memory ws s)) (λ z. bad (h ∙ z))) bad
 
 module _ (ws s : List ℕ) (x n : ℕ) (adds dels : List ℕ) (passed : Passed ws s x n adds dels) where
   pub named_set : (st : List ℕ) → is_ping_set x (view (memory ws st)) ≡ true
   named_set st = early-named x n (length adds) (length dels) (view (memory ws st)) (passed.early st)
 
-  module _ (b : Members) (l : Listed) where
+  module _ (b : Members) where
     -- an id to be added is not live
-    pub not_live : AllListed true (oids (view (memory ws s))) adds b l → not l.live ≡ true
-        → Stepped (Call.editing (Edit.complex_ping x n adds dels)) (memory ws s) (ping_reply (none 5)) (memory ws s)
+    pub not_live : AllListed true (oids (view (memory ws s))) adds b None → Stepped (Call.editing (Edit.complex_ping x n adds dels)) (memory ws s) (ping_reply (none 5)) (memory ws s)
     unfolding refused_reply results
-    not_live joins dead = refused-step 5 (dead-gives x n adds dels (view (memory ws s)) (passed.early s) (sym joins.live ∙ not-true _ dead)) (λ z. omega arith)
+    not_live joins = refused-step 5 (dead-gives x n adds dels (view (memory ws s)) (passed.early s) (sym joins.live)) (λ z. omega arith)
 
     -- what is left of both lists
-    pub both-listed : Holds (λ e. MembersBefore x e b) ws → Holds (λ e. AllListed true (oids e) adds b l) ws → not l.live ≡ false
-        → (d : Listed) → Holds (λ e. AllListed false (oids e) dels l.members d) ws → Reduced x n adds dels (view (memory ws s)) d.members
-    both-listed before joins live d leaves =
+    pub both-listed : Holds (λ e. MembersBefore x e b) ws → (l : Members) → Holds (λ e. AllListed true (oids e) adds b (Some l)) ws
+        → (d : Members) → Holds (λ e. AllListed false (oids e) dels l (Some d)) ws → Reduced x n adds dels (view (memory ws s)) d
+    both-listed before l joins d leaves =
         let k = oids-length ws in
-        reduced x n adds dels (view (memory ws s)) (sound-fields _ passed.table.entries).objects_proper (omega arith) (passed.early s) (before s) (joins s) (not-false _ live) (leaves s)
+        reduced x n adds dels (view (memory ws s)) (sound-fields _ passed.table.entries).objects_proper (omega arith) (passed.early s) (before s) (joins s) (leaves s)
 
 -- ---- a complex ping that is accepted
 

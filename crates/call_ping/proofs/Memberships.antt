@@ -1,7 +1,6 @@
 -- The members of a set by the rows of the objects, and how they change in a complex ping.
 use Rattle.std.proofs.Common.{◌≡◌, ℕ, ◌+◌, ◌*◌, ◌/◌, ◌<◌, ◌≤◌, Bool, true, false, cond, not, ◌&&◌, ◌||◌, eqb, ltb, List, [], ◌∷◌, ◌++◌, length, get_or, take, drop, sym, refl, ap, ◌∙◌, ⊎_elim, add-one, arith, take-append-drop, take-suc, le-ltb, lt-ltb, eq-eqb, ne_eqb, eqb-true}
 use mathlib.Core.Bool.{and-false, or-true, or-false}
-use borrow.Author.Tests.{not-true, not-false}
 use lib.Seq.{take-length}
 use Rattle.kinds.proofs.Refusing.{true-false}
 use Rattle.lists.specs.Lists.{keep, some, every, first_index, among}
@@ -14,7 +13,7 @@ use Rattle.lists.proofs.Distinct.{eqb-decides, first-same}
 use Rattle.rules.specs.Sound.{proper}
 use Rattle.fields.specs.Fields.{field}
 use Rattle.call_ping.specs.Pinging.{oids_in, MembersUpdated, OneListed, AllListed}
-use Rattle.call_ping.specs.declared.Listed.{Listed}
+use Rattle.std.specs.Prelude.{Option, Some, None, IfSome}
 use Rattle.rules.specs.Entries.{oids, object_row}
 use Rattle.table_view.specs.View.{object_count, oids_of, memory, view, member_values, Holds}
 use Rattle.table_view.proofs.MemberRows.{oids-length}
@@ -107,36 +106,39 @@ module _ (ids : List ℕ) (p : proper ids ≡ true) where
 
   module _ (member : Bool) (m : Members) where
     -- none
-    listed-none : InWords m → AllListed member ids [] m (record { members = m; live = true })
-    listed-none w = record { members = λ t. put-nil member m w; live = sym (rw (every-nil (among ids), or-true (not member))) }
+    listed-none : InWords m → AllListed member ids [] m (Some m)
+    listed-none w = record { members = put-nil member m w; live = sym (rw (every-nil (among ids), or-true (not member))) }
 
-    module _ (listed : List ℕ) (k : ℕ) {r r' : Listed} {oid : ℕ} (before : AllListed member ids (take k listed) m r) (live : r.live ≡ true) (h : k < length listed)
-        (e : oid ≡ get_or listed k 0) (one : OneListed member ids oid r r') where
+    module _ (listed : List ℕ) (k : ℕ) {r : Members} {oid : ℕ} (before : AllListed member ids (take k listed) m (Some r)) (h : k < length listed)
+        (e : oid ≡ get_or listed k 0) where
       -- one more
-      listed_next : AllListed member ids (take (k + 1) listed) m r'
-      listed_next =
+      listed_next : (r' : Option Members) → OneListed member ids oid r r' → AllListed member ids (take (k + 1) listed) m r'
+      listed_next r' one =
           rw (add-one k, take-suc listed k 0 h, ← e)
           (record {
-            members = λ t. put-snoc member (take k listed) oid (before.members live) one.members;
+            members = more r' one.members;
             live =
-                one.live live
-                ∙ both member (every (among ids) (take k listed)) (among ids oid) (sym live ∙ before.live)
+                one.live
+                ∙ both member (every (among ids) (take k listed)) (among ids oid) before.live
                 ∙ ap (◌||◌ (not member)) (sym (every-snoc (among ids) (take k listed) oid));
           })
         where
+          more : (x : Option Members) → IfSome x (MembersUpdated member ids (oid ∷ []) r) → IfSome x (MembersUpdated member ids (take k listed ++ (oid ∷ [])) m)
+          more None u = u
+          more (Some x) u = put-snoc member (take k listed) oid before.members u
+
           both : (t a b : Bool) → true ≡ (not t || a) → (not t || b) ≡ (not t || (a && b))
           both false a b e = refl
           both true true b e = refl
           both true false b e = absurd (true-false e)
 
       -- one that is to be added and not live: the others do not matter
-      listed-dead : r'.live ≡ false → AllListed member ids listed m r'
-      listed-dead d =
+      listed-dead : OneListed member ids oid r None → AllListed member ids listed m None
+      listed-dead one =
           record {
-            members = λ t. absurd (true-false (sym t ∙ d));
+            members = (listed_next None one).members;
             live =
-                d
-                ∙ past member (every (among ids) (take (k + 1) listed)) (every (among ids) (drop (k + 1) listed)) (sym d ∙ listed_next.live)
+                past member (every (among ids) (take (k + 1) listed)) (every (among ids) (drop (k + 1) listed)) (listed_next None one).live
                 ∙ ap (◌||◌ (not member))
                 (sym (every_append (among ids) (take (k + 1) listed) (drop (k + 1) listed)) ∙ ap (every (among ids)) (take-append-drop (k + 1) listed));
           }
@@ -147,7 +149,7 @@ module _ (ids : List ℕ) (p : proper ids ≡ true) where
           past true false b e = refl
 
     -- all
-    listed-all : (listed : List ℕ) (k : ℕ) {r : Listed} → AllListed member ids (take k listed) m r → k ≡ length listed → AllListed member ids listed m r
+    listed-all : (listed : List ℕ) (k : ℕ) {r : Option Members} → AllListed member ids (take k listed) m r → k ≡ length listed → AllListed member ids listed m r
     listed-all listed k before e = rw (e, take-length listed) at before
 
   -- adds, then deletes: the OIDs that stay or join, and are not deleted
@@ -170,63 +172,53 @@ module _ (ids : List ℕ) (p : proper ids ≡ true) where
 
 -- ---- the loop over a list: the OIDs before k
 
-pub record Listing (ws : List ℕ) (member : Bool) (listed : List ℕ) (m : Members) (k : ℕ) (l : Listed) : Type 0 where
-  pub below : k ≤ length listed
-  pub live : l.live ≡ true
-  pub each : AllListed member (oids_of ws) (take k listed) m l
+abbrev pub Listing : List ℕ → Bool → List ℕ → Members → ℕ → Members → Type 0
+Listing ws member listed m k l = (k ≤ length listed) × AllListed member (oids_of ws) (take k listed) m (Some l)
 
 module _ (ws : List ℕ) (member : Bool) (listed : List ℕ) (m : Members) (p : proper (oids_of ws) ≡ true) where
-  pub listing-begin : InWords m → Listing ws member listed m 0 (record { members = m; live = true })
-  listing-begin w = record { below = omega arith; live = refl; each = listed-none (oids_of ws) p member m w }
+  pub listing-begin : InWords m → Listing ws member listed m 0 m
+  listing-begin w = (omega arith, listed-none (oids_of ws) p member m w)
 
-  module _ (k : ℕ) (l : Listed) (before : Listing ws member listed m k l) where
-    pub listing-end : length listed ≤ k → AllListed member (oids_of ws) listed m l
-    listing-end h = let b = before.below in listed-all (oids_of ws) p member m listed k before.each (omega arith)
+  pub listing-end : (k : ℕ) (l : Members) → Listing ws member listed m k l → length listed ≤ k → AllListed member (oids_of ws) listed m (Some l)
+  listing-end k l before h = let b = before.0 in listed-all (oids_of ws) p member m listed k before.1 (omega arith)
 
-    module _ (h : k < length listed) (oid : ℕ) (e : oid ≡ get_or listed k 0) (l' : Listed) (one : Holds (λ e. OneListed member (oids e) oid l l') ws) where
-      pub listing-next : not l'.live ≡ false → Listing ws member listed m (k + 1) l'
-      listing-next t =
-          record { below = omega arith; live = not-false _ t; each = listed_next (oids_of ws) p member m listed k before.each before.live h e (one ws) }
+  module _ (k : ℕ) (l : Members) (before : Listing ws member listed m k l) (h : k < length listed) (oid : ℕ) (e : oid ≡ get_or listed k 0) where
+    pub listing-next : (l' : Members) → Holds (λ e. OneListed member (oids e) oid l (Some l')) ws → Listing ws member listed m (k + 1) l'
+    listing-next l' one = (omega arith, listed_next (oids_of ws) p member m listed k before.1 h e (Some l') (one ws))
 
-      pub listing-dead : not l'.live ≡ true → AllListed member (oids_of ws) listed m l'
-      listing-dead t = listed-dead (oids_of ws) p member m listed k before.each before.live h e (one ws) (not-true _ t)
-
--- the same of a list in bytes, eight for each
-module _ (ws : List ℕ) (member : Bool) (bytes : List ℕ) (m : Members) (p : proper (oids_of ws) ≡ true) (k : ℕ) (l : Listed) (before : Listing ws member (oids_in bytes) m k l) where
-  size : length (oids_in bytes) ≡ length bytes / 8
-  size = length-tabulate (length bytes / 8) (λ k. field bytes (8 * k) 8)
-
-  pub bytes-end : length bytes / 8 ≤ k → AllListed member (oids_of ws) (oids_in bytes) m l
-  bytes-end h = listing-end ws member (oids_in bytes) m p k l before (rw size h)
-
-  module _ (h : k < length bytes / 8) (oid : ℕ) (e : oid ≡ field bytes (8 * k) 8) (l' : Listed) (one : Holds (λ e. OneListed member (oids e) oid l l') ws) where
-    id : oid ≡ get_or (oids_in bytes) k 0
-    id = e ∙ sym (get_d_tabulate (length bytes / 8) (λ k. field bytes (8 * k) 8) 0 k h)
-
-    pub bytes_next : not l'.live ≡ false → Listing ws member (oids_in bytes) m (k + 1) l'
-    bytes_next = listing-next ws member (oids_in bytes) m p k l before (rw size h) oid id l' one
-
-    pub bytes-dead : not l'.live ≡ true → AllListed member (oids_of ws) (oids_in bytes) m l'
-    bytes-dead = listing-dead ws member (oids_in bytes) m p k l before (rw size h) oid id l' one
+    pub listing-dead : Holds (λ e. OneListed member (oids e) oid l None) ws → AllListed member (oids_of ws) listed m None
+    listing-dead one = listed-dead (oids_of ws) p member m listed k before.1 h e (one ws)
 
 -- ---- one OID, by the row that was found for it, of as many as were counted
 
-module _ (ws s : List ℕ) (member : Bool) (oid : ℕ) (l : Listed) (p : proper (oids_of ws) ≡ true) (n r : ℕ) (counted : n ≡ object_count ws) where
-  pub one-gone : n ≤ r → Holds (λ e. r ≡ object_row e oid) ws → InWords l.members → OneListed member (oids (view (memory ws s))) oid l (record { members = l.members; live = not member })
-  one-gone h row w =
-      let k = oids-length ws in
-      let found = row s in
-      record {
-        members = put-none (oids_of ws) p oid l.members member w (omega arith);
-        live = λ t. sym (ap (◌||◌ (not member)) (object-tested ws s oid found counted ∙ le-ltb _ _ h) ∙ or-false (not member));
-      }
+module _ (ws s : List ℕ) (member : Bool) (oid : ℕ) (l : Members) (p : proper (oids_of ws) ≡ true) (n r : ℕ) (counted : n ≡ object_count ws) where
+  module _ (h : n ≤ r) (row : Holds (λ e. r ≡ object_row e oid) ws) where
+    gone-live : (not member || among (oids (view (memory ws s))) oid) ≡ not member
+    gone-live = ap (◌||◌ (not member)) (object-tested ws s oid (row s) counted ∙ le-ltb _ _ h) ∙ or-false (not member)
 
-  pub one-live : r < n → Holds (λ e. r ≡ object_row e oid) ws → (m : Members) → MemberPut r member l.members m
-      → OneListed member (oids (view (memory ws s))) oid l (record { members = m; live = l.live })
+    pub one-dead : member ≡ true → OneListed member (oids (view (memory ws s))) oid l None
+    one-dead t = record { members = tt; live = sym (gone-live ∙ rw t refl) }
+
+    pub one-gone : member ≡ false → InWords l → OneListed member (oids (view (memory ws s))) oid l (Some l)
+    one-gone f w =
+        let k = oids-length ws in
+        let found = row s in
+        record { members = put-none (oids_of ws) p oid l member w (omega arith); live = sym (gone-live ∙ rw f refl) }
+
+  pub one-live : r < n → Holds (λ e. r ≡ object_row e oid) ws → (m : Members) → MemberPut r member l m
+      → OneListed member (oids (view (memory ws s))) oid l (Some m)
   one-live h row m put =
       let k = oids-length ws in
       let found = row s in
       record {
-        members = put_one (oids_of ws) p oid l.members m (omega arith) (omega arith) (rw found at put);
-        live = λ t. t ∙ sym (ap (◌||◌ (not member)) (object-tested ws s oid found counted ∙ lt-ltb _ _ h) ∙ or-true (not member));
+        members = put_one (oids_of ws) p oid l m (omega arith) (omega arith) (rw found at put);
+        live = sym (ap (◌||◌ (not member)) (object-tested ws s oid found counted ∙ lt-ltb _ _ h) ∙ or-true (not member));
       }
+
+-- OIDs in bytes, by number
+module _ (s : List ℕ) where
+  pub bytes-count : length s / 8 ≡ length (oids_in s)
+  bytes-count = sym (length-tabulate (length s / 8) (λ k. field s (8 * k) 8))
+
+  pub bytes-oid : (k : ℕ) → k < length (oids_in s) → field s (8 * k) 8 ≡ get_or (oids_in s) k 0
+  bytes-oid k h = sym (get_d_tabulate (length s / 8) (λ k. field s (8 * k) 8) 0 k (rw (← bytes-count) at h))

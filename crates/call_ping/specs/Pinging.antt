@@ -1,5 +1,5 @@
 -- Pings by rows: the set's row, and the rows of the objects that are its members; a complex ping by what is left of its lists.
-use Rattle.std.specs.Prelude.{◌≡◌, ℕ, ◌-◌, ◌*◌, ◌/◌, ◌^◌, ◌≤◌, Bool, true, false, cond, not, ◌&&◌, ◌||◌, ltb, List, [], ◌∷◌, length, ◌==◌, nat_eq, nat_le, nat_lt, slice_index}
+use Rattle.std.specs.Prelude.{◌≡◌, ℕ, ◌-◌, ◌*◌, ◌/◌, ◌^◌, ◌≤◌, Bool, true, false, cond, not, ◌&&◌, ◌||◌, ltb, List, [], ◌∷◌, length, ◌==◌, nat_eq, nat_le, nat_lt, slice_index, Option, is_some, IfSome}
 use Rattle.kinds.specs.Refusals.{Row, ◌gives◌, order}
 use Rattle.fields.specs.Fields.{field}
 use Rattle.lists.specs.Lists.{every, first_index, tabulate, among}
@@ -10,7 +10,6 @@ use Rattle.rules.specs.PingRows.{change_set}
 use Rattle.rules.specs.Rules.{most_listed, make_set, is_live_object, is_live_set, set_of, stale_sequence, new_members}
 use Rattle.table_view.specs.View.{member_values}
 use Rattle.table_edit.specs.Edits.{change_object}
-use Rattle.call_ping.specs.declared.Listed.{Listed}
 
 -- the object at row i is heard now, where it is a member
 abbrev pub heard_row : Members → ℕ → Entries → Entries
@@ -50,14 +49,14 @@ late_rows s e = cond (s == 0) (nat_le set_places (length e.sets) gives 9 ∷ nat
 abbrev pub oids_in : List ℕ → List ℕ
 oids_in s = tabulate (length s / 8) (λ k. field s (8 * k) 8)
 
--- one more OID of a list, and all of them: an OID to be added is live
-pub record OneListed (member : Bool) (ids : List ℕ) (oid : ℕ) (l r : Listed) : Type 0 where
-  pub members : MembersUpdated member ids (oid ∷ []) l.members r.members
-  pub live : l.live ≡ true → r.live ≡ (not member || among ids oid)
+-- one more OID of a list, and all of them: none where an OID to be added is not live
+pub record OneListed (member : Bool) (ids : List ℕ) (oid : ℕ) (m : Members) (r : Option Members) : Type 0 where
+  pub members : IfSome r (MembersUpdated member ids (oid ∷ []) m)
+  pub live : is_some r ≡ (not member || among ids oid)
 
-pub record AllListed (member : Bool) (ids listed : List ℕ) (m : Members) (r : Listed) : Type 0 where
-  pub members : r.live ≡ true → MembersUpdated member ids listed m r.members
-  pub live : r.live ≡ (not member || every (among ids) listed)
+pub record AllListed (member : Bool) (ids listed : List ℕ) (m : Members) (r : Option Members) : Type 0 where
+  pub members : IfSome r (MembersUpdated member ids listed m)
+  pub live : is_some r ≡ (not member || every (among ids) listed)
 
 -- the members that the set has before; the set that is made has none
 abbrev pub ping_members : ℕ → Entries → List ℕ

@@ -1,7 +1,8 @@
 // Pings: the sets of objects that a client keeps alive.
 #![tactic(auto)]
 
-ghost use Rattle.std.specs.Prelude.{◌≡◌, ℕ, ◌-◌, ◌^◌, ◌<◌, true, List, []};
+ghost use Rattle.std.specs.Prelude.{◌≡◌, ℕ, ◌-◌, ◌^◌, ◌<◌, true, List, [], length, get_or};
+ghost use Rattle.kinds.specs.Answers.{answer_number};
 ghost use Rattle.kinds.specs.Refusals.{order};
 ghost use Rattle.rules.specs.Entries.{oids, object_row, set_places};
 ghost use Rattle.rules.specs.Sound.{proper};
@@ -10,12 +11,11 @@ ghost use Rattle.rules.specs.Calls.{Call, Edit, numbered};
 ghost use Rattle.rules.specs.PingRows.{pinged_row};
 ghost use Rattle.table_view.specs.View.{object_count, set_count, memory, view, SoundTable, Stepped, Holds, oids_of, members_below, next_of, member_values};
 ghost use Rattle.table_edit.specs.Edits.{Became};
-ghost use Rattle.call_ping.specs.Replies.{ping_reply};
+ghost use Rattle.call_ping.specs.Replies.{ping_reply, pinged};
 ghost use Rattle.call_ping.specs.Pinging.{heard_row, ping_set_row, with_ping_set, is_ping_set, early_rows, late_rows, oids_in, OneListed, AllListed, MembersBefore, updated_to, Reduced};
 ghost use Rattle.rules.specs.Contract.{Whole};
 
-use kinds::{Oid, SetId, answer, limits};
-use std::num;
+use kinds::{Oid, Refusal, SetId, answer, limits};
 use table_columns::buckets;
 use table_columns::members::Members;
 use table_view::find;
@@ -36,9 +36,7 @@ fn hear(words: &mut [u64], members: Members)
     requires { Whole words.old × (proper (oids_of words.old) ≡ true) }
     ensures { Became (λ e. heard_now (member_values (oids e) members) e) words.old words.new }
 {
-    let mut i = find::object_count(words);
-    while 0 < i {
-        i -= 1;
+    for i in (0..find::object_count(words)).rev() {
         hear_row(words, members, i);
     }
 }
@@ -56,81 +54,117 @@ fn ping_row(words: &mut [u64], i: usize)
 }
 
 // The call on a sound table.
-pub fn simple_ping_step(words: &mut [u64], store: &[u8], set: SetId) -> u32
+pub fn simple_ping_step(words: &mut [u64], store: &[u8], set: SetId) -> Result<(), Refusal>
     requires { SoundTable (memory words.old store.now) }
     ensures { Stepped (Call.editing (Edit.simple_ping set.0)) (memory words.old store.now)
-        (numbered result) (memory words.new store.now) }
+        (numbered (answer_number result)) (memory words.new store.now) }
 {
     if set.0 == 0 {
-        return answer::NO_SET;
+        return Err(Refusal::NoSet);
     }
     let i = find::set_row(words, set);
     if find::set_count(words) <= i {
-        return answer::NO_SET;
+        return Err(Refusal::NoSet);
     }
     ping_row(words, i);
-    answer::DONE
+    Ok(())
 }
 
 // A sequence number is stale: it is the last one, or more than 32,767 past it, modulo 65,536.
 fn is_stale(last: u16, new: u16) -> bool
     ensures { result ≡ stale_sequence last new }
 {
-    let ahead = num::wrapping_sub_u16(new, last);
-    if ahead == 0 {
-        return true;
-    }
-    32767 < ahead
+    let ahead = new.wrapping_sub(last);
+    ahead == 0 || 32767 < ahead
 }
 
 // The number of a complex ping before an id is looked at, by the lengths of its lists: 10; of a set other than 0: 11; 12.
-fn early_answer(words: &[u64], set: SetId, sequence: u16, adds: usize, deletes: usize) -> u32
+fn early_answer(
+    words: &[u64],
+    set: SetId,
+    sequence: u16,
+    adds: usize,
+    deletes: usize,
+) -> Result<(), Refusal>
     requires { Whole words.now }
-    ensures { Holds (λ e. result ≡ order (early_rows set.0 sequence adds deletes e)) words.now }
+    ensures { Holds (λ e. answer_number result ≡ order (early_rows set.0 sequence adds deletes e)) words.now }
 {
     if answer::MOST_LISTED < adds {
-        return answer::TOO_MANY;
+        return Err(Refusal::TooMany);
     }
     if answer::MOST_LISTED < deletes {
-        return answer::TOO_MANY;
+        return Err(Refusal::TooMany);
     }
     if set.0 == 0 {
-        return answer::DONE;
+        return Ok(());
     }
     let i = find::set_row(words, set);
     if find::set_count(words) <= i {
-        return answer::NO_SET;
+        return Err(Refusal::NoSet);
     }
     if is_stale(find::sequence(words, i), sequence) {
-        return answer::STALE;
+        return Err(Refusal::Stale);
     }
-    answer::DONE
+    Ok(())
 }
 
 // The rest of it, once every id to be added is live: of set 0: 9; 18.
-fn late_answer(words: &[u64], set: SetId) -> u32
+fn late_answer(words: &[u64], set: SetId) -> Result<(), Refusal>
     requires { Whole words.now }
-    ensures { Holds (λ e. result ≡ order (late_rows set.0 e)) words.now }
+    ensures { Holds (λ e. answer_number result ≡ order (late_rows set.0 e)) words.now }
 {
-    if set.0 == 0 {
-        if limits::SET_PLACES <= find::set_count(words) {
-            return answer::NO_PLACE;
-        }
-        let next = find::next_set(words);
-        if next.0 == 0xFFFFFFFFFFFFFFFF {
-            return answer::SETS_USED_UP;
-        }
-        return answer::DONE;
+    if set.0 != 0 {
+        return Ok(());
     }
-    answer::DONE
+    if limits::SET_PLACES <= find::set_count(words) {
+        return Err(Refusal::NoPlace);
+    }
+    if find::next_set(words).0 == u64::MAX {
+        return Err(Refusal::SetsUsedUp);
+    }
+    Ok(())
 }
 
-// What is left of a list of OIDs: the members with its objects, or without them; not live where an OID to be added is not, and then
-// the members do not matter.
+// OIDs that a complex ping lists: numbers, or eight bytes for each, little-endian, in any place.
+trait Listed {
+    ghost oids: { Self → List ℕ };
+
+    fn count(&self) -> usize
+        ensures { result ≡ length (oids self.now) };
+
+    fn oid(&self, k: usize) -> Oid
+        requires { k < length (oids self.now) }
+        ensures { result.0 ≡ get_or (oids self.now) k 0 };
+}
+
 #[derive(Clone, Copy)]
-struct Listed {
-    members: Members,
-    live: bool,
+struct Numbers<'a>(&'a [u64]);
+
+impl<'a> Listed for Numbers<'a> {
+    ghost oids = { λ s. s.0.now };
+
+    fn count(&self) -> usize {
+        self.0.len()
+    }
+
+    fn oid(&self, k: usize) -> Oid {
+        Oid(self.0[k])
+    }
+}
+
+#[derive(Clone, Copy)]
+struct Bytes<'a>(&'a [u8]);
+
+impl<'a> Listed for Bytes<'a> {
+    ghost oids = { λ s. oids_in s.0.now };
+
+    fn count(&self) -> usize {
+        self.0.len() / 8
+    }
+
+    fn oid(&self, k: usize) -> Oid {
+        Oid(fields::read_u64(self.0, 8 * k))
+    }
 }
 
 // Lists with fewer OIDs are not worth hints.
@@ -140,12 +174,9 @@ const FEW: usize = 8;
 fn hint_listed(words: &[u64], hints: &mut [u8; buckets::BUCKETS], adds: usize, deletes: usize)
     requires { Whole words.now }
 {
-    if adds < FEW {
-        if deletes < FEW {
-            return;
-        }
+    if FEW <= adds || FEW <= deletes {
+        find::hint_objects(words, hints);
     }
-    find::hint_objects(words, hints);
 }
 
 // The row of the object with an OID, as `find::object_row` gives it; a row is tried first, which may be any number.
@@ -156,96 +187,48 @@ fn object_row(words: &[u64], hint: u8, oid: Oid) -> usize
     let row = hint as usize;
     if row < find::object_count(words) {
         let there = find::oid(words, row);
-        if oid.0 == there.0 {
+        if oid == there {
             return row;
         }
     }
     find::object_row(words, oid)
 }
 
-// One more OID; one that is not live changes no member.
+// The members with the object of one more OID, or without it; None where one to be added is not live.
 fn update_member(
     words: &[u64],
     hints: &[u8; buckets::BUCKETS],
-    listed: Listed,
+    members: Members,
     oid: Oid,
     member: bool,
-) -> Listed
+) -> Option<Members>
     requires { Whole words.now × (proper (oids_of words.now) ≡ true) }
-    ensures { Holds (λ e. OneListed «member» (oids e) oid.0 listed result) words.now }
+    ensures { Holds (λ e. OneListed «member» (oids e) oid.0 members result) words.now }
 {
-    let members = listed.members;
     let b = buckets::of_word(oid.0);
     let row = object_row(words, hints[b], oid);
-    if find::object_count(words) <= row {
-        return Listed {
-            members: members,
-            live: !member,
-        };
+    if row < find::object_count(words) {
+        return Some(members.put(row, member));
     }
-    Listed {
-        members: members.put(row, member),
-        live: listed.live,
-    }
+    if member { None } else { Some(members) }
 }
 
-// The OIDs of a list; of one to be added no further than the first that is not live.
-fn update_members(
+// The same of the OIDs of a list.
+fn update_members<L: Listed>(
     words: &[u64],
     hints: &[u8; buckets::BUCKETS],
-    members: Members,
-    ids: &[u64],
+    before: Members,
+    listed: &L,
     member: bool,
-) -> Listed
+) -> Option<Members>
     requires { Whole words.now × (proper (oids_of words.now) ≡ true) }
-    ensures { Holds (λ e. AllListed «member» (oids e) ids.now members result) words.now }
+    ensures { Holds (λ e. AllListed «member» (oids e) (L.oids listed.now) before result) words.now }
 {
-    let mut listed = Listed {
-        members: members,
-        live: true,
-    };
-    let mut k = 0;
-    while k < ids.len() {
-        listed = update_member(words, hints, listed, Oid(ids[k]), member);
-        if !listed.live {
-            return listed;
-        }
-        k += 1;
+    let mut members = before;
+    for k in 0..listed.count() {
+        members = update_member(words, hints, members, listed.oid(k), member)?;
     }
-    listed
-}
-
-// The same of OIDs in bytes.
-fn update_members_bytes(
-    words: &[u64],
-    hints: &[u8; buckets::BUCKETS],
-    members: Members,
-    bytes: &[u8],
-    member: bool,
-) -> Listed
-    requires { Whole words.now × (proper (oids_of words.now) ≡ true) }
-    ensures { Holds (λ e. AllListed «member» (oids e) (oids_in bytes.now) members result) words.now }
-{
-    let mut listed = Listed {
-        members: members,
-        live: true,
-    };
-    let n = bytes.len() / 8;
-    let mut k = 0;
-    while k < n {
-        listed = update_member(
-            words,
-            hints,
-            listed,
-            Oid(fields::read_u64(bytes, 8 * k)),
-            member,
-        );
-        if !listed.live {
-            return listed;
-        }
-        k += 1;
-    }
-    listed
+    Some(members)
 }
 
 // The members of the set that a complex ping is about; set 0 has none.
@@ -294,7 +277,7 @@ fn ping_set_row(words: &mut [u64], set: SetId) -> usize
     find::set_row(words, set)
 }
 
-// The number of the set that was pinged, and the backoff factor.
+// The number of the set that was pinged, and the backoff factor, as C gets them.
 #[repr(C)]
 #[derive(Clone, Copy)]
 pub struct Pinged {
@@ -303,14 +286,21 @@ pub struct Pinged {
     pub backoff: u16,
 }
 
-impl Pinged {
-    pub fn refused(number: u32) -> Pinged
-        ensures { result ≡ record { answer = number; set = record { 0 = 0 }; backoff = 0 } }
-    {
-        Pinged {
-            answer: number,
-            set: SetId(0),
-            backoff: 0,
+impl From<Result<SetId, Refusal>> for Pinged {
+    ghost from_gives = { λ r x. x ≡ pinged r };
+
+    fn from(r: Result<SetId, Refusal>) -> Pinged {
+        match r {
+            Ok(set) => Pinged {
+                answer: 0,
+                set: set,
+                backoff: 0,
+            },
+            Err(why) => Pinged {
+                answer: u32::from(why),
+                set: SetId(0),
+                backoff: 0,
+            },
         }
     }
 }
@@ -323,26 +313,19 @@ pub fn complex_ping_step(
     sequence: u16,
     adds: &[u64],
     deletes: &[u64],
-) -> Pinged
+) -> Result<SetId, Refusal>
     requires { SoundTable (memory words.old store.now) }
     ensures { Stepped (Call.editing (Edit.complex_ping set.0 sequence adds.now deletes.now))
-        (memory words.old store.now) (ping_reply result) (memory words.new store.now) }
+        (memory words.old store.now) (ping_reply (pinged result)) (memory words.new store.now) }
 {
-    let number = early_answer(words, set, sequence, adds.len(), deletes.len());
-    if number != answer::DONE {
-        return Pinged::refused(number);
-    }
-    let before = members_before(words, set);
-    let mut hints = [0u8; buckets::BUCKETS];
-    hint_listed(words, &mut hints, adds.len(), deletes.len());
-    let joined = update_members(words, &hints, before, adds, true);
-    if !joined.live {
-        return Pinged::refused(answer::NO_OBJECT);
-    }
-    let members = joined.members;
-    let left = update_members(words, &hints, members, deletes, false);
-    let after = left.members;
-    ping_listed(words, store, set, sequence, after)
+    ping_of(
+        words,
+        store,
+        set,
+        sequence,
+        &Numbers(adds),
+        &Numbers(deletes),
+    )
 }
 
 // The same of OIDs in bytes, eight for each, little-endian, in any place.
@@ -353,26 +336,37 @@ pub fn complex_ping_bytes_step(
     sequence: u16,
     adds: &[u8],
     deletes: &[u8],
-) -> Pinged
+) -> Result<SetId, Refusal>
     requires { SoundTable (memory words.old store.now) }
     ensures { Stepped (Call.editing (Edit.complex_ping set.0 sequence (oids_in adds.now) (oids_in deletes.now)))
-        (memory words.old store.now) (ping_reply result) (memory words.new store.now) }
+        (memory words.old store.now) (ping_reply (pinged result)) (memory words.new store.now) }
 {
-    let number = early_answer(words, set, sequence, adds.len() / 8, deletes.len() / 8);
-    if number != answer::DONE {
-        return Pinged::refused(number);
-    }
+    ping_of(words, store, set, sequence, &Bytes(adds), &Bytes(deletes))
+}
+
+// The same of OIDs that are listed in any way.
+fn ping_of<L: Listed>(
+    words: &mut [u64],
+    store: &[u8],
+    set: SetId,
+    sequence: u16,
+    adds: &L,
+    deletes: &L,
+) -> Result<SetId, Refusal>
+    requires { SoundTable (memory words.old store.now) }
+    ensures { Stepped (Call.editing (Edit.complex_ping set.0 sequence (L.oids adds.now) (L.oids deletes.now)))
+        (memory words.old store.now) (ping_reply (pinged result)) (memory words.new store.now) }
+{
+    early_answer(words, set, sequence, adds.count(), deletes.count())?;
     let before = members_before(words, set);
     let mut hints = [0u8; buckets::BUCKETS];
-    hint_listed(words, &mut hints, adds.len() / 8, deletes.len() / 8);
-    let joined = update_members_bytes(words, &hints, before, adds, true);
-    if !joined.live {
-        return Pinged::refused(answer::NO_OBJECT);
-    }
-    let members = joined.members;
-    let left = update_members_bytes(words, &hints, members, deletes, false);
-    let after = left.members;
-    ping_listed(words, store, set, sequence, after)
+    hint_listed(words, &mut hints, adds.count(), deletes.count());
+    let Some(joined) = update_members(words, &hints, before, adds, true) else {
+        return Err(Refusal::NoObject);
+    };
+    // An OID to be deleted need not be live.
+    let left = update_members(words, &hints, joined, deletes, false).unwrap();
+    ping_listed(words, store, set, sequence, left)
 }
 
 // The rest of it, by the members that are left of the lists.
@@ -382,25 +376,18 @@ fn ping_listed(
     set: SetId,
     sequence: u16,
     members: Members,
-) -> Pinged
+) -> Result<SetId, Refusal>
     requires { SoundTable (memory words.old store.now)
         × (is_ping_set set.0 (view (memory words.old store.now)) ≡ true) }
     ensures { (adds dels : List ℕ)
         → Reduced set.0 sequence adds dels (view (memory words.old store.now)) members
         → Stepped (Call.editing (Edit.complex_ping set.0 sequence adds dels)) (memory words.old store.now)
-        (ping_reply result) (memory words.new store.now) }
+        (ping_reply (pinged result)) (memory words.new store.now) }
 {
-    let number = late_answer(words, set);
-    if number != answer::DONE {
-        return Pinged::refused(number);
-    }
+    late_answer(words, set)?;
     let pinged = ping_set_number(words, set);
     let i = ping_set_row(words, set);
     update_set(words, i, sequence, members);
     ping_row(words, i);
-    Pinged {
-        answer: answer::DONE,
-        set: pinged,
-        backoff: 0,
-    }
+    Ok(pinged)
 }

@@ -1,21 +1,31 @@
 // References taken and given back, and a client's dropped.
 #![tactic(auto)]
 
-ghost use Rattle.std.specs.Prelude.{◌≡◌, true, List, ℕ, ◌<◌, min};
+ghost use Rattle.std.specs.Prelude.{◌≡◌, true, List, ℕ, ◌<◌};
+ghost use Rattle.kinds.specs.Answers.{answer_number};
 ghost use Rattle.lists.specs.Guids.{same_guid};
 ghost use Rattle.rules.specs.Entries.{at_counts, interface_row};
 ghost use Rattle.rules.specs.Sound.{proper};
 ghost use Rattle.rules.specs.Calls.{Call, Edit, numbered};
 ghost use Rattle.table_view.specs.View.{interface_count, memory, view, Holds, SoundTable, Stepped, oids_of, members_live_in};
 ghost use Rattle.table_edit.specs.Edits.{Became, change_interface};
-ghost use Rattle.call_references.specs.Replies.{release_reply};
+ghost use Rattle.call_references.specs.Replies.{release_reply, released};
 ghost use Rattle.call_references.specs.Dropping.{Serves, InterfaceDropped};
 ghost use Rattle.rules.specs.Contract.{Whole};
 
-use kinds::{Guid, Oid, answer, limits};
+use kinds::{Guid, Oid, Refusal, limits};
 use table_view::find;
 
 // What a release took of each count, and how many interfaces and objects went: 0 or 1 of each.
+#[derive(Clone, Copy)]
+pub struct Taken {
+    pub public: u32,
+    pub private: u32,
+    pub interfaces: u32,
+    pub objects: u32,
+}
+
+// The same with the answer number, as C gets it.
 #[repr(C)]
 #[derive(Clone, Copy)]
 pub struct Released {
@@ -26,16 +36,25 @@ pub struct Released {
     pub objects: u32,
 }
 
-impl Released {
-    pub fn refused(number: u32) -> Released
-        ensures { result ≡ record { answer = number; public = 0; private = 0; interfaces = 0; objects = 0 } }
-    {
-        Released {
-            answer: number,
-            public: 0,
-            private: 0,
-            interfaces: 0,
-            objects: 0,
+impl From<Result<Taken, Refusal>> for Released {
+    ghost from_gives = { λ r x. x ≡ released r };
+
+    fn from(r: Result<Taken, Refusal>) -> Released {
+        match r {
+            Ok(taken) => Released {
+                answer: 0,
+                public: taken.public,
+                private: taken.private,
+                interfaces: taken.interfaces,
+                objects: taken.objects,
+            },
+            Err(why) => Released {
+                answer: u32::from(why),
+                public: 0,
+                private: 0,
+                interfaces: 0,
+                objects: 0,
+            },
         }
     }
 }
@@ -57,19 +76,7 @@ pub fn is_row(words: &[u64], store: &[u8], row: usize, ipid: Guid) -> bool
     requires { SoundTable (memory words.now store.now) }
     ensures { result ≡ true → Holds (λ e. row ≡ interface_row e ipid) words.now }
 {
-    if row < find::interface_count(words) {
-        return is_same(find::ipid(words, row), ipid);
-    }
-    false
-}
-
-fn is_same(a: Guid, b: Guid) -> bool
-    ensures { result ≡ same_guid a b }
-{
-    if a.low != b.low {
-        return false;
-    }
-    a.high == b.high
+    row < find::interface_count(words) && find::ipid(words, row) == ipid
 }
 
 // The call on a sound table.
@@ -80,10 +87,10 @@ pub fn add_step(
     ipid: Guid,
     public: u32,
     private: u32,
-) -> u32
+) -> Result<(), Refusal>
     requires { SoundTable (memory words.old store.now) }
     ensures { Stepped (Call.editing (Edit.add client ipid public private)) (memory words.old store.now)
-        (numbered result) (memory words.new store.now) }
+        (numbered (answer_number result)) (memory words.new store.now) }
 {
     let i = find::interface_row(words, ipid);
     add_at(words, store, client, ipid, i, public, private)
@@ -98,28 +105,26 @@ pub fn add_at(
     i: usize,
     public: u32,
     private: u32,
-) -> u32
+) -> Result<(), Refusal>
     requires { SoundTable (memory words.old store.now) × Holds (λ e. i ≡ interface_row e ipid) words.old }
     ensures { Stepped (Call.editing (Edit.add client ipid public private)) (memory words.old store.now)
-        (numbered result) (memory words.new store.now) }
+        (numbered (answer_number result)) (memory words.new store.now) }
 {
     if limits::LAST_CLIENT < client {
-        return answer::NO_CLIENT;
+        return Err(Refusal::NoClient);
     }
     if find::interface_count(words) <= i {
-        return answer::NO_INTERFACE;
+        return Err(Refusal::NoInterface);
     }
     let counts = find::interface_counts(words, i, client as usize);
-    let more_public = counts.public as u64 + public as u64;
-    let more_private = counts.private as u64 + private as u64;
-    if 0xFFFFFFFF < more_public {
-        return answer::COUNT_OVERFLOW;
-    }
-    if 0xFFFFFFFF < more_private {
-        return answer::COUNT_OVERFLOW;
-    }
-    set_counts(words, i, client, more_public as u32, more_private as u32);
-    answer::DONE
+    let Some(more_public) = counts.public.checked_add(public) else {
+        return Err(Refusal::CountOverflow);
+    };
+    let Some(more_private) = counts.private.checked_add(private) else {
+        return Err(Refusal::CountOverflow);
+    };
+    set_counts(words, i, client, more_public, more_private);
+    Ok(())
 }
 
 // The public count of interface i and the private one of a client.
@@ -130,12 +135,6 @@ fn set_counts(words: &mut [u64], i: usize, client: u32, public: u32, private: u3
 {
     table_edit::store_count(words, i, 0, public);
     table_edit::store_count(words, i, client as usize + 1, private);
-}
-
-fn smaller(a: u32, b: u32) -> u32
-    ensures { result ≡ min a b }
-{
-    if a < b { a } else { b }
 }
 
 // Takes interface i of this object out, and with it the object where no interface names it then; answers whether it went.
@@ -162,10 +161,10 @@ pub fn release_step(
     ipid: Guid,
     public: u32,
     private: u32,
-) -> Released
+) -> Result<Taken, Refusal>
     requires { SoundTable (memory words.old store.now) }
     ensures { Stepped (Call.editing (Edit.release client ipid public private)) (memory words.old store.now)
-        (release_reply result) (memory words.new store.now) }
+        (release_reply (released result)) (memory words.new store.now) }
 {
     let i = find::interface_row(words, ipid);
     release_at(words, store, client, ipid, i, public, private)
@@ -180,56 +179,54 @@ pub fn release_at(
     i: usize,
     public: u32,
     private: u32,
-) -> Released
+) -> Result<Taken, Refusal>
     requires { SoundTable (memory words.old store.now) × Holds (λ e. i ≡ interface_row e ipid) words.old }
     ensures { Stepped (Call.editing (Edit.release client ipid public private)) (memory words.old store.now)
-        (release_reply result) (memory words.new store.now) }
+        (release_reply (released result)) (memory words.new store.now) }
 {
     if limits::LAST_CLIENT < client {
-        return Released::refused(answer::NO_CLIENT);
+        return Err(Refusal::NoClient);
     }
     if find::interface_count(words) <= i {
-        return Released::refused(answer::NO_INTERFACE);
+        return Err(Refusal::NoInterface);
     }
     let counts = find::interface_counts(words, i, client as usize);
-    let taken_public = smaller(public, counts.public);
-    let taken_private = smaller(private, counts.private);
+    let taken_public = public.min(counts.public);
+    let taken_private = private.min(counts.private);
     let left_public = counts.public - taken_public;
     let left_private = counts.private - taken_private;
     set_counts(words, i, client, left_public, left_private);
     if find::is_held(words, i) {
-        return Released {
-            answer: answer::DONE,
+        return Ok(Taken {
             public: taken_public,
             private: taken_private,
             interfaces: 0,
             objects: 0,
-        };
+        });
     }
-    Released {
-        answer: answer::DONE,
+    Ok(Taken {
         public: taken_public,
         private: taken_private,
         interfaces: 1,
         objects: drop_interface(words, i, counts.object),
-    }
+    })
 }
 
 // The call on a sound table.
-pub fn drop_client_step(words: &mut [u64], store: &[u8], client: u32) -> u32
+pub fn drop_client_step(words: &mut [u64], store: &[u8], client: u32) -> Result<(), Refusal>
     requires { SoundTable (memory words.old store.now) }
     ensures { Stepped (Call.editing (Edit.drop_client client)) (memory words.old store.now)
-        (numbered result) (memory words.new store.now) }
+        (numbered (answer_number result)) (memory words.new store.now) }
 {
     if limits::LAST_CLIENT < client {
-        return answer::NO_CLIENT;
+        return Err(Refusal::NoClient);
     }
     let n = find::interface_count(words);
     table_settle::clear_counts(words, client as usize);
     table_settle::drop_unheld(words);
     if find::interface_count(words) == n {
-        return answer::DONE;
+        return Ok(());
     }
     table_settle::remove_unserved(words);
-    answer::DONE
+    Ok(())
 }

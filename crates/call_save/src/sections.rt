@@ -41,10 +41,8 @@ fn put_section(
 {
     fields::write_u16(buffer, at, rows.len() as u16);
     let mut next = at + 2;
-    let mut k = 0;
-    while k < rows.len() {
-        next = rows::put_row(words, store, section, objects, rows[k], buffer, next);
-        k += 1;
+    for row in rows {
+        next = rows::put_row(words, store, section, objects, *row, buffer, next);
     }
     next
 }

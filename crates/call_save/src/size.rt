@@ -13,13 +13,9 @@ fn member_count(words: &[u64]) -> usize
     requires { Whole words.now }
     ensures { (result ≡ length (joined (map (λ (s : PingSet). s.members) (sets_of words.now)))) × (result ≤ 4096) }
 {
-    let n = find::set_count(words);
     let mut total = 0;
-    let mut i = 0;
-    while i < n {
-        let members = find::members(words, i);
-        total += members.size();
-        i += 1;
+    for i in 0..find::set_count(words) {
+        total += find::members(words, i).size();
     }
     total
 }

@@ -9,15 +9,19 @@ use borrow.Author.Tests.{eq-eqb, ne_eqb, eqb-true, ltb-true, lt-ltb, le-ltb}
 use lib.Dec.{eqb, ltb}
 use lib.ListN.{length, get_or, set, take}
 use lib.Seq.{get_or-set_same, get_or-set_other, get_or-take, length-take-le}
+use Rattle.std.proofs.Common.{Option, Some, None, MatchOption, subst, is_some, cond}
+use Rattle.std.specs.List.{position, position_or_len}
+use Rattle.std.proofs.lemmas.List.Sums.{passes_at_first}
 use Rattle.lists.specs.Lists.{every, some, nonzero, distinct, among, first_index}
-use Rattle.lists.proofs.Tests.{same_or_not, and_intro, and_left, and_right}
-use Rattle.lists.proofs.First.{first-at, some_first}
+use Rattle.lists.proofs.Tests.{same_or_not, below_or_not, and_intro, and_left, and_right}
+use Rattle.lists.proofs.First.{some_first}
 use Rattle.lists.proofs.Lists.{every-mono, every-ext, none-some, some_at, some-cons}
 use Rattle.lists.proofs.Distinct.{eqb-decides, same-comm, distinct_none, distinct_cons, distinct-at}
 use Rattle.table_columns.specs.Buckets.{word_bucket}
+use Rattle.table_columns.proofs.Chains.{position-first}
 use Rattle.table_columns.proofs.buckets.Absence.{each-absent}
 use Rattle.identifiers.proofs.Noting.{Before, each-indexed}
-use Rattle.identifiers.specs.Index.{climbing, noted, IndexedWords, Noted, Tried, RowOf}
+use Rattle.identifiers.specs.Index.{climbing, noted, IndexedWords, Noted, StandsAt}
 
 -- ---- lists
 
@@ -103,44 +107,45 @@ noted-all {m} {col} {rows} l h p =
 
 -- ---- rows
 
--- the first index of a word is a row of it
-pub row-searched : (x : ℕ) (col : List ℕ) {r : ℕ} → r ≡ first_index (eqb x) col → RowOf x col r
-row-searched x col {r} e =
-    record {
-      here = λ h. sym (eqb-true x (get_or col r 0) (rw e (first-at (eqb x) 0 col (rw e at h))));
-      absent = λ h. sym (some_first (eqb x) col) ∙ le-ltb (first_index (eqb x) col) (length col) (rw e at h);
-    }
+-- where a word stands it is there
+pub row_here : (x r : ℕ) (col : List ℕ) → StandsAt x col r → among col x ≡ true
+row_here x r col q = some_at (eqb x) col 0 r q.0 (eq-eqb x (get_or col r 0) (sym q.1))
 
--- a row that was tried
-pub row-tried : {x r : ℕ} {col : List ℕ} → Tried x col r → r < length col → RowOf x col r
-row-tried t l = record { here = λ h. t.here h; absent = λ h. absurd (omega arith) }
+-- a search of the whole column
+pub row-searched : (x : ℕ) (col : List ℕ) {o : Option ℕ} → o ≡ position (eqb x) col → MatchOption o (among col x ≡ false) (StandsAt x col)
+row-searched x col e =
+    let n = position_or_len (eqb x) col in
+    let P : Option ℕ → Type 0 = λ o. MatchOption o (among col x ≡ false) (StandsAt x col) in
+    let told : Bool → Option ℕ = λ b. cond b (Some n) None in
+    ⊎_elim
+    (λ (h : n < length col). subst P (sym (e ∙ ap told (lt-ltb n (length col) h))) (h, sym (eqb-true x (get_or col n 0) (passes_at_first (eqb x) col 0 h))))
+    (λ (h : length col ≤ n).
+    let f = position-first (eqb x) col in
+    subst P (sym (e ∙ ap told (le-ltb n (length col) h))) (sym (some_first (eqb x) col) ∙ le-ltb (first_index (eqb x) col) (length col) (omega arith)))
+    (below_or_not n (length col))
 
--- no row, where the bucket has none
-pub row-none : {rows : List ℕ} {b : ℕ} (x : ℕ) (col : List ℕ) → IndexedWords rows col → (b ≡ word_bucket x % length rows) × (b < length rows) → get_or rows b 0 ≡ 0
-    → RowOf x col (length col)
-row-none x col m q z = record { here = λ h. absurd (omega arith); absent = λ h. unindexed x m q z }
-
--- where a word has a row it is there
-pub row_here : {x r : ℕ} {col : List ℕ} → RowOf x col r → r < length col → among col x ≡ true
-row_here {x} {r} {col} q h = some_at (eqb x) col 0 r h (eq-eqb x (get_or col r 0) (sym (q.here h)))
+-- a word that has a row is there, and one that has none is not
+pub row-tells : (x : ℕ) (col : List ℕ) (o : Option ℕ) → MatchOption o (among col x ≡ false) (StandsAt x col) → is_some o ≡ among col x
+row-tells x col None m = sym m
+row-tells x col (Some r) q = sym (row_here x r col q)
 
 -- the rows of the words of a that were met; those of the words ys are left
 abbrev pub Met : List ℕ → List ℕ → List Bool → List ℕ → Type 0
 Met col a met ys = (j : ℕ) → j < length col → among a (get_or col j 0) ≡ (get_or met j false || among ys (get_or col j 0))
 
 -- one more is met
-pub met-one : (col a : List ℕ) (met : List Bool) {x r : ℕ} {xs ys : List ℕ} → ys ≡ x ∷ xs → RowOf x col r → r < length col → length col ≤ length met → distinct eqb col ≡ true
+pub met-one : (col a : List ℕ) (met : List Bool) {x r : ℕ} {xs ys : List ℕ} → ys ≡ x ∷ xs → StandsAt x col r → length col ≤ length met → distinct eqb col ≡ true
     → Met col a met ys → Met col a (set met r true) xs
-met-one col a met {x} {r} {xs} {ys} e q h l d m j b =
+met-one col a met {x} {r} {xs} {ys} e q l d m j b =
     let y = get_or col j 0 in
     let left : among a y ≡ (get_or met j false || (eqb y x || among xs y)) = m j b ∙ ap (λ (t : Bool). get_or met j false || t) (ap (λ (zs : List ℕ). among zs y) e ∙ some-cons (eqb y) x xs) in
     ⊎_elim
     (λ (s : j ≡ r).
-    let here : eqb y x ≡ true = eq-eqb y x (ap (λ (k : ℕ). get_or col k 0) s ∙ q.here h) in
+    let here : eqb y x ≡ true = eq-eqb y x (ap (λ (k : ℕ). get_or col k 0) s ∙ q.1) in
     let g : j < length met = omega arith in
     left ∙ rw (here, ← s, get_or-set_same met j true false g) (or-true (get_or met j false)))
     (λ n.
-    let other : eqb y x ≡ false = ne_eqb y x (λ z. n (distinct-at eqb eqb-decides col 0 d j r b h (z ∙ sym (q.here h)))) in
+    let other : eqb y x ≡ false = ne_eqb y x (λ z. n (distinct-at eqb eqb-decides col 0 d j r b q.0 (z ∙ sym q.1))) in
     left ∙ rw (other, get_or-set_other met r j true false n))
     (same_or_not j r)
 

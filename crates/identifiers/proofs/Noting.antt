@@ -52,20 +52,6 @@ module _ {rows rows' : List ℕ} {b k number : ℕ} (here : ℕ → Bool) (p : P
       (λ (z : eqb (get_or rows' k 0) 0 ≡ false). rw z)
       (true-or-false (eqb (get_or rows' k 0) 0)))
 
--- whether one is noted, as code asks
-pub noted-none : {first : ℕ} (second : ℕ) (here : ℕ → Bool) → first ≡ 0 → false ≡ noted first second here
-unfolding noted
-noted-none second here e = rw e
-
-module _ (first second : ℕ) (here : ℕ → Bool) (n : first ≡ 0 → ⊥) where
-  pub noted-both : (second ≡ 0 → ⊥) → true ≡ noted first second here
-  unfolding noted
-  noted-both m = rw (ne_eqb first 0 n, ne_eqb second 0 m)
-
-  pub noted_here : second ≡ 0 → {r : Bool} → r ≡ here (first - 1) → r ≡ noted first second here
-  unfolding noted
-  noted_here e q = q ∙ rw (ne_eqb first 0 n, e)
-
 -- ---- numbers that are entered
 
 module _ {rows : List ℕ} {k : ℕ} where

@@ -1,7 +1,7 @@
 -- What is promised of identifiers and of the index of a column: a row for each bucket, counted from 1, or 0.
 use Rattle.std.specs.Prelude.{ℕ, ◌-◌, ◌%◌, ◌<◌, ◌≤◌, ◌≡◌, Bool, true, false, not, ◌&&◌, ◌||◌, List, [], ◌∷◌, ◌++◌, length, get_or, drop, eqb, ltb}
 use Rattle.kinds.specs.declared.Guid.{Guid}
-use Rattle.lists.specs.Lists.{every, nonzero, distinct, among}
+use Rattle.lists.specs.Lists.{every, nonzero, distinct}
 use Rattle.lists.specs.Guids.{nil, same_guid}
 use Rattle.table_columns.specs.Buckets.{guid_bucket, low_bucket, word_bucket}
 use Rattle.table_columns.specs.Guids.{guid_at, guids}
@@ -38,14 +38,9 @@ pub record Noted (col rows : List ℕ) (r : Bool) : Type 0 where
   pub judged : r ≡ (nonzero col && distinct eqb col)
   pub indexed : r ≡ true → IndexedWords rows col
 
--- where r is a row, x stands there
-pub record Tried (x : ℕ) (col : List ℕ) (r : ℕ) : Type 0 where
-  pub here : r < length col → get_or col r 0 ≡ x
-
--- r is a row of x, or no row where x is not there
-pub record RowOf (x : ℕ) (col : List ℕ) (r : ℕ) : Type 0 where
-  pub here : r < length col → get_or col r 0 ≡ x
-  pub absent : length col ≤ r → among col x ≡ false
+-- x stands in row r of a column
+abbrev pub StandsAt : ℕ → List ℕ → ℕ → Type 0
+StandsAt x col r = (r < length col) × (get_or col r 0 ≡ x)
 
 -- the number of a row, counted from 1, where it is one of the first rows; else 255
 pub record NumberOf (next most r : ℕ) : Type 0 where

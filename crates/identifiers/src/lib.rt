@@ -5,13 +5,13 @@
 // is compared, and searched for where it is another.
 #![tactic(auto)]
 
-ghost use Rattle.std.specs.Prelude.{◌≡◌, true, false, ◌&&◌, ◌++◌, ◌%◌, ◌<◌, ◌≤◌, length, get_or, drop, eqb};
+ghost use Rattle.std.specs.Prelude.{◌≡◌, true, false, ◌&&◌, ◌++◌, ◌%◌, ◌<◌, ◌≤◌, length, get_or, drop, eqb, IfSome, MatchOption};
 ghost use Rattle.lists.specs.Lists.{every, some, nonzero, distinct, among};
 ghost use Rattle.lists.specs.Guids.{same_guid};
 ghost use Rattle.table_columns.specs.Guids.{guids};
 ghost use Rattle.table_columns.specs.Buckets.{word_bucket};
 ghost use Rattle.table_columns.specs.Guids.{guid_at};
-ghost use Rattle.identifiers.specs.Index.{climbing, noted, Filled, Put, IndexedWords, Noted, Tried, RowOf, NumberOf, Entering, Entered};
+ghost use Rattle.identifiers.specs.Index.{climbing, noted, Filled, Put, IndexedWords, Noted, StandsAt, NumberOf, Entering, Entered};
 
 use kinds::Guid;
 use table_columns::buckets;
@@ -33,16 +33,11 @@ fn second_bucket(x: u64, m: usize) -> usize
 }
 
 // Whether a word is noted, by the numbers of its two buckets.
+#[tactic(auto, unfolding(crate::specs::Index::noted))]
 fn is_noted(first: u8, second: u8, col: &[u64], x: u64) -> bool
     ensures { result ≡ noted first second (λ i. eqb x (get_or col.now i 0)) }
 {
-    if first == 0 {
-        return false;
-    }
-    if second != 0 {
-        return true;
-    }
-    x == table_columns::word_at(col, first as usize - 1)
+    first != 0 && (second != 0 || x == table_columns::word_at(col, first as usize - 1))
 }
 
 // Enters a number under a bucket that has none.
@@ -78,20 +73,16 @@ pub fn note(rows: &mut [u8], col: &[u64]) -> bool
     requires { (0 < length rows.old) × (length col.now < 256) }
     ensures { Noted col.now rows.new result }
 {
-    let mut i = col.len();
-    while 0 < i {
-        let next = i;
-        i -= 1;
+    for i in (0..col.len()).rev() {
+        let next = i + 1;
         let x = col[i];
         if x == 0 {
             return false;
         }
         let b = bucket(x, rows.len());
         let k = second_bucket(x, rows.len());
-        if is_noted(rows[b], rows[k], col, x) {
-            if table_columns::has(&col[next..], x) {
-                return false;
-            }
+        if is_noted(rows[b], rows[k], col, x) && table_columns::has(&col[next..], x) {
+            return false;
         }
         enter(rows, b, k, next as u8);
     }
@@ -103,14 +94,11 @@ fn climbs(col: &[u64]) -> bool
     ensures { result ≡ climbing 0 col.now }
 {
     let mut last = 0;
-    let mut i = 0;
-    while i < col.len() {
-        let x = col[i];
+    for &x in col {
         if x <= last {
             return false;
         }
         last = x;
-        i += 1;
     }
     true
 }
@@ -127,41 +115,39 @@ pub fn are_proper(col: &[u64]) -> bool
     note(&mut rows, col)
 }
 
-// The row that a number leads to where x stands there; else the column's length.
-fn tried_row(col: &[u64], number: u8, x: u64) -> usize
-    ensures { Tried x col.now result }
+// The row that a number leads to, where x stands there.
+fn tried_row(col: &[u64], number: u8, x: u64) -> Option<usize>
+    ensures { IfSome result (StandsAt x col.now) }
 {
-    if number == 0 {
-        return col.len();
-    }
-    let row = number as usize - 1;
-    if row < col.len() {
-        if x == col[row] {
-            return row;
-        }
-    }
-    col.len()
+    let row = usize::from(number).checked_sub(1)?;
+    if *col.get(row)? == x { Some(row) } else { None }
 }
 
-// The row of x by the index of a column; the column's length where x is not there.
-fn row_of(rows: &[u8], col: &[u64], x: u64) -> usize
+// The row of x by the index of a column.
+fn row_of(rows: &[u8], col: &[u64], x: u64) -> Option<usize>
     requires { IndexedWords rows.now col.now }
-    ensures { RowOf x col.now result }
+    ensures { MatchOption result (among col.now x ≡ false) (StandsAt x col.now) }
 {
     let b = bucket(x, rows.len());
     if rows[b] == 0 {
-        return col.len();
+        return None;
     }
-    let first = tried_row(col, rows[b], x);
-    if first < col.len() {
-        return first;
+    if let Some(row) = tried_row(col, rows[b], x) {
+        return Some(row);
     }
     let k = second_bucket(x, rows.len());
-    let second = tried_row(col, rows[k], x);
-    if second < col.len() {
-        return second;
+    if let Some(row) = tried_row(col, rows[k], x) {
+        return Some(row);
     }
-    table_columns::index_of(col, x)
+    col.iter().position(|&y| x == y)
+}
+
+// x stands in the column.
+fn is_found(rows: &[u8], col: &[u64], x: u64) -> bool
+    requires { IndexedWords rows.now col.now }
+    ensures { result ≡ among col.now x }
+{
+    row_of(rows, col, x).is_some()
 }
 
 // Each word of a stands in the column.
@@ -169,27 +155,13 @@ pub fn all_found(rows: &[u8], col: &[u64], a: &[u64]) -> bool
     requires { IndexedWords rows.now col.now }
     ensures { result ≡ every (among col.now) a.now }
 {
-    let mut i = 0;
-    while i < a.len() {
-        if row_of(rows, col, a[i]) >= col.len() {
-            return false;
-        }
-        i += 1;
-    }
-    true
+    a.iter().all(|&x| is_found(rows, col, x))
 }
 
 fn all_true(marks: &[bool]) -> bool
     ensures { result ≡ every (λ b. b) marks.now }
 {
-    let mut i = 0;
-    while i < marks.len() {
-        if !marks[i] {
-            return false;
-        }
-        i += 1;
-    }
-    true
+    marks.iter().all(|&mark| mark)
 }
 
 // Each word of a stands in the column, and each word of the column in a.
@@ -198,14 +170,11 @@ pub fn all_paired(rows: &[u8], col: &[u64], a: &[u64]) -> bool
     ensures { result ≡ (every (among col.now) a.now && every (among a.now) col.now) }
 {
     let mut met = [false; 128];
-    let mut i = 0;
-    while i < a.len() {
-        let row = row_of(rows, col, a[i]);
-        if row >= col.len() {
+    for &x in a {
+        let Some(row) = row_of(rows, col, x) else {
             return false;
-        }
+        };
         met[row] = true;
-        i += 1;
     }
     all_true(&met[..col.len()])
 }
@@ -222,23 +191,16 @@ fn stands_later(
 ) -> bool
     ensures { result ≡ some (same_guid g) (drop next (guids lows.now highs.now) ++ drop from (guids lows2.now highs2.now)) }
 {
-    if table_columns::has_guid_from(lows, highs, next, g) {
-        return true;
-    }
-    table_columns::has_guid_from(lows2, highs2, from, g)
+    table_columns::has_guid_from(lows, highs, next, g)
+        || table_columns::has_guid_from(lows2, highs2, from, g)
 }
 
-// Whether a GUID is noted, by the numbers of its two buckets.
+// Whether a GUID is noted, by the numbers of its two buckets. A test passed to one function for both would be no plainer.
+#[tactic(auto, unfolding(crate::specs::Index::noted))]
 fn is_guid_noted(first: u8, second: u8, lows: &[u64], highs: &[u64], g: Guid) -> bool
     ensures { result ≡ noted first second (λ i. same_guid g (guid_at lows.now highs.now i)) }
 {
-    if first == 0 {
-        return false;
-    }
-    if second != 0 {
-        return true;
-    }
-    table_columns::is_guid_at(lows, highs, first as usize - 1, g)
+    first != 0 && (second != 0 || table_columns::is_guid_at(lows, highs, first as usize - 1, g))
 }
 
 // The number of a row, counted from 1, among so many that are led to; 255 for the others.
@@ -247,14 +209,16 @@ fn number_of(next: usize, most: usize) -> u8
     ensures { NumberOf next most result }
 {
     if next <= most {
-        return buckets::number_of(next - 1);
+        buckets::number_of(next - 1)
+    } else {
+        255
     }
-    255
 }
 
 // Whether the GUIDs of two columns are proper before those of two more from an index on, which are noted; notes theirs as well.
 // The numbers lead to the latter columns, whose GUIDs before the index are those of the former. From the last GUID to the first:
 // where one is not yet noted, no later GUID is the same.
+// Not one function with `note`: it differs in the identifier, its buckets, its later ones and its numbers, and a trait of those would be no plainer.
 pub fn enter_guids(
     rows: &mut [u8; buckets::BUCKETS],
     lows: &[u64],
@@ -267,20 +231,18 @@ pub fn enter_guids(
     ensures { Entered lows.now highs.now lows2.now highs2.now from
         rows.new result }
 {
-    let mut i = lows.len();
-    while 0 < i {
-        let next = i;
-        i -= 1;
+    for i in (0..lows.len()).rev() {
+        let next = i + 1;
         let g = table_columns::guid_at(lows, highs, i);
         if table_columns::is_nil(g) {
             return false;
         }
         let b = buckets::of_guid(g);
         let k = buckets::low_of_guid(g);
-        if is_guid_noted(rows[b], rows[k], lows2, highs2, g) {
-            if stands_later(lows, highs, next, lows2, highs2, from, g) {
-                return false;
-            }
+        if is_guid_noted(rows[b], rows[k], lows2, highs2, g)
+            && stands_later(lows, highs, next, lows2, highs2, from, g)
+        {
+            return false;
         }
         enter(rows, b, k, number_of(next, from));
     }

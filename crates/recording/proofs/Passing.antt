@@ -1,6 +1,6 @@
 -- The whole records that were passed, and those that are left.
 use Prim.Native.Nat.{ℕ, suc, ◌+◌, ◌-◌, ◌<◌, ◌≤◌}
-use mathlib.Core.Path.{◌≡◌, refl, sym, ap, ◌∙◌}
+use mathlib.Core.Path.{◌≡◌, refl, sym, ap, ◌∙◌, subst}
 use mathlib.Core.Bool.{Bool, true, false, cond, not, ◌||◌, or-true}
 use mathlib.Core.List.{List}
 use native.Mathlib.Omega.{arith}
@@ -82,12 +82,13 @@ module _ (s : List ℕ) (at n : ℕ) (g : Going s at n) where
       ∙ ap (λ (x : Bool). short_sections 5 (drop at s) || x) b
       ∙ or-true (short_sections 5 (drop at s))))
 
-  pub going_end : 16384 ≤ n → Passes s (record { count = n; end = at })
+  pub going_end : 16384 ≤ n → Passes s (record { count = 16384; end = at })
   unfolding whole_records
   going_end h =
       let f = g.few in
       let z : 16384 - n ≡ 0 = omega arith in
-      stopped (ap (λ (k : ℕ). whole_records k (drop at s)) z)
+      let e : n ≡ 16384 = omega arith in
+      subst (λ (k : ℕ). Passes s (record { count = k; end = at })) e (stopped (ap (λ (k : ℕ). whole_records k (drop at s)) z))
 
   pub going_step : n < 16384 → (e : Ends) → e ≡ record_ends s at → (e.shown ≡ 0 → ⊥) → (f : Bool) → f ≡ well_formed (sections_at (drop at s)) → not f ≡ false
       → Going s e.shown (n + 1)

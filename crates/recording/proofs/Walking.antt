@@ -22,8 +22,10 @@ pub record Rest (s : List ℕ) (n at : ℕ) (fits : Bool) (left : ℕ) : Type 0 
   pub fit : (fits && every well_formed (records_in left (drop at s))) ≡ every well_formed (records_in n (drop 8 s))
   pub behind : behind_records left (drop at s) ≡ behind_records n (drop 8 s)
 
-pub rest-start : (s : List ℕ) (n : ℕ) → 8 ≤ length s → Rest s n 8 true n
-rest-start s n h = record { from = omega arith; inside = h; short = refl; fit = refl; behind = refl }
+pub rest-start : (s : List ℕ) (n : ℕ) → 8 ≤ length s → (left : ℕ) → left ≡ n → Rest s n 8 true left
+rest-start s n h left e =
+    let d : List ℕ = drop 8 s in
+    record { from = omega arith; inside = h; short = ap (λ k. short_records k d) e; fit = ap (λ k. every well_formed (records_in k d)) e; behind = ap (λ k. behind_records k d) e }
 
 past-zero : (at : ℕ) → 8 ≤ at → at ≡ 0 → ⊥
 past-zero at h z = omega arith
@@ -37,35 +39,33 @@ module _ (s : List ℕ) (n at : ℕ) (fits : Bool) (left : ℕ) (r : Rest s n at
   one_more h = omega arith
 
   -- it is short
-  pub rest-short : 0 < left → ends_from 5 s at ≡ 0 → Walked s n (record { end = 0; fits = false })
-  rest-short h z =
-      record {
-        short = sym (sym r.short ∙ ap (λ (k : ℕ). short_records k (drop at s)) (one_more h) ∙ records-short s at (left - 1) (past-zero at r.from) z);
-        fits = λ f. absurd (f refl);
-        left = λ f. absurd (f refl);
-        inside = omega arith;
-      }
+  pub rest-short : 0 < left → (e : Ends) → e ≡ record_ends s at → e.shown ≡ 0 → short_records n (drop 8 s) ≡ true
+  rest-short h e q z =
+      let y : ends_from 5 s at ≡ 0 = sym (ap (λ (x : Ends). x.shown) q) ∙ z in
+      sym r.short ∙ ap (λ (k : ℕ). short_records k (drop at s)) (one_more h) ∙ records-short s at (left - 1) (past-zero at r.from) y
 
   -- it is passed
-  pub rest-step : 0 < left → (to : ℕ) → to ≡ ends_from 5 s at → (to ≡ 0 → ⊥) → (one both : Bool) → one ≡ well_formed (sections_at (drop at s)) → both ≡ (fits && one)
-      → Rest s n to both (left - 1)
-  rest-step h to q z one both w b =
-      let y : ends_from 5 s at ≡ 0 → ⊥ = λ e. z (q ∙ e) in
+  pub rest-step : 0 < left → (e : Ends) → e ≡ record_ends s at → (e.shown ≡ 0 → ⊥) → (one : Bool) → one ≡ well_formed (sections_at (drop at s)) → (less : ℕ) → less ≡ left - 1
+      → Rest s n e.shown (fits && one) less
+  rest-step h e p z one w less d =
+      let q : e.shown ≡ ends_from 5 s at = ap (λ (x : Ends). x.shown) p in
+      let y : ends_from 5 s at ≡ 0 → ⊥ = λ x. z (q ∙ x) in
       let a = records-after s at (left - 1) y in
       let i = records-inside s at (left - 1) y in
       let f = r.from in
+      let m : left ≡ suc (left - 1) = one_more h in
       let rest : Bool = every well_formed (records_in (left - 1) (drop (ends_from 5 s at) s)) in
       record {
         from = omega arith;
         inside = omega arith;
-        short = ap (λ (k : ℕ). short_records (left - 1) (drop k s)) q ∙ sym (records-past s at (left - 1) y) ∙ ap (λ (k : ℕ). short_records k (drop at s)) (sym (one_more h)) ∙ r.short;
+        short = (λ u. short_records (d u) (drop (q u) s)) ∙ sym (records-past s at (left - 1) y) ∙ ap (λ (k : ℕ). short_records k (drop at s)) (sym m) ∙ r.short;
         fit =
-            (λ u. b u && every well_formed (records_in (left - 1) (drop (q u) s)))
+            (λ u. (fits && one) && every well_formed (records_in (d u) (drop (q u) s)))
             ∙ and_assoc fits one rest
             ∙ ap (λ (x : Bool). fits && (x && rest)) w
-            ∙ ap (λ (x : Bool). fits && x) (sym (records-fit s at (left - 1) y) ∙ ap (λ (k : ℕ). every well_formed (records_in k (drop at s))) (sym (one_more h)))
+            ∙ ap (λ (x : Bool). fits && x) (sym (records-fit s at (left - 1) y) ∙ ap (λ (k : ℕ). every well_formed (records_in k (drop at s))) (sym m))
             ∙ r.fit;
-        behind = ap (λ (k : ℕ). behind_records (left - 1) (drop k s)) q ∙ sym (records-left s at (left - 1) y) ∙ ap (λ (k : ℕ). behind_records k (drop at s)) (sym (one_more h)) ∙ r.behind;
+        behind = (λ u. behind_records (d u) (drop (q u) s)) ∙ sym (records-left s at (left - 1) y) ∙ ap (λ (k : ℕ). behind_records k (drop at s)) (sym m) ∙ r.behind;
       }
 
   -- none is left
@@ -74,9 +74,9 @@ module _ (s : List ℕ) (n at : ℕ) (fits : Bool) (left : ℕ) (r : Rest s n at
   rest_end h =
       let z : left ≡ 0 = omega arith in
       record {
-        short = ne_eqb at 0 (past-zero at r.from) ∙ (sym (sym r.short ∙ ap (λ (k : ℕ). short_records k (drop at s)) z));
-        fits = λ f. sym (and-true fits) ∙ (sym (sym r.fit ∙ ap (λ (k : ℕ). fits && every well_formed (records_in k (drop at s))) z));
-        left = λ f. sym r.behind ∙ ap (λ (k : ℕ). behind_records k (drop at s)) z;
+        whole = sym r.short ∙ ap (λ (k : ℕ). short_records k (drop at s)) z;
+        fits = sym (and-true fits) ∙ (sym (sym r.fit ∙ ap (λ (k : ℕ). fits && every well_formed (records_in k (drop at s))) z));
+        left = sym r.behind ∙ ap (λ (k : ℕ). behind_records k (drop at s)) z;
         inside = r.inside;
       }
 
@@ -100,26 +100,23 @@ pub no-count : (s : List ℕ) → length s < 8 → 13 ≡ recording_answer s
 unfolding is_short
 no-count s h = short-answer s (ap (λ (b : Bool). b || short_records (count_of s) (drop 8 s)) (lt-ltb (length s) 8 h))
 
-module _ (s : List ℕ) (n : ℕ) (r : Passed) (h : 8 ≤ length s) (e : n ≡ count_of s) (w : Walked s n r) where
-  shortness : is_short s ≡ eqb r.end 0
+module _ (s : List ℕ) (n : ℕ) (h : 8 ≤ length s) (e : n ≡ count_of s) where
+  shortness : is_short s ≡ short_records n (drop 8 s)
   unfolding is_short
-  shortness =
-      ap (λ (b : Bool). b || short_records (count_of s) (drop 8 s)) (le-ltb (length s) 8 h)
-      ∙ ap (λ (k : ℕ). short_records k (drop 8 s)) (sym e)
-      ∙ sym w.short
+  shortness = ap (λ (b : Bool). b || short_records (count_of s) (drop 8 s)) (le-ltb (length s) 8 h) ∙ ap (λ (k : ℕ). short_records k (drop 8 s)) (sym e)
 
-  pub short-walk : r.end ≡ 0 → 13 ≡ recording_answer s
-  short-walk z = short-answer s (shortness ∙ eq-eqb r.end 0 z)
+  pub short-walk : short_records n (drop 8 s) ≡ true → 13 ≡ recording_answer s
+  short-walk z = short-answer s (shortness ∙ z)
 
-  module _ (z : r.end ≡ 0 → ⊥) where
+  module _ (r : Passed) (w : Walked s n r) where
     not_short : is_short s ≡ false
-    not_short = shortness ∙ ne_eqb r.end 0 z
+    not_short = shortness ∙ w.whole
 
     brokenness : is_broken s ≡ (not r.fits || not (eqb (length (drop r.end s)) 0))
     unfolding is_broken
     brokenness =
         (λ u. not (every well_formed (records_in (sym e u) (drop 8 s))) || not (eqb (length (behind_records (sym e u) (drop 8 s))) 0))
-        ∙ (λ u. not (sym (w.fits z) u) || not (eqb (length (w.left z u)) 0))
+        ∙ (λ u. not (sym w.fits u) || not (eqb (length (w.left u)) 0))
 
     pub unfit-walk : not r.fits ≡ true → 14 ≡ recording_answer s
     unfit-walk f = broken-answer s not_short (brokenness ∙ ap (λ (b : Bool). b || not (eqb (length (drop r.end s)) 0)) f)

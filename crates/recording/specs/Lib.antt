@@ -4,3 +4,4 @@ pub mod Whole
 pub mod Statements
 pub mod Torn
 pub mod Cases
+pub mod Forms

@@ -1,5 +1,5 @@
 -- The sections and records of a recording by their places in its bytes.
-use Rattle.std.specs.Prelude.{ℕ, zero, suc, ◌+◌, ◌≤◌, ◌≡◌, cond, ◌||◌, List, length, drop, eqb}
+use Rattle.std.specs.Prelude.{ℕ, zero, suc, ◌+◌, ◌≤◌, ◌≡◌, false, cond, ◌||◌, List, length, drop, eqb}
 use Rattle.fields.specs.Fields.{field}
 use Rattle.lists.specs.Lists.{every}
 use Rattle.recording.specs.Recording.{short_section, short_records, well_formed, records_in, behind_records}
@@ -31,9 +31,9 @@ pub record RecordAt (s : List ℕ) (at : ℕ) (e : Ends) : Type 0 where
   pub ends : e ≡ record_ends s at
   pub whole : e.shown ≡ 0 → ⊥
 
--- n records from byte 8: short, or well formed and what is left behind them
+-- n records from byte 8, of which none is short: whether they are well formed, and what is left behind them
 pub record Walked (s : List ℕ) (n : ℕ) (r : Passed) : Type 0 where
-  pub short : eqb r.end 0 ≡ short_records n (drop 8 s)
-  pub fits : (r.end ≡ 0 → ⊥) → r.fits ≡ every well_formed (records_in n (drop 8 s))
-  pub left : (r.end ≡ 0 → ⊥) → behind_records n (drop 8 s) ≡ drop r.end s
+  pub whole : short_records n (drop 8 s) ≡ false
+  pub fits : r.fits ≡ every well_formed (records_in n (drop 8 s))
+  pub left : behind_records n (drop 8 s) ≡ drop r.end s
   pub inside : r.end ≤ length s

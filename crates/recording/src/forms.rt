@@ -1,55 +1,63 @@
 // The forms of the calls, by code.
-ghost use Rattle.std.specs.Prelude.{◌≡◌, ◌<◌, ◌≤◌};
+ghost use Rattle.std.specs.Prelude.{◌≡◌, ◌<◌, ◌≤◌, MatchOption};
 ghost use Rattle.recording.specs.Recording.{form_of};
+ghost use Rattle.recording.specs.Forms.{told};
 
-const WIDTHS: [usize; 20] = [
-    9, 25, 9, 54, 45, 29, 29, 5, 13, 13, 9, 11, 9, 17, 17, 1, 9, 1, 9, 1,
+// What a record of a call has: the bytes of the call's section, its code among them; the bytes of an element of its two lists, 0 where
+// it has none; where in the section a mark stands, 0 where there is none; how many numbers it answers besides its own.
+#[derive(Clone, Copy)]
+pub struct Form {
+    pub width: usize,
+    pub first: usize,
+    pub second: usize,
+    pub mark: usize,
+    pub values: usize,
+}
+
+// A row of the table.
+macro_rules! form {
+    ($width:expr, $first:expr, $second:expr, $mark:expr, $values:expr) => {
+        Form {
+            width: $width,
+            first: $first,
+            second: $second,
+            mark: $mark,
+            values: $values,
+        }
+    };
+}
+
+const FORMS: [Form; 20] = [
+    form!(9, 0, 0, 0, 0),
+    form!(25, 1, 0, 0, 0),
+    form!(9, 0, 0, 0, 0),
+    form!(54, 0, 0, 53, 0),
+    form!(45, 0, 0, 0, 0),
+    form!(29, 0, 0, 0, 0),
+    form!(29, 0, 0, 0, 4),
+    form!(5, 0, 0, 0, 0),
+    form!(13, 1, 0, 0, 0),
+    form!(13, 1, 0, 0, 0),
+    form!(9, 0, 0, 0, 0),
+    form!(11, 8, 8, 0, 2),
+    form!(9, 0, 0, 0, 4),
+    form!(17, 0, 0, 0, 3),
+    form!(17, 2, 0, 0, 3),
+    form!(1, 0, 0, 0, 4),
+    form!(9, 0, 0, 0, 1),
+    form!(1, 1, 0, 0, 0),
+    form!(9, 0, 0, 0, 1),
+    form!(1, 1, 0, 0, 0),
 ];
 
-const FIRSTS: [usize; 20] = [0, 1, 0, 0, 0, 0, 0, 0, 1, 1, 0, 8, 0, 0, 2, 0, 0, 1, 0, 1];
-
-const SECONDS: [usize; 20] = [0, 0, 0, 0, 0, 0, 0, 0, 0, 0, 0, 8, 0, 0, 0, 0, 0, 0, 0, 0];
-
-const MARKS: [usize; 20] = [0, 0, 0, 53, 0, 0, 0, 0, 0, 0, 0, 0, 0, 0, 0, 0, 0, 0, 0, 0];
-
-const VALUES: [usize; 20] = [0, 0, 0, 0, 0, 0, 4, 0, 0, 0, 0, 2, 4, 3, 3, 4, 1, 0, 1, 0];
-
-// The bytes of the call's section, its code among them.
-pub fn width(code: usize) -> usize
-    requires { code < 20 }
-    ensures { result ≡ (form_of code).width }
+// The form of a code that there is.
+pub fn of(code: u8) -> Option<Form>
+    ensures { MatchOption result (20 ≤ code) (λ f. (code < 20) × (f ≡ told (form_of code)) × (f.values ≤ 4)) }
 {
-    WIDTHS[code]
-}
-
-// The bytes of an element of its first list, 0 where it has none.
-pub fn first(code: usize) -> usize
-    requires { code < 20 }
-    ensures { result ≡ (form_of code).first }
-{
-    FIRSTS[code]
-}
-
-// The same of its second list: only a complex ping has one.
-pub fn second(code: usize) -> usize
-    requires { code < 20 }
-    ensures { result ≡ (form_of code).second }
-{
-    SECONDS[code]
-}
-
-// Where a mark stands, 0 where there is none: only the entry of an object has one.
-pub fn mark(code: usize) -> usize
-    requires { code < 20 }
-    ensures { result ≡ (form_of code).mark }
-{
-    MARKS[code]
-}
-
-// How many numbers it answers besides its own.
-pub fn values(code: usize) -> usize
-    requires { code < 20 }
-    ensures { (result ≡ (form_of code).values) × (result ≤ 4) }
-{
-    VALUES[code]
+    let code = code as usize;
+    if code < FORMS.len() {
+        Some(FORMS[code])
+    } else {
+        None
+    }
 }

@@ -4,9 +4,9 @@
 
 mod forms;
 
-ghost use Rattle.std.specs.Prelude.{◌≡◌, ◌&&◌, ◌≤◌, length, drop};
+ghost use Rattle.std.specs.Prelude.{◌≡◌, true, ◌≤◌, MatchOption, length, drop};
 ghost use Rattle.fields.specs.Fields.{field};
-ghost use Rattle.recording.specs.Recording.{whole, mark_fits, form_fits, well_formed, sections_at, recording_answer};
+ghost use Rattle.recording.specs.Recording.{whole, mark_fits, form_fits, well_formed, sections_at, short_records, recording_answer};
 ghost use Rattle.recording.specs.Places.{section_end, record_ends, RecordAt, Walked};
 ghost use Rattle.recording.specs.Whole.{Passes, Found};
 
@@ -15,7 +15,7 @@ use kinds::answer;
 // The most records of a recording.
 pub const MOST_RECORDS: u64 = 16384;
 
-// Where the five sections of a record end; shown is 0 where the bytes end before one of them does.
+// Where the five sections of a record end; shown is 0 where the bytes end before one of them does, as `record_ends` promises.
 #[derive(Clone, Copy)]
 pub struct Ends {
     pub call: usize,
@@ -25,14 +25,14 @@ pub struct Ends {
     pub shown: usize,
 }
 
-// Where records end, 0 where the bytes end before; and whether all are well formed.
+// Where records end, and whether all are well formed.
 #[derive(Clone, Copy)]
 struct Passed {
     end: usize,
     fits: bool,
 }
 
-// The records from byte 8 that are whole and well formed: how many, and where they end.
+// The records from byte 8 that are whole and well formed: how many, and where they end, as C takes it.
 #[repr(C)]
 #[derive(Clone, Copy)]
 pub struct Prefix {
@@ -40,7 +40,7 @@ pub struct Prefix {
     pub end: usize,
 }
 
-// Where the section from at ends; 0 where at is 0, or the bytes end before it does.
+// Where the section from at ends; 0 where at is 0, or the bytes end before it does: `record_ends` promises that 0.
 fn section_end(s: &[u8], at: usize) -> usize
     ensures { result ≡ section_end s.now at }
 {
@@ -68,11 +68,11 @@ pub fn record_ends(s: &[u8], at: usize) -> Ends
     let answer = section_end(s, second);
     let shown = section_end(s, answer);
     Ends {
-        call: call,
-        first: first,
-        second: second,
-        answer: answer,
-        shown: shown,
+        call,
+        first,
+        second,
+        answer,
+        shown,
     }
 }
 
@@ -87,43 +87,28 @@ pub fn byte(s: &[u8], at: usize) -> u8
 fn is_whole(w: usize, n: usize) -> bool
     ensures { result ≡ whole w n }
 {
-    if w == 0 {
-        return n == 0;
-    }
-    n % w == 0
+    n.is_multiple_of(w)
 }
 
 // Whether what stands at the place of a mark is one.
 fn mark_fits(at: usize, s: &[u8]) -> bool
     ensures { result ≡ mark_fits at s.now }
 {
-    if at == 0 {
-        return true;
-    }
-    byte(s, at) <= 1
+    at == 0 || byte(s, at) <= 1
 }
 
 // Whether a call's section, two lists of so many bytes and an answer's numbers of so many are of the form of its code.
 fn form_fits(s: &[u8], first: usize, second: usize, answer: usize) -> bool
     ensures { result ≡ form_fits s.now first second answer }
 {
-    let code = byte(s, 0) as usize;
-    if 20 <= code {
+    let Some(form) = forms::of(byte(s, 0)) else {
         return false;
-    }
-    if s.len() != forms::width(code) {
-        return false;
-    }
-    if !is_whole(forms::first(code), first) {
-        return false;
-    }
-    if !is_whole(forms::second(code), second) {
-        return false;
-    }
-    if !mark_fits(forms::mark(code), s) {
-        return false;
-    }
-    answer == 8 + 8 * forms::values(code)
+    };
+    s.len() == form.width
+        && is_whole(form.first, first)
+        && is_whole(form.second, second)
+        && mark_fits(form.mark, s)
+        && answer == 8 + 8 * form.values
 }
 
 // Whether the record from at, which ends there, is well formed.
@@ -139,38 +124,22 @@ fn record_fits(s: &[u8], at: usize, e: Ends) -> bool
     form_fits(&s[from..to], first, second, answer)
 }
 
-// Whether both hold.
-fn both(a: bool, b: bool) -> bool
-    ensures { result ≡ (a && b) }
-{
-    if a { b } else { false }
-}
-
-// n records from byte 8.
-fn walk(s: &[u8], n: u64) -> Passed
+// Where n records from byte 8 end; none where the bytes end before they do.
+fn walk(s: &[u8], n: u64) -> Option<Passed>
     requires { 8 ≤ length s.now }
-    ensures { Walked s.now n result }
+    ensures { MatchOption result (short_records n (drop 8 s.now) ≡ true) (Walked s.now n) }
 {
     let mut at = 8;
     let mut fits = true;
-    let mut left = n;
-    while 0 < left {
+    for _ in 0..n {
         let e = record_ends(s, at);
         if e.shown == 0 {
-            return Passed {
-                end: 0,
-                fits: false,
-            };
+            return None;
         }
-        let one = record_fits(s, at, e);
-        fits = both(fits, one);
+        fits &= record_fits(s, at, e);
         at = e.shown;
-        left -= 1;
     }
-    Passed {
-        end: at,
-        fits: fits,
-    }
+    Some(Passed { end: at, fits })
 }
 
 // Whether bytes are a recording that can be replayed: 0, or 13; 14; 10.
@@ -181,10 +150,9 @@ pub fn recording_answer(s: &[u8]) -> u32
         return answer::SHORT;
     }
     let n = fields::read_u64(s, 0);
-    let walked = walk(s, n);
-    if walked.end == 0 {
+    let Some(walked) = walk(s, n) else {
         return answer::SHORT;
-    }
+    };
     if !walked.fits {
         return answer::LAYOUT;
     }
@@ -203,20 +171,20 @@ fn pass(s: &[u8]) -> Prefix
     ensures { Passes s.now result }
 {
     let mut at = 8;
-    let mut n = 0;
-    while n < MOST_RECORDS {
+    for n in 0..MOST_RECORDS {
         let e = record_ends(s, at);
         if e.shown == 0 {
             return Prefix { count: n, end: at };
         }
-        let fits = record_fits(s, at, e);
-        if !fits {
+        if !record_fits(s, at, e) {
             return Prefix { count: n, end: at };
         }
         at = e.shown;
-        n += 1;
     }
-    Prefix { count: n, end: at }
+    Prefix {
+        count: MOST_RECORDS,
+        end: at,
+    }
 }
 
 // How many records from byte 8 are whole and well formed, 16,384 at most, and where they end; whatever the number before them says, and

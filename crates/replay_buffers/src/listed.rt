@@ -118,7 +118,9 @@ fn count_into(
         answer.now shown.now (memory words.old store.now)
         result (memory words.new store.now) }
 {
-    let number = call_lists::noted_list_step(words, store, back, client, items, buffer);
+    let number = kinds::number(call_lists::noted_list_step(
+        words, store, back, client, items, buffer,
+    ));
     let n = written(number, items.len() / 24);
     crate::shown_step(answer, shown, &buffer[..n], number, 0, 0, 0, 0)
 }

@@ -7,6 +7,7 @@ ghost use Rattle.rules.specs.Calls.{looking, resolve, resolve_filtered, next_sto
 ghost use Rattle.table_view.specs.View.{memory, SoundTable};
 ghost use Rattle.replay_step.specs.Steps.{CallDone};
 
+use call_look::{Resolved, StopPlace};
 use kinds::{Oxid, limits};
 use replay_step::Step;
 
@@ -37,7 +38,7 @@ fn resolve_into(
         answer.now shown.now (memory words.now store.now)
         result (memory words.now store.now) }
 {
-    let r = call_look::resolve_step(words, store, oxid, buffer);
+    let r = Resolved::from(call_look::resolve_step(words, store, oxid, buffer));
     let n = r.length;
     let unknown = r.unknown;
     crate::shown_step(
@@ -95,7 +96,9 @@ fn resolve_filtered_into(
         answer.now shown.now (memory words.now store.now)
         result (memory words.now store.now) }
 {
-    let r = call_look::resolve_filtered_bytes_step(words, store, oxid, protocols, buffer);
+    let r = Resolved::from(call_look::resolve_filtered_bytes_step(
+        words, store, oxid, protocols, buffer,
+    ));
     let n = r.length;
     let unknown = r.unknown;
     crate::shown_step(
@@ -117,7 +120,7 @@ pub fn next_stop(words: &[u64], store: &[u8], reference: &[u8], answer: &[u8], s
         answer.now shown.now (memory words.now store.now)
         result (memory words.now store.now) }
 {
-    let x = call_look::next_stop_step(words, store, reference);
+    let x = StopPlace::from(call_look::next_stop_step(words, store, reference));
     let from = x.from;
     let to = x.to;
     if x.in_store {
@@ -145,7 +148,7 @@ fn write_into(words: &[u64], store: &[u8], answer: &[u8], shown: &[u8], buffer: 
         answer.now shown.now (memory words.now store.now)
         result (memory words.now store.now) }
 {
-    let w = call_save::write_snapshot_step(words, store, buffer);
+    let w = fields::Written::from(call_save::write_snapshot_step(words, store, buffer));
     let n = w.length;
     crate::shown_step(answer, shown, &buffer[..n], w.answer, n as u64, 0, 0, 0)
 }

@@ -7,6 +7,10 @@ ghost use Rattle.recording.specs.Recording.{numbers_of};
 ghost use Rattle.table_view.specs.View.{memory, SoundTable};
 ghost use Rattle.replay_step.specs.Steps.{CallDone};
 
+use call_look::MemberCount;
+use call_ping::Pinged;
+use call_references::Released;
+use call_remove::Expired;
 use kinds::{Oid, Oxid, SetId};
 use replay_step::Step;
 
@@ -16,7 +20,7 @@ pub fn clock(words: &mut [u64], store: &[u8], call: &[u8], answer: &[u8], shown:
     ensures { CallDone (editing (clock (field call.now 1 8))) answer.now shown.now (memory words.old store.now)
         result (memory words.new store.now) }
 {
-    let r = call_remove::clock_step(words, store, fields::read_u64(call, 1));
+    let r = Expired::from(call_remove::clock_step(words, store, fields::read_u64(call, 1)));
     replay_step::step_of(
         answer,
         shown,
@@ -40,7 +44,11 @@ pub fn drop_client(
     ensures { CallDone (editing (drop_client (field call.now 1 4))) answer.now shown.now (memory words.old store.now)
         result (memory words.new store.now) }
 {
-    let number = call_references::drop_client_step(words, store, fields::read_u32(call, 1));
+    let number = kinds::number(call_references::drop_client_step(
+        words,
+        store,
+        fields::read_u32(call, 1),
+    ));
     replay_step::step_of(answer, shown, number, 0, 0, 0, 0)
 }
 
@@ -56,7 +64,11 @@ pub fn simple_ping(
     ensures { CallDone (editing (simple_ping (field call.now 1 8))) answer.now shown.now (memory words.old store.now)
         result (memory words.new store.now) }
 {
-    let number = call_ping::simple_ping_step(words, store, SetId(fields::read_u64(call, 1)));
+    let number = kinds::number(call_ping::simple_ping_step(
+        words,
+        store,
+        SetId(fields::read_u64(call, 1)),
+    ));
     replay_step::step_of(answer, shown, number, 0, 0, 0, 0)
 }
 
@@ -76,7 +88,7 @@ pub fn add(
 {
     let ipid = fields::read_guid(call, 5);
     let row = call_references::interface_row(words, store, hint, ipid);
-    let number = call_references::add_at(
+    let number = kinds::number(call_references::add_at(
         words,
         store,
         fields::read_u32(call, 1),
@@ -84,7 +96,7 @@ pub fn add(
         row,
         fields::read_u32(call, 21),
         fields::read_u32(call, 25),
-    );
+    ));
     replay_step::step_of(answer, shown, number, 0, 0, 0, 0)
 }
 
@@ -104,7 +116,7 @@ pub fn release(
 {
     let ipid = fields::read_guid(call, 5);
     let row = call_references::interface_row(words, store, hint, ipid);
-    let r = call_references::release_at(
+    let r = Released::from(call_references::release_at(
         words,
         store,
         fields::read_u32(call, 1),
@@ -112,7 +124,7 @@ pub fn release(
         row,
         fields::read_u32(call, 21),
         fields::read_u32(call, 25),
-    );
+    ));
     replay_step::step_of(
         answer,
         shown,
@@ -141,7 +153,9 @@ pub fn enter_interface(
     let ipid = fields::read_guid(call, 9);
     let iid = fields::read_guid(call, 25);
     let public = fields::read_u32(call, 41);
-    let number = call_enter::enter_interface_step(words, store, oid, ipid, iid, public);
+    let number = kinds::number(call_enter::enter_interface_step(
+        words, store, oid, ipid, iid, public,
+    ));
     replay_step::step_of(answer, shown, number, 0, 0, 0, 0)
 }
 
@@ -155,7 +169,7 @@ pub fn census(words: &[u64], store: &[u8], answer: &[u8], shown: &[u8]) -> Step
     replay_step::step_of(
         answer,
         shown,
-        r.answer,
+        0,
         r.exporters as u64,
         r.objects as u64,
         r.interfaces as u64,
@@ -175,7 +189,11 @@ pub fn remove_exporter(
     ensures { CallDone (editing (remove_exporter (field call.now 1 8))) answer.now shown.now (memory words.old store.old)
         result (memory words.new store.new) }
 {
-    let number = call_remove::remove_exporter_step(words, store, Oxid(fields::read_u64(call, 1)));
+    let number = kinds::number(call_remove::remove_exporter_step(
+        words,
+        store,
+        Oxid(fields::read_u64(call, 1)),
+    ));
     replay_step::step_of(answer, shown, number, 0, 0, 0, 0)
 }
 
@@ -195,7 +213,7 @@ pub fn enter_exporter(
 {
     let oxid = Oxid(fields::read_u64(call, 1));
     let unknown = fields::read_guid(call, 9);
-    let number = call_enter::enter_exporter_step(words, store, oxid, unknown, list);
+    let number = kinds::number(call_enter::enter_exporter_step(words, store, oxid, unknown, list));
     replay_step::step_of(answer, shown, number, 0, 0, 0, 0)
 }
 
@@ -220,7 +238,7 @@ pub fn enter_object(
     let iid = fields::read_guid(call, 33);
     let public = fields::read_u32(call, 49);
     let mark = recording::byte(call, 53);
-    let number = call_enter::enter_object_step(
+    let number = kinds::number(call_enter::enter_object_step(
         words,
         store,
         oid,
@@ -229,7 +247,7 @@ pub fn enter_object(
         iid,
         public,
         mark != 0,
-    );
+    ));
     replay_step::step_of(answer, shown, number, 0, 0, 0, 0)
 }
 
@@ -239,7 +257,7 @@ pub fn reset(words: &mut [u64], store: &[u8], call: &[u8], answer: &[u8], shown:
     ensures { CallDone (starting (reset (field call.now 1 8))) answer.now shown.now (memory words.old store.now)
         result (memory words.new store.now) }
 {
-    let number = call_enter::reset(words, store, fields::read_u64(call, 1));
+    let number = kinds::number(call_enter::reset(words, store, fields::read_u64(call, 1)));
     replay_step::step_of(answer, shown, number, 0, 0, 0, 0)
 }
 
@@ -255,7 +273,7 @@ pub fn load_snapshot(
     ensures { CallDone (starting (load_snapshot snapshot.now)) answer.now shown.now (memory words.old store.old)
         result (memory words.new store.new) }
 {
-    let number = call_load::load_snapshot(words, store, snapshot);
+    let number = kinds::number(call_load::load_snapshot(words, store, snapshot));
     replay_step::step_of(answer, shown, number, 0, 0, 0, 0)
 }
 
@@ -265,7 +283,11 @@ pub fn members(words: &[u64], store: &[u8], call: &[u8], answer: &[u8], shown: &
     ensures { CallDone (looking (members (field call.now 1 8))) answer.now shown.now (memory words.now store.now)
         result (memory words.now store.now) }
 {
-    let r = call_look::members_step(words, store, SetId(fields::read_u64(call, 1)));
+    let r = MemberCount::from(call_look::members_step(
+        words,
+        store,
+        SetId(fields::read_u64(call, 1)),
+    ));
     replay_step::step_of(answer, shown, r.answer, r.count as u64, 0, 0, 0)
 }
 
@@ -286,6 +308,8 @@ pub fn complex_ping(
 {
     let set = SetId(fields::read_u64(call, 1));
     let sequence = fields::read_u16(call, 9);
-    let r = call_ping::complex_ping_bytes_step(words, store, set, sequence, adds, deletes);
+    let r = Pinged::from(call_ping::complex_ping_bytes_step(
+        words, store, set, sequence, adds, deletes,
+    ));
     replay_step::step_of(answer, shown, r.answer, r.set.0, r.backoff as u64, 0, 0)
 }

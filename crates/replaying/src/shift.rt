@@ -67,7 +67,8 @@ pub fn replay_records(words: &mut [u64], store: &mut [u8], s: &[u8]) -> Outcome
     requires { Whole words.old × Whole store.old × (recording_answer s.now ≡ 0) }
     ensures { Replayed (memory words.old store.old) s.now result (memory words.new store.new) }
 {
-    call_enter::reset(words, store, 0);
+    // The lengths are right, so it is not refused.
+    let _ = call_enter::reset(words, store, 0);
     let mut left = fields::read_u64(s, 0);
     let mut at = 8;
     let mut number = 1;

@@ -1,16 +1,15 @@
 -- Reading the sections of a snapshot row by row: what a row adds to the entries, and which entries the sections of a snapshot have.
-use Rattle.std.specs.Prelude.{ℕ, zero, suc, ◌+◌, ◌*◌, ◌≤◌, ◌≡◌, Bool, true, cond, List, [], ◌∷◌, length, drop, eqb, leb}
+use Rattle.std.specs.Prelude.{ℕ, zero, suc, ◌+◌, ◌*◌, ◌≤◌, ◌≡◌, Bool, true, false, cond, MatchOption, Option, List, [], ◌∷◌, length, drop, eqb, leb}
 use Rattle.fields.specs.Fields.{field}
 use Rattle.lists.specs.Lists.{every, tabulate, holding}
 use Rattle.rules.specs.Entries.{PingSet, Entries, exporter_places, object_places, interface_places, set_places, oids}
 use Rattle.rules.specs.Sound.{lists_kept, lists_inside}
 use Rattle.rules.specs.Snapshot.{read_exporter, read_object, read_interface, read_set}
+use Rattle.table_columns.specs.declared.members.Members.{Members}
 use Rattle.table_view.specs.View.{member_values}
 use Rattle.table_edit.specs.Edits.{add_exporter, add_object, add_interface, add_set}
 use Rattle.snapshot_rows.specs.declared.Section.{Section}
 use Rattle.snapshot_rows.specs.declared.Section.TheVariants.{Exporters, Objects, Interfaces, Sets}
-use Rattle.snapshot_reader.specs.declared.rows.Row.{Row}
-use Rattle.snapshot_reader.specs.declared.rows.Found.{Found}
 
 -- ---- rows
 
@@ -63,18 +62,21 @@ fits Sets e = holding (leb (length e.sets) set_places ∷ every (λ (p : PingSet
 
 -- ---- what the code promises
 
+-- of a row at the front of bytes that is read: the entries with it fit, and n bytes of it are passed
+pub record ReadsRow (k : Section) (s : List ℕ) (e : Entries) (n : ℕ) (e' : Entries) : Type 0 where
+  pub fit : fits k (with_row k s e) ≡ true
+  pub entries : e' ≡ with_row k s e
+  pub rest : drop n s ≡ after_row k s
+  pub inside : n ≤ length s
+
 -- of a row at the front of bytes: it is read where the entries with it fit, and is so many bytes long
-pub record RowRead (k : Section) (s : List ℕ) (e : Entries) (r : Row) (e' : Entries) : Type 0 where
-  pub read : r.read ≡ fits k (with_row k s e)
-  pub entries : r.read ≡ true → e' ≡ with_row k s e
-  pub rest : r.read ≡ true → drop r.length s ≡ after_row k s
-  pub inside : r.length ≤ length s
+abbrev pub RowRead : Section → List ℕ → Entries → Option ℕ → Entries → Type 0
+RowRead k s e r e' = MatchOption r (fits k (with_row k s e) ≡ false) (λ n. ReadsRow k s e n e')
 
 -- the n members of a set's row
 abbrev pub members_in : List ℕ → ℕ → List ℕ
 members_in s n = tabulate n (λ k. field s (20 + 8 * k) 8)
 
 -- of members that are looked for: all were found where they stand in the order of the OIDs, and these are they
-pub record MembersFound (ids ms : List ℕ) (r : Found) : Type 0 where
-  pub all : r.all ≡ in_order ids ms
-  pub members : r.all ≡ true → member_values ids r.members ≡ ms
+abbrev pub MembersFound : List ℕ → List ℕ → Option Members → Type 0
+MembersFound ids ms r = MatchOption r (in_order ids ms ≡ false) (λ m. (in_order ids ms ≡ true) × (member_values ids m ≡ ms))

@@ -1,5 +1,5 @@
 // The sections of a snapshot, read into a table.
-ghost use Rattle.std.specs.Prelude.{◌≡◌, true, ◌≤◌, min, length};
+ghost use Rattle.std.specs.Prelude.{◌≡◌, true, ◌≤◌, min, length, is_some};
 ghost use Rattle.fields.specs.Fields.{field};
 ghost use Rattle.rules.specs.Contract.{Whole};
 ghost use Rattle.rules.specs.Swapping.{longest_snapshot};
@@ -11,15 +11,14 @@ use crate::rows;
 use kinds::{SetId, limits};
 use snapshot_rows::Section;
 
-// Whether a section was read, and where what follows begins.
-#[derive(Clone, Copy)]
-pub struct Place {
-    pub read: bool,
-    pub at: usize,
-}
-
-// A section from at on: its count, then its rows.
-fn read_section(words: &mut [u64], store: &mut [u8], section: Section, s: &[u8], at: usize) -> Place
+// A section from at on: its count, then its rows. Where it is read, the result is where what follows begins.
+fn read_section(
+    words: &mut [u64],
+    store: &mut [u8],
+    section: Section,
+    s: &[u8],
+    at: usize,
+) -> Option<usize>
     requires { Whole words.old × Whole store.old × (at ≤ length s.now) × (length s.now ≤ longest_snapshot)
         × (fits section (view (memory words.old store.old)) ≡ true) }
     ensures { SectionRead section s.now at (view (memory words.old store.old)) result
@@ -27,44 +26,22 @@ fn read_section(words: &mut [u64], store: &mut [u8], section: Section, s: &[u8],
 {
     let n = fields::read_u16(s, at) as usize;
     let mut next = fields::within(s, at + 2);
-    let mut i = 0;
-    while i < n {
-        let row = rows::read_row(words, store, section, &s[next..]);
-        if !row.read {
-            return Place {
-                read: false,
-                at: next,
-            };
-        }
-        next += row.length;
-        i += 1;
+    for _i in 0..n {
+        next += rows::read_row(words, store, section, &s[next..])?;
     }
-    Place {
-        read: true,
-        at: next,
-    }
+    Some(next)
 }
 
 // The four sections of rows, from at on, into a table without entries.
-fn read_sections(words: &mut [u64], store: &mut [u8], s: &[u8], at: usize) -> bool
+fn read_sections(words: &mut [u64], store: &mut [u8], s: &[u8], at: usize) -> Option<usize>
     requires { Whole words.old × Whole store.old × (length s.now ≤ longest_snapshot) × (at ≡ min 18 (length s.now))
         × (field s.now 0 2 ≡ 2) × (view (memory words.old store.old) ≡ begun s.now) }
-    ensures { TableRead s.now result (view (memory words.new store.new)) }
+    ensures { TableRead s.now (is_some result) (view (memory words.new store.new)) }
 {
-    let exporters = read_section(words, store, Section::Exporters, s, at);
-    if !exporters.read {
-        return false;
-    }
-    let objects = read_section(words, store, Section::Objects, s, exporters.at);
-    if !objects.read {
-        return false;
-    }
-    let interfaces = read_section(words, store, Section::Interfaces, s, objects.at);
-    if !interfaces.read {
-        return false;
-    }
-    let sets = read_section(words, store, Section::Sets, s, interfaces.at);
-    sets.read
+    let objects = read_section(words, store, Section::Exporters, s, at)?;
+    let interfaces = read_section(words, store, Section::Objects, s, objects)?;
+    let sets = read_section(words, store, Section::Interfaces, s, interfaces)?;
+    read_section(words, store, Section::Sets, s, sets)
 }
 
 // The entries in bytes, into a table; false only where the bytes are no snapshot. Some that are none are read too.
@@ -80,5 +57,5 @@ pub fn read_table(words: &mut [u64], store: &mut [u8], s: &[u8]) -> bool
     }
     table_edit::clear(words, fields::read_u64(s, 2));
     table_edit::set_next(words, SetId(fields::read_u64(s, 10)));
-    read_sections(words, store, s, fields::within(s, 18))
+    read_sections(words, store, s, fields::within(s, 18)).is_some()
 }

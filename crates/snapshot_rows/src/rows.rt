@@ -1,6 +1,5 @@
 // The bytes of one entry. Each function answers the place behind what it wrote.
-ghost use Rattle.std.specs.Prelude.{◌≡◌, true, cond, ◌<◌, length, ltb};
-ghost use Rattle.fields.specs.Fields.{encode, written};
+ghost use Rattle.std.specs.Prelude.{◌≡◌, true, ◌<◌, length, ltb};
 ghost use Rattle.lists.specs.Lists.{every, tabulate};
 ghost use Rattle.rules.specs.Contract.{Whole};
 ghost use Rattle.rules.specs.Snapshot.{in_row};
@@ -28,18 +27,6 @@ fn put_exporter(words: &[u64], store: &[u8], i: usize, buffer: &mut [u8], at: us
     at + 26 + list.len()
 }
 
-// A byte, 1 or 0.
-fn put_flag(buffer: &mut [u8], at: usize, flag: bool)
-    requires { at < length buffer.old }
-    ensures { buffer.new ≡ written buffer.old at (encode 1 (cond «flag» 1 0)) }
-{
-    if flag {
-        buffer[at] = 1;
-    } else {
-        buffer[at] = 0;
-    }
-}
-
 // Object i: OID, OXID, no-ping mark, time last heard.
 fn put_object(words: &[u64], i: usize, buffer: &mut [u8], at: usize) -> usize
     requires { Whole words.now × (i < object_count words.now) × Room buffer.old at (object_bytes_at words.now i) }
@@ -49,7 +36,7 @@ fn put_object(words: &[u64], i: usize, buffer: &mut [u8], at: usize) -> usize
     let exporter = find::object_exporter(words, i);
     fields::write_u64(buffer, at, oid.0);
     fields::write_u64(buffer, at + 8, exporter.0);
-    put_flag(buffer, at + 16, find::is_unpinged(words, i));
+    buffer[at + 16] = u8::from(find::is_unpinged(words, i));
     fields::write_u64(buffer, at + 17, find::heard(words, i));
     at + 25
 }
@@ -61,11 +48,9 @@ fn put_counts(words: &[u64], i: usize, buffer: &mut [u8], at: usize) -> usize
     ensures { Wrote buffer.old at (in_row (count_bytes_at words.now i) (tabulate 9 (λ k. k))) buffer.new result }
 {
     let mut next = at;
-    let mut k = 0;
-    while k < 9 {
+    for k in 0..9 {
         fields::write_u32(buffer, next, find::count(words, i, k));
         next += 4;
-        k += 1;
     }
     next
 }
@@ -108,10 +93,8 @@ fn put_members(
     ensures { Wrote buffer.old at (in_row (member_bytes_at words.now members) rows.now) buffer.new result }
 {
     let mut next = at;
-    let mut k = 0;
-    while k < rows.len() {
-        next = put_member(words, members, rows[k], buffer, next);
-        k += 1;
+    for row in rows {
+        next = put_member(words, members, *row, buffer, next);
     }
     next
 }

@@ -1,11 +1,11 @@
 -- Laws of the columns of GUIDs' halves.
-use Rattle.std.proofs.Common.{◌≡◌, ℕ, ◌+◌, ◌-◌, ◌<◌, ◌≤◌, List, [], ◌∷◌, length, get_or, drop, sym, ap, ◌∙◌, arith}
+use Rattle.std.proofs.Common.{◌≡◌, ℕ, ◌-◌, ◌<◌, ◌≤◌, List, [], ◌∷◌, length, get_or, drop, sym, ap, ◌∙◌, arith}
 use Rattle.kinds.specs.declared.Guid.{Guid}
 use Rattle.lists.specs.Lists.{tabulate}
 use Rattle.lists.specs.Guids.{nil}
 use Rattle.table_columns.specs.Guids.{guid_at, guids}
 use Rattle.lists.proofs.Lists.{length-tabulate, get_d_tabulate, tabulate-ext}
-use Rattle.table_columns.proofs.Loops.{table_step, table-end, last_step}
+use Rattle.table_columns.proofs.Loops.{table-end, last_step}
 
 -- so many as low halves
 pub length-guids : (lows highs : List ℕ) → length (guids lows highs) ≡ length lows
@@ -26,11 +26,6 @@ guids-tabulate n f g =
     (λ i h u. record { low = get_d_tabulate n f 0 i h u; high = get_d_tabulate n g 0 i h u })
 
 -- the GUIDs from i on
-
--- the first of them, and the rest
-pub guids-step : (lows highs : List ℕ) (i : ℕ) → i < length lows → drop i (guids lows highs) ≡ guid_at lows highs i ∷ drop (i + 1) (guids lows highs)
-unfolding guids
-guids-step lows highs i h = table_step (length lows) (guid_at lows highs) i h
 
 -- going backwards, the one before the GUIDs from n on
 pub guids-last : (lows highs : List ℕ) (n : ℕ) {g : Guid} → g ≡ guid_at lows highs (n - 1) → 0 < n → n ≤ length lows → drop (n - 1) (guids lows highs) ≡ g ∷ drop n (guids lows highs)

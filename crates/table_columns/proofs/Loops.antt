@@ -1,8 +1,7 @@
 -- Loops over a column or a table: what the elements from i on say is what the whole says.
-use Rattle.std.proofs.Common.{◌≡◌, ℕ, suc, ◌+◌, ◌-◌, ◌<◌, ◌≤◌, Bool, true, false, ltb, List, [], ◌∷◌, length, get_or, take, drop, sym, ap, ◌∙◌, add-one, arith, length-drop, drop_of_length-le, take_all, drop-cons}
-use Rattle.lists.specs.Lists.{every, some, first_index, tabulate}
-use Rattle.lists.proofs.Tests.{ltb-shift}
-use Rattle.lists.proofs.First.{some_first}
+use Rattle.std.proofs.Common.{◌≡◌, ℕ, ◌+◌, ◌-◌, ◌<◌, ◌≤◌, Bool, true, false, List, [], ◌∷◌}
+use Rattle.std.proofs.Common.{length, get_or, take, drop, sym, ap, ◌∙◌, add-one, arith, length-drop, drop_of_length-le, take_all, drop-cons}
+use Rattle.lists.specs.Lists.{every, tabulate}
 use Rattle.lists.proofs.Lists.{length-tabulate, get_d_tabulate}
 
 -- ---- the elements from i on
@@ -33,11 +32,6 @@ table_step {A} n f i h =
 pub table-end : {A : Type 0} (n : ℕ) (f : ℕ → A) (i : ℕ) → n ≤ i → drop i (tabulate n f) ≡ []
 table-end n f i h = column-end (tabulate n f) i (rw length-tabulate h)
 
--- a search from k on stops before the end where one passes
-pub some-from : {A : Type 0} (p : A → Bool) (k n m : ℕ) (xs : List A) → length xs ≡ m → n ≡ k + first_index p (drop k xs) → ltb n m ≡ some p (drop k xs)
-some-from p k n m xs l e =
-    rw (e, ← l, ltb-shift k (first_index p (drop k xs)) (length xs), ← length-drop k xs) (some_first p (drop k xs))
-
 -- the outcome of a test of r, where r is a
 pub told : {A B : Type 0} (f : A → B) {a r : A} {t v : B} → r ≡ a → t ≡ f r → t ≡ v → f a ≡ v
 told f q e o = ap f (sym q) ∙ sym e ∙ o
@@ -55,24 +49,8 @@ module _ {A : Type 0} {x : A} {xs ys : List A} (e : ys ≡ x ∷ xs) where
     unfolding every
     every-fails f = sym (h ∙ rw (e, f))
 
-  module _ {n : ℕ} (i : ℕ) (p : A → Bool) (h : n ≡ i + first_index p ys) where
-    -- the first is the one that is looked for
-    pub first_found : p x ≡ true → i ≡ n
-    unfolding first_index
-    first_found t = let z : first_index p ys ≡ 0 = rw (e, t) in omega arith
-
-    -- the first is not the one that is looked for
-    pub first-passed : p x ≡ false → n ≡ (i + 1) + first_index p xs
-    unfolding first_index
-    first-passed f = let z : first_index p ys ≡ suc (first_index p xs) = rw (e, f) in omega arith
-
 module _ {A : Type 0} {ys : List A} (e : ys ≡ []) where
   -- every element has passed
   pub every-end : {w : Bool} (p : A → Bool) → w ≡ every p ys → true ≡ w
   unfolding every
   every-end p h = sym (h ∙ rw e)
-
-  -- none was the one that is looked for
-  pub first-end : {n : ℕ} (i : ℕ) (p : A → Bool) → n ≡ i + first_index p ys → i ≡ n
-  unfolding first_index
-  first-end i p h = let z : first_index p ys ≡ 0 = rw e in omega arith

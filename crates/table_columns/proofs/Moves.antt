@@ -1,32 +1,15 @@
--- Elements that move down: the loop that moves them, and what is then where.
-use Rattle.std.proofs.Common.{◌≡◌, ℕ, suc, ◌+◌, ◌-◌, ◌<◌, ◌≤◌, ltb, leb, List, [], ◌∷◌, ◌++◌, length, get_or, take, drop, set, sym, refl, ap, ◌∙◌, append_assoc, add-one, arith, length-append, length-drop, length-take-le, get_or-drop, take_all, take_at, drop_at, ltb-false, ltb-true, lt-ltb, le-leb}
+-- Elements that move down: what is then where.
+use Rattle.std.proofs.Common.{◌≡◌, ℕ, suc, ◌+◌, ◌-◌, ◌<◌, ◌≤◌, ltb, leb, List, [], ◌∷◌, ◌++◌, length, get_or, take, drop}
+use Rattle.std.proofs.Common.{sym, refl, ap, ◌∙◌, append_assoc, add-one, arith, length-append, length-drop, length-take-le, take_all, take_at, drop_at, ltb-false, ltb-true, lt-ltb, le-leb}
 use mathlib.Core.Bool.{and-false}
 use borrow.Author.Tests.{lt-leb}
 use lib.ListN.{get_or-append}
-use lib.Seq.{paste, paste-suc, drop-paste}
+use lib.Seq.{paste}
 use Rattle.kinds.proofs.Refusing.{by-test}
 use Rattle.lists.specs.Lists.{delete_at, skip}
 use Rattle.table_columns.specs.Moved.{removed_at, copied_down}
 use Rattle.lists.proofs.Lists.{delete-split, length-delete, get_or-delete, skip_below}
 use Rattle.table_columns.proofs.Loops.{column-step, column-end}
-
--- a loop that has moved j elements, and moves one more
-pub move_step : (s t : List ℕ) (from to j : ℕ) → to ≤ from → from + j < length s → t ≡ paste s to (drop from s) j
-    → set t (to + j) (get_or t (from + j) 0) ≡ paste s to (drop from s) (j + 1)
-move_step s t from to j h g e =
-    let l : length (drop from s) ≡ length s - from = length-drop from s in
-    let b : to + j < length s = omega arith in
-    let k : j < length (drop from s) = omega arith in
-    let p = paste s to (drop from s) j in
-    let n : from + j ≡ (to + j) + (from - to) = omega arith in
-    let v : get_or p (from + j) 0 ≡ get_or (drop from s) j 0 =
-    ap (λ (i : ℕ). get_or p i 0) n
-    ∙ sym (get_or-drop (to + j) p (from - to) 0)
-    ∙ ap (λ (q : List ℕ). get_or q (from - to) 0) (drop-paste s to (drop from s) j (omega arith) (omega arith))
-    ∙ get_or-drop (to + j) s (from - to) 0
-    ∙ ap (λ (i : ℕ). get_or s i 0) (sym n)
-    ∙ sym (get_or-drop from s j 0) in
-    rw (e, v, add-one j) (paste-suc s to (drop from s) j 0 b k)
 
 -- ---- bytes that are copied
 
@@ -55,9 +38,14 @@ module _ (s : List ℕ) (from to n : ℕ) (h : to ≤ from) (g : from + n ≤ le
       rw (copied_is, drop_at (take to s) (take n (drop from s) ++ drop (to + n) s) to head)
       (take_at (take n (drop from s)) (drop (to + n) s) n (length-take-le n (drop from s) room))
 
-  -- all n have moved
-  pub move-copied : (t : List ℕ) (j : ℕ) → j ≡ n → t ≡ paste s to (drop from s) j → t ≡ copied_down from to n s
-  move-copied t j q e = rw (e, q, copied_is) (append_assoc (take to s) (take n (drop from s)) (drop (to + n) s))
+  -- the source is pasted at the target
+  pub move-copied : (t : List ℕ) → t ≡ paste s to (drop from s) n → t ≡ copied_down from to n s
+  move-copied t e = rw (e, copied_is) (append_assoc (take to s) (take n (drop from s)) (drop (to + n) s))
+
+-- the places are not in order
+pub up-copied : (s : List ℕ) (from to n : ℕ) → from < to → s ≡ copied_down from to n s
+unfolding copied_down
+up-copied s from to n h = rw (lt-leb to from h)
 
 -- the bytes are not all there
 pub short-copied : (s : List ℕ) (from to n : ℕ) → length s < from + n → s ≡ copied_down from to n s
@@ -66,10 +54,11 @@ short-copied s from to n h = rw (lt-leb (from + n) (length s) h, and-false (leb 
 
 -- ---- a word that is removed
 
--- all after k have moved
-pub move-removed : (s t : List ℕ) (k j : ℕ) → k < length s → j ≡ length s - (k + 1) → t ≡ paste s k (drop (k + 1) s) j → t ≡ removed_at k s
+-- all after k are pasted there
+pub move-removed : (s t : List ℕ) (k : ℕ) → k < length s → t ≡ paste s k (drop (k + 1) s) (length s - (k + 1)) → t ≡ removed_at k s
 unfolding removed_at
-move-removed s t k j h q e =
+move-removed s t k h e =
+    let j = length s - (k + 1) in
     let last : k + j ≡ length s - 1 = omega arith in
     let l : length (drop (k + 1) s) ≤ j = simp length-drop (omega arith) in
     let f : drop (length s - 1) s ≡ get_or s (length s - 1) 0 ∷ [] =

@@ -16,7 +16,7 @@ pub fn of_word(x: u64) -> usize
 pub fn of_guid(g: Guid) -> usize
     ensures { (result ≡ guid_bucket g) × (result < 4096) }
 {
-    of_word(std::num::wrapping_add_u64(g.low, g.high))
+    of_word(g.low.wrapping_add(g.high))
 }
 
 // A second bucket of a GUID, so that two in one bucket are rarely in one by both.

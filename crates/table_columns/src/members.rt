@@ -1,9 +1,10 @@
 // Members of a set of rows: a bit for each of 128 rows, in two words.
 ghost use Rattle.std.specs.Prelude.{◌≡◌, ◌^◌, ◌<◌, ◌≤◌, length, ◌==◌, count_ones, nat_lt};
 ghost use Rattle.lists.specs.Lists.{every};
-ghost use Rattle.table_columns.specs.Members.{has_member, member_rows, put_bit, cut_bit, MemberPut, Cut};
+ghost use Rattle.table_columns.specs.Members.{bit_of, has_member, member_rows, put_bit, cut_bit, MemberPut, Cut};
 
 // Bit j of low is row j, and bit j of high is row 64 + j.
+// Two words, as the table keeps them; so each function has a case for each word.
 #[derive(Clone, Copy)]
 pub struct Members {
     pub low: u64,
@@ -19,13 +20,6 @@ fn with_bit(w: u64, k: usize, b: u64) -> u64
     ((w >> k) / 2 * 2 + b) * unit + w % unit
 }
 
-// A bit that is 1 or 0.
-fn bit(one: bool) -> u64
-    ensures { (result < 2) × ((result == 1) ≡ «one») }
-{
-    if one { 1 } else { 0 }
-}
-
 // The word without bit k: the higher bits move down by one.
 fn cut_bit(w: u64, k: usize) -> u64
     requires { k < 64 }
@@ -35,11 +29,13 @@ fn cut_bit(w: u64, k: usize) -> u64
     (w >> k) / 2 * unit + w % unit
 }
 
-// The number of ones of a word.
-fn ones_in(w: u64) -> usize
-    ensures { (result ≡ count_ones w) × (result ≤ 64) }
+// Bit k of a word is 1.
+#[tactic(auto, unfolding(crate::specs::Members::bit_of))]
+fn has_bit(w: u64, k: usize) -> bool
+    requires { k < 64 }
+    ensures { result ≡ bit_of w k }
 {
-    u64::count_ones(w) as usize
+    (w >> k) % 2 == 1
 }
 
 impl Members {
@@ -48,29 +44,26 @@ impl Members {
         ensures { result ≡ has_member self j }
     {
         if j < 64 {
-            return (self.low >> j) % 2 == 1;
+            return has_bit(self.low, j);
         }
-        if j < 128 {
-            return (self.high >> (j - 64)) % 2 == 1;
-        }
-        false
+        j < 128 && has_bit(self.high, j - 64)
     }
 
     // Makes row j a member, or no member; a row of 128 or more changes nothing.
     pub fn put(self, j: usize, member: bool) -> Members
-        ensures { MemberPut j «member» self result }
+        ensures { MemberPut j member self result }
     {
-        let b = bit(member);
+        let b = u64::from(member);
         if j < 64 {
             return Members {
                 low: with_bit(self.low, j, b),
-                high: self.high,
+                ..self
             };
         }
         if j < 128 {
             return Members {
-                low: self.low,
                 high: with_bit(self.high, j - 64, b),
+                ..self
             };
         }
         self
@@ -88,8 +81,8 @@ impl Members {
         }
         if k < 128 {
             return Members {
-                low: self.low,
                 high: cut_bit(self.high, k - 64),
+                ..self
             };
         }
         self
@@ -100,21 +93,15 @@ impl Members {
         ensures { result ≡ every (λ j. nat_lt j n) (member_rows self) }
     {
         if n < 64 {
-            if self.high != 0 {
-                return false;
-            }
-            return self.low >> n == 0;
+            return self.high == 0 && self.low >> n == 0;
         }
-        if n < 128 {
-            return self.high >> (n - 64) == 0;
-        }
-        true
+        n >= 128 || self.high >> (n - 64) == 0
     }
 
     // The number of members: the ones of both words.
     pub fn size(self) -> usize
         ensures { result ≡ length (member_rows self) }
     {
-        ones_in(self.low) + ones_in(self.high)
+        (self.low.count_ones() + self.high.count_ones()) as usize
     }
 }

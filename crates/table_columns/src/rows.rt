@@ -17,12 +17,8 @@ pub fn store_row(ws: &mut [u64], k: Kind, i: usize, row: &[u64])
     requires { (i < k.places) × (length row.now ≡ k.width) × (after k ≤ length ws.old) }
     ensures { RowPut k i row.now ws.old ws.new }
 {
-    let mut at = k.base;
-    let mut j = 0;
-    while j < row.len() {
-        ws[at + i] = row[j];
-        at += k.places;
-        j += 1;
+    for (j, &x) in row.iter().enumerate() {
+        ws[k.base + j * k.places + i] = x;
     }
 }
 
@@ -31,12 +27,8 @@ pub fn remove_row(ws: &mut [u64], k: Kind, n: usize, i: usize)
     requires { (i < n) × (n ≤ k.places) × (after k ≤ length ws.old) }
     ensures { RowRemoved k n i ws.old ws.new }
 {
-    let mut from = k.base;
-    let mut j = 0;
-    while j < k.width {
-        let to = from + n;
-        remove_at(&mut ws[from..to], i);
-        from += k.places;
-        j += 1;
+    for j in 0..k.width {
+        let from = k.base + j * k.places;
+        remove_at(&mut ws[from..from + n], i);
     }
 }

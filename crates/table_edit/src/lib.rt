@@ -38,13 +38,6 @@ fn pull_row(words: &mut [u64], k: Kind, at: usize, n: usize, i: usize)
     words[at] = (n - 1) as u64;
 }
 
-// The word of a no-ping mark.
-fn mark(no_ping: bool) -> u64
-    ensures { not (eqb result 0) ≡ no_ping }
-{
-    if no_ping { 1 } else { 0 }
-}
-
 // An object.
 pub fn add_object(words: &mut [u64], oid: Oid, oxid: Oxid, no_ping: bool, heard: u64)
     requires { Whole words.old × (object_count words.old < object_places) × (members_below words.old ≡ true) }
@@ -53,7 +46,7 @@ pub fn add_object(words: &mut [u64], oid: Oid, oxid: Oxid, no_ping: bool, heard:
         words.old words.new }
 {
     let n = find::object_count(words);
-    let row = [oid.0, oxid.0, mark(no_ping), heard];
+    let row = [oid.0, oxid.0, u64::from(no_ping), heard];
     push_row(
         words,
         table_words::object_kind(),
@@ -82,6 +75,7 @@ pub fn add_interface(words: &mut [u64], ipid: Guid, iid: Guid, oid: Oid, counts:
         words.old words.new }
 {
     let n = find::interface_count(words);
+    // Written out: a loop over the counts would be no plainer.
     let row = [
         ipid.low,
         ipid.high,
@@ -217,12 +211,10 @@ fn cut_members(words: &mut [u64], i: usize)
     ensures { MembersCut i words.old words.new }
 {
     let n = find::set_count(words);
-    let mut r = 0;
-    while r < n {
+    for r in 0..n {
         let left = find::members(words, r).cut(i);
         words[table_words::MEMBER_LOWS + r] = left.low;
         words[table_words::MEMBER_HIGHS + r] = left.high;
-        r += 1;
     }
 }
 

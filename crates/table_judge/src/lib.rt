@@ -21,9 +21,8 @@ fn lists_kept(words: &[u64], store: &[u8]) -> bool
 {
     let n = find::exporter_count(words);
     let mut at = 0;
-    let mut k = 0;
-    while k < n {
-        if bindings::front_answer(&store[at..]) != 0 {
+    for _k in 0..n {
+        if bindings::front_answer(&store[at..]).is_err() {
             return false;
         }
         let size = bindings::stated_length(&store[at..]);
@@ -31,7 +30,6 @@ fn lists_kept(words: &[u64], store: &[u8]) -> bool
             return false;
         }
         at += size;
-        k += 1;
     }
     true
 }
@@ -85,14 +83,7 @@ fn heard_recently(words: &[u64]) -> bool
 {
     let n = find::object_count(words);
     let clock = words[table_words::CLOCK];
-    let mut i = 0;
-    while i < n {
-        if !find::is_heard_within(words, i, clock) {
-            return false;
-        }
-        i += 1;
-    }
-    true
+    (0..n).all(|i| find::is_heard_within(words, i, clock))
 }
 
 fn objects_sound(words: &[u64]) -> bool
@@ -114,14 +105,7 @@ fn interfaces_held(words: &[u64]) -> bool
     ensures { Holds (λ e. result ≡ interfaces_held e) words.now }
 {
     let n = find::interface_count(words);
-    let mut i = 0;
-    while i < n {
-        if !find::is_held(words, i) {
-            return false;
-        }
-        i += 1;
-    }
-    true
+    (0..n).all(|i| find::is_held(words, i))
 }
 
 // Remote-unknown and interface IPIDs are one kind: none is nil, and no two are the same. Leaves an index of the latter.
@@ -160,14 +144,7 @@ fn members_live(words: &[u64]) -> bool
 {
     let n = find::set_count(words);
     let objects = find::object_count(words);
-    let mut i = 0;
-    while i < n {
-        if !find::members(words, i).below(objects) {
-            return false;
-        }
-        i += 1;
-    }
-    true
+    (0..n).all(|i| find::members(words, i).below(objects))
 }
 
 fn sets_sound(words: &[u64]) -> bool

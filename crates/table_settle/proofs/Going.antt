@@ -9,7 +9,7 @@ use borrow.Author.Tests.{eqb-true, ltb-true}
 use lib.Dec.{eqb, ltb}
 use lib.ListN.{length, get_or, set, drop, length-map, length-set}
 use lib.Seq.{drop-length, drop-cons, drop-set-lt, get_or-set_same}
-use Rattle.kinds.proofs.Refusing.{true-false, by-test}
+use Rattle.kinds.proofs.Refusing.{true-false}
 use Rattle.lists.specs.Lists.{keep, every, some, distinct, delete_at, among, tabulate}
 use Rattle.lists.proofs.Tests.{true-or-false, and_intro}
 use Rattle.lists.proofs.Lists.{every-nil, every-from-at, every_map, every-mono, some-none, none-some, keep_all, keep-within, map-map, map-ext, get_d_map, map-delete, length-delete}
@@ -24,7 +24,7 @@ use Rattle.table_view.specs.View.{object_count, set_count, sets_of, memory, view
 use Rattle.table_edit.specs.Edits.{drop_object, drop_interface, drop_set, change_interface}
 use Rattle.table_view.proofs.LiveRows.{sets-length, set_at}
 use Rattle.table_view.proofs.MemberRows.{oids-length, below_at}
-use Rattle.table_settle.specs.Leaving.{stays, objects_left, interfaces_left, sets_left, left_at, interface_left_at, set_left_at, cleared, held_left, held_left_at}
+use Rattle.table_settle.specs.Leaving.{stays, objects_left, interfaces_left, sets_left, cleared, held_left}
 use Rattle.table_settle.proofs.ClientDrop.{clear-row, clear-all, row-cleared}
 use Rattle.table_settle.specs.declared.Leaving.{Leaving}
 use Rattle.table_settle.specs.declared.Leaving.TheVariants.{ExporterRemoved, NoInterface, Unheard}
@@ -59,32 +59,36 @@ pub record Going {A : Type 0} (rows : Entries → List A) (stay : Entries → A 
   pub rest : every (stay e) (drop i (rows e)) ≡ true
   pub same : whole e ≡ whole before
 
-module _ {A : Type 0} (rows : Entries → List A) (stay : Entries → A → Bool) (whole : Entries → Entries) (d : A) (e : Entries) where
-  -- no row yet
-  pub going-none : (n : ℕ) → n ≡ length (rows e) → Going rows stay whole e n e
-  going-none n h = record { within = omega arith; rest = rw (h, drop-length (rows e)) (every-nil (stay e)); same = refl }
+-- no row yet
+pub going-none : {A : Type 0} (rows : Entries → List A) (stay : Entries → A → Bool) (whole : Entries → Entries) (e : Entries) (n : ℕ) → n ≡ length (rows e)
+    → Going rows stay whole e n e
+going-none rows stay whole e n h = record { within = omega arith; rest = rw (h, drop-length (rows e)) (every-nil (stay e)); same = refl }
 
-  module _ (before : Entries) where
-    -- one row: it goes unless it stays
-    going-row : (n i : ℕ) (gone : Entries) → n ≡ suc i → rows gone ≡ delete_at i (rows e) → stay gone ≡ stay e
-        → (i < length (rows e) → stay e (get_or (rows e) i d) ≡ false → whole gone ≡ whole e)
-        → Going rows stay whole before n e → Going rows stay whole before i (cond (stay e (get_or (rows e) i d)) e gone)
-    going-row n i gone z r t w g =
-        let within = g.within in
-        let h : i < length (rows e) = omega arith in
-        let rest : every (stay e) (drop (suc i) (rows e)) ≡ true = rw z at g.rest in
-        by-test (Going rows stay whole before i) (stay e (get_or (rows e) i d)) e gone
-        (λ s. record { within = omega arith; rest = every_drop (stay e) d i (rows e) h s rest; same = g.same })
-        (λ s.
-        record {
-          within = let l = length-delete i (rows e) h in rw r (omega arith);
-          rest = rw (r, t, drop-delete i (rows e) h) rest;
-          same = w h s ∙ g.same;
-        })
+module _ {A : Type 0} {rows : Entries → List A} {stay : Entries → A → Bool} {whole : Entries → Entries} {before e : Entries} {n : ℕ} where
+  -- the row before row n
+  module _ (d : A) (i : ℕ) (z : n ≡ suc i) (g : Going rows stay whole before n e) where
+    row-within : i < length (rows e)
+    row-within = let w = g.within in omega arith
 
-    -- every row
-    going-all : (n : ℕ) → n ≡ 0 → (every (stay e) (rows e) ≡ true → whole e ≡ e) → Going rows stay whole before n e → e ≡ whole before
-    going-all n z w g = sym (w (rw z at g.rest)) ∙ g.same
+    behind : every (stay e) (drop (suc i) (rows e)) ≡ true
+    behind = rw z at g.rest
+
+    -- stays
+    pub going-stays : stay e (get_or (rows e) i d) ≡ true → Going rows stay whole before i e
+    going-stays s =
+        let h = row-within in
+        record { within = omega arith; rest = every_drop (stay e) d i (rows e) h s behind; same = g.same }
+
+    -- or is gone
+    pub going-gone : (gone : Entries) → rows gone ≡ delete_at i (rows e) → stay gone ≡ stay e → (i < length (rows e) → whole gone ≡ whole e) → Going rows stay whole before i gone
+    going-gone gone r t w =
+        let h = row-within in
+        let l = length-delete i (rows e) h in
+        record { within = rw r (omega arith); rest = rw (r, t, drop-delete i (rows e) h) behind; same = w h ∙ g.same }
+
+  -- every row
+  pub going-all : n ≡ 0 → (every (stay e) (rows e) ≡ true → whole e ≡ e) → Going rows stay whole before n e → e ≡ whole before
+  going-all z w g = sym (w (rw z at g.rest)) ∙ g.same
 
 -- ---- interfaces
 
@@ -95,15 +99,13 @@ abbrev pub InterfacesGoing : Entries → ℕ → Entries → Type 0
 InterfacesGoing = Going (λ e. e.interfaces) interface_stays interfaces_left
 
 module _ (before e : Entries) (n : ℕ) (g : InterfacesGoing before n e) where
-  pub interfaces-row : (i : ℕ) → n ≡ suc i → InterfacesGoing before i (interface_left_at i e)
-  interfaces-row i z =
-      going-row (λ e. e.interfaces) interface_stays interfaces_left no_interface e before n i (drop_interface i e) z refl refl
-      (λ h f. ap (λ (l : List Interface). with_interfaces l e) (keep-delete (interface_stays e) no_interface i e.interfaces h f)) g
+  pub interface-gone : (i : ℕ) → n ≡ suc i → is_live_object e (get_or e.interfaces i no_interface).object ≡ false → InterfacesGoing before i (drop_interface i e)
+  interface-gone i z f =
+      going-gone no_interface i z g (drop_interface i e) refl refl
+      (λ h. ap (λ (l : List Interface). with_interfaces l e) (keep-delete (interface_stays e) no_interface i e.interfaces h f))
 
   pub interfaces-all : n ≡ 0 → e ≡ interfaces_left before
-  interfaces-all z =
-      going-all (λ e. e.interfaces) interface_stays interfaces_left no_interface e before n z
-      (λ h. ap (λ (l : List Interface). with_interfaces l e) (keep_all (interface_stays e) e.interfaces h)) g
+  interfaces-all z = going-all z (λ h. ap (λ (l : List Interface). with_interfaces l e) (keep_all (interface_stays e) e.interfaces h)) g
 
 -- ---- interfaces without references
 
@@ -111,15 +113,13 @@ abbrev pub HeldGoing : Entries → ℕ → Entries → Type 0
 HeldGoing = Going (λ e. e.interfaces) (λ e. held) held_left
 
 module _ (before e : Entries) (n : ℕ) (g : HeldGoing before n e) where
-  pub held-row : (i : ℕ) → n ≡ suc i → HeldGoing before i (held_left_at i e)
-  held-row i z =
-      going-row (λ e. e.interfaces) (λ e. held) held_left no_interface e before n i (drop_interface i e) z refl refl
-      (λ h f. ap (λ (l : List Interface). with_interfaces l e) (keep-delete held no_interface i e.interfaces h f)) g
+  pub held-gone : (i : ℕ) → n ≡ suc i → held (get_or e.interfaces i no_interface) ≡ false → HeldGoing before i (drop_interface i e)
+  held-gone i z f =
+      going-gone no_interface i z g (drop_interface i e) refl refl
+      (λ h. ap (λ (l : List Interface). with_interfaces l e) (keep-delete held no_interface i e.interfaces h f))
 
   pub held_all : n ≡ 0 → e ≡ held_left before
-  held_all z =
-      going-all (λ e. e.interfaces) (λ e. held) held_left no_interface e before n z
-      (λ h. ap (λ (l : List Interface). with_interfaces l e) (keep_all held e.interfaces h)) g
+  held_all z = going-all z (λ h. ap (λ (l : List Interface). with_interfaces l e) (keep_all held e.interfaces h)) g
 
 -- ---- a client's counts
 
@@ -148,7 +148,7 @@ module _ (c : ℕ) (before e : Entries) (n : ℕ) (g : Clearing c before n e) wh
       }
 
   pub clearing-all : n ≡ 0 → e ≡ cleared c before
-  clearing-all z = going-all (λ e. e.interfaces) (λ e. none_of c) (cleared c) no_interface e before n z (clear-all c e) g
+  clearing-all z = going-all z (clear-all c e) g
 
 -- ---- sets
 
@@ -156,15 +156,13 @@ abbrev pub SetsGoing : ℕ → Entries → ℕ → Entries → Type 0
 SetsGoing t = Going (λ e. e.sets) (λ e. pinged_within t) (sets_left t)
 
 module _ (t : ℕ) (before e : Entries) (n : ℕ) (g : SetsGoing t before n e) where
-  pub sets-row : (i : ℕ) → n ≡ suc i → SetsGoing t before i (set_left_at t i e)
-  sets-row i z =
-      going-row (λ e. e.sets) (λ e. pinged_within t) (sets_left t) no_set e before n i (drop_set i e) z refl refl
-      (λ h f. ap (λ (l : List PingSet). with_sets l e) (keep-delete (pinged_within t) no_set i e.sets h f)) g
+  pub set-gone : (i : ℕ) → n ≡ suc i → pinged_within t (get_or e.sets i no_set) ≡ false → SetsGoing t before i (drop_set i e)
+  set-gone i z f =
+      going-gone no_set i z g (drop_set i e) refl refl
+      (λ h. ap (λ (l : List PingSet). with_sets l e) (keep-delete (pinged_within t) no_set i e.sets h f))
 
   pub sets-all : n ≡ 0 → e ≡ sets_left t before
-  sets-all z =
-      going-all (λ e. e.sets) (λ e. pinged_within t) (sets_left t) no_set e before n z
-      (λ h. ap (λ (l : List PingSet). with_sets l e) (keep_all (pinged_within t) e.sets h)) g
+  sets-all z = going-all z (λ h. ap (λ (l : List PingSet). with_sets l e) (keep_all (pinged_within t) e.sets h)) g
 
 -- ---- objects
 
@@ -220,22 +218,17 @@ abbrev pub ObjectsGoing : Leaving → Entries → ℕ → Entries → Type 0
 ObjectsGoing w = Going (λ e. e.objects) (stays w) (λ e. objects_left (stays w e) e)
 
 module _ (w : Leaving) (before e : Entries) (n : ℕ) (g : ObjectsGoing w before n e) where
-  pub objects-row : (i : ℕ) → n ≡ suc i → distinct eqb (oids e) ≡ true → ObjectsGoing w before i (left_at w i e)
-  objects-row i z u =
-      going-row (λ e. e.objects) (stays w) (λ e. objects_left (stays w e) e) no_object e before n i (drop_object i e) z refl (stays-kept w i e)
-      (λ h f. ap (λ (p : Object → Bool). objects_left p (drop_object i e)) (stays-kept w i e) ∙ object-gone (stays w e) e u i h f) g
+  pub object_leaves : (i : ℕ) → n ≡ suc i → distinct eqb (oids e) ≡ true → stays w e (get_or e.objects i no_object) ≡ false → ObjectsGoing w before i (drop_object i e)
+  object_leaves i z u f =
+      going-gone no_object i z g (drop_object i e) refl (stays-kept w i e)
+      (λ h. ap (λ (p : Object → Bool). objects_left p (drop_object i e)) (stays-kept w i e) ∙ object-gone (stays w e) e u i h f)
 
   pub objects-all : n ≡ 0 → set_members_live e ≡ true → e ≡ objects_left (stays w before) before
-  objects-all z l =
-      going-all (λ e. e.objects) (stays w) (λ e. objects_left (stays w e) e) no_object e before n z
-      (λ h. ap (with_interfaces e.interfaces) (nothing-goes (stays w e) (with_interfaces [] e) h (every-nil _) l)) g
+  objects-all z l = going-all z (λ h. ap (with_interfaces e.interfaces) (nothing-goes (stays w e) (with_interfaces [] e) h (every-nil _) l)) g
 
 -- OIDs stay distinct
-pub distinct-left : (w : Leaving) (i : ℕ) (e : Entries) → distinct eqb (oids e) ≡ true → distinct eqb (oids (left_at w i e)) ≡ true
-distinct-left w i e u =
-    by-test (λ (f : Entries). distinct eqb (oids f) ≡ true) (stays w e (get_or e.objects i no_object)) e (drop_object i e)
-    (λ t. u)
-    (λ t. rw (map-delete oid_of i e.objects) (distinct-delete eqb i (oids e) u))
+pub distinct-left : (i : ℕ) (e : Entries) → distinct eqb (oids e) ≡ true → distinct eqb (oids (drop_object i e)) ≡ true
+distinct-left i e u = rw (map-delete oid_of i e.objects) (distinct-delete eqb i (oids e) u)
 
 -- members whose bits stand at live objects' rows are live objects
 pub below-live : (ws s : List ℕ) → members_below ws ≡ true → set_members_live (view (memory ws s)) ≡ true

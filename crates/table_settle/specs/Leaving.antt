@@ -1,10 +1,9 @@
 -- What goes along when objects go.
-use Rattle.std.specs.Prelude.{ℕ, Bool, cond, not, eqb, get_or}
+use Rattle.std.specs.Prelude.{ℕ, Bool, not, eqb}
 use Rattle.lists.specs.Lists.{keep}
 use Rattle.rules.specs.Entries.{Object, Interface, Entries, with_objects, with_interfaces, with_sets, with_members_of}
 use Rattle.rules.specs.Sound.{held, has_interface, heard_within, pinged_within}
-use Rattle.rules.specs.Rules.{no_object, no_interface, no_set, is_live_object, without_objects, at_interfaces, any_ipid, emptied}
-use Rattle.table_edit.specs.Edits.{drop_object, drop_interface, drop_set}
+use Rattle.rules.specs.Rules.{is_live_object, without_objects, at_interfaces, any_ipid, emptied}
 use Rattle.table_settle.specs.declared.Leaving.{Leaving}
 use Rattle.table_settle.specs.declared.Leaving.TheVariants.{ExporterRemoved, NoInterface, Unheard}
 
@@ -31,18 +30,6 @@ interfaces_left e = with_interfaces (keep (λ (i : Interface). is_live_object e 
 abbrev pub sets_left : ℕ → Entries → Entries
 sets_left t e = with_sets (keep (pinged_within t) e.sets) e
 
--- the object at row i goes, unless it stays
-abbrev pub left_at : Leaving → ℕ → Entries → Entries
-left_at w i e = cond (stays w e (get_or e.objects i no_object)) e (drop_object i e)
-
--- the interface at row i goes, unless its object is live
-abbrev pub interface_left_at : ℕ → Entries → Entries
-interface_left_at i e = cond (is_live_object e (get_or e.interfaces i no_interface).object) e (drop_interface i e)
-
--- the set at row i goes, unless it is not overdue at a time
-abbrev pub set_left_at : ℕ → ℕ → Entries → Entries
-set_left_at t i e = cond (pinged_within t (get_or e.sets i no_set)) e (drop_set i e)
-
 -- a client's private references taken off every interface
 abbrev pub cleared : ℕ → Entries → Entries
 cleared c e = at_interfaces any_ipid (emptied c) e
@@ -50,7 +37,3 @@ cleared c e = at_interfaces any_ipid (emptied c) e
 -- the interfaces to which a reference is held
 abbrev pub held_left : Entries → Entries
 held_left e = with_interfaces (keep held e.interfaces) e
-
--- the interface at row i goes, unless a reference to it is held
-abbrev pub held_left_at : ℕ → Entries → Entries
-held_left_at i e = cond (held (get_or e.interfaces i no_interface)) e (drop_interface i e)

@@ -1,18 +1,17 @@
 // Rows that go: objects that do not stay, with their interfaces and memberships, and sets.
 #![tactic(auto)]
 
-ghost use Rattle.std.specs.Prelude.{◌≡◌, true, ◌<◌, length, get_or, eqb};
-ghost use Rattle.lists.specs.Lists.{distinct, some};
-ghost use Rattle.rules.specs.Entries.{Interface};
-ghost use Rattle.rules.specs.Rules.{no_object, is_live_object};
+ghost use Rattle.std.specs.Prelude.{◌≡◌, true, ◌<◌, get_or, eqb};
+ghost use Rattle.lists.specs.Lists.{distinct, among};
+ghost use Rattle.rules.specs.Rules.{no_object};
 ghost use Rattle.rules.specs.Sound.{interface_objects_live};
 ghost use Rattle.table_view.specs.View.{object_count, interface_count, set_count, Holds, oids_of, members_below};
 ghost use Rattle.table_edit.specs.Edits.{Became};
-ghost use Rattle.table_settle.specs.Leaving.{stays, without_leaving, objects_left, interfaces_left, sets_left, left_at, interface_left_at, set_left_at, cleared, held_left, held_left_at};
+ghost use Rattle.table_settle.specs.Leaving.{stays, without_leaving, objects_left, interfaces_left, sets_left, cleared, held_left};
 ghost use Rattle.rules.specs.Contract.{Whole};
 ghost use Rattle.table_settle.specs.declared.Leaving.TheVariants.{NoInterface};
 
-use kinds::{Oid, Oxid};
+use kinds::Oxid;
 use table_columns::buckets;
 use table_view::find;
 
@@ -24,59 +23,16 @@ pub enum Leaving {
     Unheard(u64),
 }
 
-fn row_of(hint: u8) -> usize {
-    hint as usize
-}
-
-// The row that is hinted at under a bucket; row 0 where there are no hints.
-fn hinted(hints: &[u8], b: usize) -> usize {
-    if b >= hints.len() {
-        return 0;
-    }
-    row_of(hints[b])
-}
-
-// Notes the row of each interface under the bucket of the OID that it names, as `find::hint_objects` does for objects.
-fn hint_served(words: &[u64], hints: &mut [u8])
-    requires { Whole words.now × (length hints.old ≡ 4096) }
+// Whether an identifier is in a column; the row that is hinted at under its bucket is tried first. There may be no hints.
+fn is_among(ids: &[u64], hints: &[u8], id: u64) -> bool
+    ensures { result ≡ among ids.now id }
 {
-    let n = find::interface_count(words);
-    let mut i = 0;
-    while i < n {
-        let b = buckets::of_word(find::interface_object(words, i).0);
-        hints[b] = (i % 256) as u8;
-        i += 1;
-    }
-}
-
-// Whether an interface names an object; a row is tried first.
-fn is_served(words: &[u64], hints: &[u8], oid: Oid) -> bool
-    requires { Whole words.now }
-    ensures { Holds (λ e. result ≡ some (λ (i : Interface). eqb oid.0 i.object) e.interfaces) words.now }
-{
-    let row = hinted(hints, buckets::of_word(oid.0));
-    if row < find::interface_count(words) {
-        let object = find::interface_object(words, row);
-        if oid.0 == object.0 {
+    if let Some(row) = hints.get(buckets::of_word(id)) {
+        if ids.get(*row as usize) == Some(&id) {
             return true;
         }
     }
-    find::is_served(words, oid)
-}
-
-// Whether an object is live; a row is tried first.
-fn is_live(words: &[u64], hints: &[u8; buckets::BUCKETS], oid: Oid) -> bool
-    requires { Whole words.now }
-    ensures { Holds (λ e. result ≡ is_live_object e oid.0) words.now }
-{
-    let row = hinted(hints, buckets::of_word(oid.0));
-    if row < find::object_count(words) {
-        let there = find::oid(words, row);
-        if oid.0 == there.0 {
-            return true;
-        }
-    }
-    find::object_row(words, oid) < find::object_count(words)
+    table_columns::has(ids, id)
 }
 
 // Whether object i stays.
@@ -85,48 +41,28 @@ fn is_staying(words: &[u64], i: usize, why: Leaving, hints: &[u8]) -> bool
     ensures { Holds (λ e. result ≡ stays why e (get_or e.objects i no_object)) words.now }
 {
     match why {
-        Leaving::ExporterRemoved(x) => find::object_exporter(words, i).0 != x.0,
-        Leaving::NoInterface => is_served(words, hints, find::oid(words, i)),
+        Leaving::ExporterRemoved(x) => find::object_exporter(words, i) != x,
+        Leaving::NoInterface => is_among(
+            find::interface_objects(words),
+            hints,
+            find::oid(words, i).0,
+        ),
         Leaving::Unheard(t) => find::is_heard_within(words, i, t),
     }
 }
 
-// Takes object i out, unless it stays.
-fn leave(words: &mut [u64], i: usize, why: Leaving, hints: &[u8])
-    requires { Whole words.old × (i < object_count words.old) × (members_below words.old ≡ true)
-        × (distinct eqb (oids_of words.old) ≡ true) }
-    ensures { Became (left_at why i) words.old words.new × (members_below words.new ≡ true) }
-{
-    if is_staying(words, i, why, hints) {
-        return;
-    }
-    table_edit::remove_object(words, i);
-}
-
-// Takes the objects out that do not stay.
+// Takes the objects out that do not stay. The four loops by which rows go stay apart: a trait that they share, with its law, and an impl for each are longer.
 fn drop_objects(words: &mut [u64], why: Leaving, hints: &[u8])
     requires { Whole words.old × (members_below words.old ≡ true)
         × (distinct eqb (oids_of words.old) ≡ true) }
     ensures { Became (λ e. objects_left (stays why e) e) words.old words.new
         × (members_below words.new ≡ true) }
 {
-    let mut i = find::object_count(words);
-    while 0 < i {
-        i -= 1;
-        leave(words, i, why, hints);
+    for i in (0..find::object_count(words)).rev() {
+        if !is_staying(words, i, why, hints) {
+            table_edit::remove_object(words, i);
+        }
     }
-}
-
-// Takes interface i out, unless its object is live.
-fn leave_interface(words: &mut [u64], i: usize, hints: &[u8; buckets::BUCKETS])
-    requires { Whole words.old × (i < interface_count words.old) }
-    ensures { Became (interface_left_at i) words.old words.new }
-{
-    let object = find::interface_object(words, i);
-    if is_live(words, hints, object) {
-        return;
-    }
-    table_edit::remove_interface(words, i);
 }
 
 // Takes the interfaces out whose object is not live.
@@ -136,10 +72,14 @@ fn drop_interfaces(words: &mut [u64])
 {
     let mut hints = [0u8; buckets::BUCKETS];
     find::hint_objects(words, &mut hints);
-    let mut i = find::interface_count(words);
-    while 0 < i {
-        i -= 1;
-        leave_interface(words, i, &hints);
+    for i in (0..find::interface_count(words)).rev() {
+        if !is_among(
+            find::oids(words),
+            &hints,
+            find::interface_object(words, i).0,
+        ) {
+            table_edit::remove_interface(words, i);
+        }
     }
 }
 
@@ -173,19 +113,8 @@ pub fn remove_unserved(words: &mut [u64])
     ensures { Became (without_leaving NoInterface) words.old words.new }
 {
     let mut hints = [0u8; buckets::BUCKETS];
-    hint_served(words, &mut hints);
+    find::hint(find::interface_objects(words), &mut hints);
     remove_hinted(words, Leaving::NoInterface, &hints);
-}
-
-// Takes set i out where it was not pinged for too long at a time.
-fn leave_set(words: &mut [u64], i: usize, time: u64)
-    requires { Whole words.old × (i < set_count words.old) }
-    ensures { Became (set_left_at time i) words.old words.new }
-{
-    if find::is_pinged_within(words, i, time) {
-        return;
-    }
-    table_edit::remove_set(words, i);
 }
 
 // Takes the sets out that were not pinged for too long at a time.
@@ -193,10 +122,10 @@ pub fn drop_sets(words: &mut [u64], time: u64)
     requires { Whole words.old }
     ensures { Became (sets_left time) words.old words.new }
 {
-    let mut i = find::set_count(words);
-    while 0 < i {
-        i -= 1;
-        leave_set(words, i, time);
+    for i in (0..find::set_count(words)).rev() {
+        if !find::is_pinged_within(words, i, time) {
+            table_edit::remove_set(words, i);
+        }
     }
 }
 
@@ -205,22 +134,9 @@ pub fn clear_counts(words: &mut [u64], client: usize)
     requires { Whole words.old × (client < 8) }
     ensures { Became (cleared client) words.old words.new }
 {
-    let mut i = find::interface_count(words);
-    while 0 < i {
-        i -= 1;
+    for i in (0..find::interface_count(words)).rev() {
         table_edit::store_count(words, i, client + 1, 0);
     }
-}
-
-// Takes interface i out, unless a reference to it is held.
-fn leave_unheld(words: &mut [u64], i: usize)
-    requires { Whole words.old × (i < interface_count words.old) }
-    ensures { Became (held_left_at i) words.old words.new }
-{
-    if find::is_held(words, i) {
-        return;
-    }
-    table_edit::remove_interface(words, i);
 }
 
 // Takes the interfaces out to which no reference is held.
@@ -228,9 +144,9 @@ pub fn drop_unheld(words: &mut [u64])
     requires { Whole words.old }
     ensures { Became held_left words.old words.new }
 {
-    let mut i = find::interface_count(words);
-    while 0 < i {
-        i -= 1;
-        leave_unheld(words, i);
+    for i in (0..find::interface_count(words)).rev() {
+        if !find::is_held(words, i) {
+            table_edit::remove_interface(words, i);
+        }
     }
 }

@@ -110,3 +110,8 @@ column-read ws first p q h = p ∙ ap (λ (k : ℕ). take k (drop first ws)) q �
 pub guids-read : (ws : List ℕ) (a b : ℕ) {n m : ℕ} {xs ys : List ℕ} {ids : List Guid} → xs ≡ take n (drop a ws) → ys ≡ take n (drop b ws) → n ≡ m
     → ids ≡ guids (take m (drop a ws)) (take m (drop b ws)) → guids xs ys ≡ ids
 guids-read ws a b p r q h = rw (p, r, q) (sym h)
+
+-- the halves of the IPIDs that code lends are the IPIDs
+pub ipids-read : (ws : List ℕ) → length ws ≡ 8192 → {lows highs : List ℕ} → lows ≡ map (λ (i : Interface). i.ipid.low) (interfaces_of ws)
+    → highs ≡ map (λ (i : Interface). i.ipid.high) (interfaces_of ws) → guids lows highs ≡ map (λ (i : Interface). i.ipid) (interfaces_of ws)
+ipids-read ws size l h = rw (l, h, ipid-lows-column ws size, ipid-highs-column ws size) (sym (ipids-columns ws size))

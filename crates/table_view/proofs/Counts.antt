@@ -1,15 +1,16 @@
 -- The counts in an interface's row.
 use Prim.Native.Nat.{ℕ, zero, suc, ◌+◌, ◌*◌, ◌%◌, ◌^◌, ◌<◌}
 use mathlib.Core.Path.{◌≡◌, refl, sym, ap, ◌∙◌}
-use mathlib.Core.Bool.{Bool, true, false, not}
+use mathlib.Core.Bool.{Bool, not}
 use mathlib.Core.List.{List, [], ◌∷◌, map}
 use native.Mathlib.Omega.{arith}
+use Rattle.std.specs.List.{list_any, range_with_len}
 use lib.Dec.{eqb}
 use lib.ListN.{length, get_or, drop, length-map, length-drop}
 use lib.Seq.{get_or-drop}
-use Rattle.lists.specs.Lists.{some, every, tabulate}
+use Rattle.lists.specs.Lists.{some, tabulate}
 use Rattle.table_columns.specs.Rows.{row_at, rows}
-use Rattle.lists.proofs.Lists.{every-ext, some-not, tabulate-get_or}
+use Rattle.lists.proofs.Lists.{some-map, map-tabulate, tabulate-get_or}
 use Rattle.lists.proofs.Elements.{In, map-in, tabulate-in}
 use Rattle.table_columns.proofs.rows.Laws.{row_at-get_or, length-row}
 use Rattle.rules.specs.Entries.{Interface, count_of}
@@ -18,7 +19,6 @@ use Rattle.rules.specs.Rules.{no_interface}
 use Rattle.table_words.specs.Kinds.{interface_kind}
 use Rattle.table_view.specs.View.{interface_count, as_interface, interfaces_of}
 use Rattle.table_view.proofs.LiveRows.{interface-at}
-use Rattle.table_view.proofs.Checks.{every_row, table-checked}
 
 -- a word as a count
 abbrev pub low32 : ℕ → ℕ
@@ -52,26 +52,17 @@ nine-each ws x m =
     let j = tabulate-in (interface_count ws) (row_at interface_kind ws) r.1 in
     ap (λ (i : Interface). length i.counts) (r.2 ∙ ap as_interface j.2) ∙ nine ws j.0
 
--- an interface is held where not every count is zero
-pub zero-counts : (ws : List ℕ) (i : ℕ) → i < interface_count ws
-    → every_row 9 (λ k. eqb (count_of k (get_or (interfaces_of ws) i no_interface)) 0) ≡ not (held (get_or (interfaces_of ws) i no_interface))
-zero-counts ws i h =
-    ap (λ (r : Interface). every_row 9 (λ k. eqb (count_of k r) 0)) (interface-at ws i no_interface h)
-    ∙ table-checked (λ (n : ℕ). eqb n 0) (λ k. eqb (get_or cs k 0) 0) (λ k. get_or cs k 0) 9 9 refl (λ k b. refl)
-    ∙ ap (λ (n : ℕ). every (λ (m : ℕ). eqb m 0) (tabulate n (λ k. get_or cs k 0))) (sym (nine ws i))
-    ∙ ap (every (λ (m : ℕ). eqb m 0)) (tabulate-get_or cs 0)
-    ∙ none cs
-    ∙ sym (ap (λ (r : Interface). not (held r)) (interface-at ws i no_interface h))
-  where
-    cs : List ℕ
-    cs = map low32 (drop 5 (row_at interface_kind ws i))
+abbrev nonzero : ℕ → Bool
+nonzero n = not (eqb n 0)
 
-    twice : (b : Bool) → not (not b) ≡ b
-    twice true = refl
-    twice false = refl
+-- count k is not zero
+abbrev pub nonzero_at : Interface → ℕ → Bool
+nonzero_at x k = nonzero (count_of k x)
 
-    none : (xs : List ℕ) → every (λ (m : ℕ). eqb m 0) xs ≡ not (some (λ (m : ℕ). not (eqb m 0)) xs)
-    none xs =
-        sym (every-ext (λ (m : ℕ). not (not (eqb m 0))) (λ m. eqb m 0) (λ m. twice (eqb m 0)) xs)
-        ∙ sym (twice _)
-        ∙ ap not (sym (some-not (λ (m : ℕ). not (eqb m 0)) xs))
+-- an interface is held where one of the nine counts is not zero
+pub any-held : (ws : List ℕ) (i : ℕ) → i < interface_count ws → list_any (nonzero_at (get_or (interfaces_of ws) i no_interface)) (range_with_len 0 9) ≡ held (get_or (interfaces_of ws) i no_interface)
+unfolding some tabulate
+any-held ws i h =
+    let x = get_or (interfaces_of ws) i no_interface in
+    sym (some-map nonzero (λ k. count_of k x) (tabulate 9 (λ k. k)))
+    ∙ ap (some nonzero) (map-tabulate (λ k. count_of k x) 9 (λ k. k) ∙ ap (λ n. tabulate n (λ k. count_of k x)) (sym (nine-counts ws i h)) ∙ tabulate-get_or x.counts 0)

@@ -48,6 +48,14 @@ starts-after s i (suc d) =
 pub starts-rise : (s : List ℕ) (i j : ℕ) → i ≤ j → list_start s i ≤ list_start s j
 starts-rise s i j h = let e : i + (j - i) ≡ j = omega arith in rw e at (starts-after s i (j - i))
 
+-- behind the list that begins at the start of list j begins the next one, within the bytes where a later one does
+pub list-next : (s : List ℕ) (i j at n : ℕ) → j < i → list_start s i ≤ length s → at ≡ list_start s j → n ≡ list_length (drop at s)
+    → (at + n ≡ list_start s (suc j)) × (at + n ≤ length s)
+list-next s i j at n h b e m =
+    let next : at + n ≡ list_start s (suc j) = rw (start-next s j, ← e) (ap (λ (k : ℕ). at + k) m) in
+    let r = starts-rise s (suc j) i h in
+    (next, omega arith)
+
 -- ---- lists that are the same, or that moved
 
 -- the same first bytes are the same list at the front

@@ -34,8 +34,7 @@ pub fn next_set(words: &[u64]) -> SetId
 fn capped(word: u64, places: usize) -> usize
     ensures { (result ≡ min word places) × (result ≤ places) }
 {
-    let n = word as usize;
-    if n < places { n } else { places }
+    (word as usize).min(places)
 }
 
 // The numbers of live rows.
@@ -104,6 +103,8 @@ pub fn ipid_highs(words: &[u64]) -> &[u64]
     table_words::column(words, table_words::IPID_HIGHS, interface_count(words))
 }
 
+// A row that is not there is the number of live ones and no None: the promise of each is the definition's row (`exporter_row` and so on).
+
 // The row of the exporter with an OXID; the number of live exporters where there is none.
 pub fn exporter_row(words: &[u64], oxid: Oxid) -> usize
     requires { Whole words.now }
@@ -120,17 +121,18 @@ pub fn object_row(words: &[u64], oid: Oid) -> usize
     table_columns::index_of(oids(words), oid.0)
 }
 
-// Notes the row of each object under its bucket. What the hints then hold is undecided: whoever tries a row compares its OID.
+// Notes the row of each identifier under its bucket. What the hints then hold is undecided: whoever tries a row compares what stands there.
+pub fn hint(ids: &[u64], hints: &mut [u8; buckets::BUCKETS]) {
+    for (row, id) in ids.iter().enumerate() {
+        hints[buckets::of_word(*id)] = (row % 256) as u8;
+    }
+}
+
+// The same of the objects.
 pub fn hint_objects(words: &[u64], hints: &mut [u8; buckets::BUCKETS])
     requires { Whole words.now }
 {
-    let n = object_count(words);
-    let mut i = 0;
-    while i < n {
-        let b = buckets::of_word(oid(words, i).0);
-        hints[b] = (i % 256) as u8;
-        i += 1;
-    }
+    hint(oids(words), hints);
 }
 
 // The row of the set with a number; the number of live sets where there is none.
@@ -146,10 +148,7 @@ pub fn interface_row(words: &[u64], ipid: Guid) -> usize
     requires { Whole words.now }
     ensures { Holds (λ e. result ≡ interface_row e ipid) words.now }
 {
-    let n = interface_count(words);
-    let lows = table_words::column(words, table_words::IPID_LOWS, n);
-    let highs = table_words::column(words, table_words::IPID_HIGHS, n);
-    table_columns::guid_index_of(lows, highs, ipid)
+    table_columns::guid_index_of(ipid_lows(words), ipid_highs(words), ipid)
 }
 
 // An IPID can't be entered: it is nil, or that of a remote-unknown or other interface.
@@ -157,19 +156,14 @@ pub fn ipid_taken(words: &[u64], ipid: Guid) -> bool
     requires { Whole words.now }
     ensures { Holds (λ e. result ≡ (same_guid ipid nil || some (same_guid ipid) (ipids e))) words.now }
 {
-    let n = exporter_count(words);
-    let m = interface_count(words);
     if table_columns::is_nil(ipid) {
         return true;
     }
+    let n = exporter_count(words);
     let lows = table_words::column(words, table_words::UNKNOWN_LOWS, n);
     let highs = table_words::column(words, table_words::UNKNOWN_HIGHS, n);
-    if table_columns::has_guid(lows, highs, ipid) {
-        return true;
-    }
-    let interface_lows = table_words::column(words, table_words::IPID_LOWS, m);
-    let interface_highs = table_words::column(words, table_words::IPID_HIGHS, m);
-    table_columns::has_guid(interface_lows, interface_highs, ipid)
+    table_columns::has_guid(lows, highs, ipid)
+        || table_columns::has_guid(ipid_lows(words), ipid_highs(words), ipid)
 }
 
 // Count k of interface i: the public one is 0, that of client c is 1 + c.
@@ -230,27 +224,24 @@ pub fn interface_counts(words: &[u64], i: usize, client: usize) -> InterfaceCoun
     }
 }
 
-// Whether count k of interface i is zero.
-fn is_zero(words: &[u64], i: usize, k: usize) -> bool
-    requires { Whole words.now × (i < interface_count words.now) × (k < 9) }
-    ensures { result ≡ eqb (count_of k (get_or (interfaces_of words.now) i no_interface)) 0 }
-{
-    count(words, i, k) == 0
-}
-
 // Whether a reference to interface i is held. The public count is looked at first.
 pub fn is_held(words: &[u64], i: usize) -> bool
     requires { Whole words.now × (i < interface_count words.now) }
     ensures { result ≡ held (get_or (interfaces_of words.now) i no_interface) }
 {
-    let mut k = 0;
-    while k < 9 {
-        if !is_zero(words, i, k) {
-            return true;
-        }
-        k += 1;
-    }
-    false
+    (0..9).any(|k| count(words, i, k) != 0)
+}
+
+// The objects that the interfaces name.
+pub fn interface_objects(words: &[u64]) -> &[u64]
+    requires { Whole words.now }
+    ensures { result.now ≡ map (λ (i : Interface). i.object) (interfaces_of words.now) }
+{
+    table_words::column(
+        words,
+        table_words::INTERFACE_OBJECTS,
+        interface_count(words),
+    )
 }
 
 // Whether an interface names an object.
@@ -258,14 +249,7 @@ pub fn is_served(words: &[u64], oid: Oid) -> bool
     requires { Whole words.now }
     ensures { Holds (λ e. result ≡ some (λ (i : Interface). eqb oid.0 i.object) e.interfaces) words.now }
 {
-    table_columns::has(
-        table_words::column(
-            words,
-            table_words::INTERFACE_OBJECTS,
-            interface_count(words),
-        ),
-        oid.0,
-    )
+    table_columns::has(interface_objects(words), oid.0)
 }
 
 // The OID of object i.
@@ -305,14 +289,7 @@ pub fn is_heard_within(words: &[u64], i: usize, time: u64) -> bool
     requires { Whole words.now × (i < object_count words.now) }
     ensures { result ≡ heard_within time (get_or (objects_of words.now) i no_object) }
 {
-    if words[table_words::NO_PING_MARKS + i] != 0 {
-        return true;
-    }
-    table_columns::is_within(
-        words[table_words::HEARD_TIMES + i],
-        time,
-        table_words::TIMEOUT,
-    )
+    is_unpinged(words, i) || table_columns::is_within(heard(words, i), time, table_words::TIMEOUT)
 }
 
 // Set i was pinged under 360 seconds before a time.
@@ -320,11 +297,7 @@ pub fn is_pinged_within(words: &[u64], i: usize, time: u64) -> bool
     requires { Whole words.now × (i < set_count words.now) }
     ensures { result ≡ pinged_within time (get_or (sets_of words.now) i no_set) }
 {
-    table_columns::is_within(
-        words[table_words::PING_TIMES + i],
-        time,
-        table_words::TIMEOUT,
-    )
+    table_columns::is_within(pinged(words, i), time, table_words::TIMEOUT)
 }
 
 // The number of set i.
@@ -387,10 +360,8 @@ pub fn list_start(store: &[u8], i: usize) -> usize
     ensures { result ≡ list_start store.now i }
 {
     let mut at = 0;
-    let mut j = 0;
-    while j < i {
+    for _j in 0..i {
         at += bindings::stated_length(&store[at..]);
-        j += 1;
     }
     at
 }

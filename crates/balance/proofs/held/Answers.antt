@@ -7,10 +7,10 @@ use Rattle.balance.proofs.Sums.{held_on, held-past}
 use Rattle.balance.proofs.held.Goals as goal
 
 pub loop-i-init : goal.loop-i-init
-loop-i-init c = (omega arith, omega arith, omega arith)
+loop-i-init c = (omega arith, omega arith)
 
-pub held_at-one-requires : goal.held_at-one-requires
-held_at-one-requires c =
+pub held_at-sum-requires : goal.held_at-sum-requires
+held_at-sum-requires c =
     let n = c.interface_count-n.ensures in
     let t = c.loop-i-test.true in
     (c.requires, omega arith)
@@ -19,7 +19,7 @@ pub overflow_add-sum : goal.overflow_add-sum
 overflow_add-sum c =
     let v = c.loop-i.invariant in
     let n = c.interface_count-n.ensures in
-    let o = c.held_at-one.ensures in
+    let o = c.held_at-sum.ensures in
     let t = c.loop-i-test.true in
     omega arith
 
@@ -28,10 +28,10 @@ loop-i-preserved c =
     let l = c.loop-i in
     let ws = c.args.words.now in
     let n = c.interface_count-n.ensures in
-    let o = c.held_at-one.ensures in
+    let o = c.held_at-sum.ensures in
     let t = c.loop-i-test.true in
     let k = interfaces-length ws in
-    (omega arith, held_on (interfaces_of ws) no_interface l.i l.sum _ (omega arith) o.0 l.invariant.1, omega arith)
+    (held_on (interfaces_of ws) no_interface l.i l.sum _ (omega arith) o.0 l.invariant.0, omega arith)
 
 pub returns : goal.returns
 returns c =

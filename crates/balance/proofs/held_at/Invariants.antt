@@ -1,4 +1,4 @@
-use Prim.Native.Nat.{ℕ, ◌+◌, ◌-◌, ◌*◌, ◌≤◌}
+use Prim.Native.Nat.{ℕ, ◌+◌, ◌*◌, ◌≤◌}
 use mathlib.Core.Path.{◌≡◌}
 use mathlib.Core.List.{List}
 use lib.ListN.{get_or, drop}
@@ -11,7 +11,4 @@ abbrev pub counts : List ℕ → ℕ → List ℕ
 counts ws i = (get_or (interfaces_of ws) i no_interface).counts
 
 abbrev pub invariant-loop-k : goal.invariant-loop-k
-invariant-loop-k l = (l.k ≤ 9) × (l.sum + total (drop l.k (counts l.words l.i)) ≡ total (counts l.words l.i)) × (l.sum ≤ l.k * 4294967296)
-
-abbrev pub decreases-loop-k : goal.decreases-loop-k
-decreases-loop-k l = 9 - l.k
+invariant-loop-k l = (l.sum + total (drop l.k (counts l.words l.i)) ≡ total (counts l.words l.i)) × (l.sum ≤ l.k * 4294967296)

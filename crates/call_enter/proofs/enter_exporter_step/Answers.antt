@@ -1,8 +1,10 @@
 -- `call_enter::enter_exporter_step`: refused as the number says; else the exporter is entered with its list.
 use Prim.Native.Nat.{ℕ}
-use mathlib.Core.Path.{◌≡◌}
+use mathlib.Core.Path.{◌≡◌, refl}
 use mathlib.Core.List.{List}
 use Rattle.kinds.specs.declared.Guid.{Guid}
+use Rattle.kinds.proofs.Answering.{refusal-some}
+use Rattle.kinds.proofs.Passing.{passed-is}
 use Rattle.rules.specs.Calls.{Call, Edit, numbered}
 use Rattle.rules.specs.Rules.{number, next, results, refused_reply, accepted_reply}
 use Rattle.table_view.specs.View.{memory, view, Stepped}
@@ -21,12 +23,13 @@ module _ (ws s list : List ℕ) (x : ℕ) (u : Guid) (n : ℕ) (answer : n ≡ n
   unfolding accepted_reply results next
   entered z ws' s' v = accepted-step n answer z _ v
 
-pub returns-then-number-ne-DONE : goal.returns-then-number-ne-DONE
-returns-then-number-ne-DONE c = search refused
+pub returns-in_err-exporter_answer : goal.returns-in_err-exporter_answer
+returns-in_err-exporter_answer c =
+    rw (passed-is _ _ c.from_residual.ensures.1) (refused _ _ _ _ _ _ c.in_err-exporter_answer.ensures (refusal-some _ refl))
 
 pub append_exporter-requires : goal.append_exporter-requires
 append_exporter-requires = (λ c.
-    exporter-fits _ _ c.requires _ _ _ _ c.exporter_answer-number.ensures c.if-number-ne-DONE.false)
+    exporter-fits _ _ c.requires _ _ _ _ c.in_ok-exporter_answer.ensures refl)
 
 pub returns : goal.returns
-returns c = search entered
+returns c = entered _ _ _ _ _ _ c.in_ok-exporter_answer.ensures refl _ _ c.append_exporter.ensures

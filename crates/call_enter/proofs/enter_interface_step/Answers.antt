@@ -1,7 +1,9 @@
 -- `call_enter::enter_interface_step`: refused as the number says; else the interface is entered.
 use Prim.Native.Nat.{ℕ}
-use mathlib.Core.Path.{◌≡◌}
+use mathlib.Core.Path.{◌≡◌, refl}
 use mathlib.Core.List.{List}
+use Rattle.kinds.proofs.Answering.{refusal-some}
+use Rattle.kinds.proofs.Passing.{passed-is}
 use Rattle.kinds.specs.declared.Guid.{Guid}
 use Rattle.rules.specs.Calls.{Call, Edit, numbered}
 use Rattle.rules.specs.Rules.{next, results, refused_reply, accepted_reply, entered_counts}
@@ -25,11 +27,12 @@ module _ (ws s : List ℕ) (o : ℕ) (i iid : Guid) (p n : ℕ) where
   unfolding accepted_reply results next
   entered z a ws' b = accepted-step n (a s iid) z _ (b s)
 
-pub returns-then-number-ne-DONE : goal.returns-then-number-ne-DONE
-returns-then-number-ne-DONE c = search refused
+pub returns-in_err-interface_answer : goal.returns-in_err-interface_answer
+returns-in_err-interface_answer c =
+    rw (passed-is _ _ c.from_residual.ensures.1) (refused _ _ _ _ _ _ _ (refusal-some _ refl) c.in_err-interface_answer.ensures)
 
 pub append_interface-requires : goal.append_interface-requires
-append_interface-requires c = (search rules, interface-fits c.args.words.now _ _ _ _ c.if-number-ne-DONE.false c.interface_answer-number.ensures)
+append_interface-requires c = (search rules, interface-fits c.args.words.now _ _ _ _ refl c.in_ok-interface_answer.ensures)
 
 pub returns : goal.returns
-returns c = search entered
+returns c = entered _ _ _ _ _ _ _ refl c.in_ok-interface_answer.ensures _ c.append_interface.ensures

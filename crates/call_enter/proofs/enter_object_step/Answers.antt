@@ -1,15 +1,17 @@
 -- `call_enter::enter_object_step`: refused as the number says; else the object is entered, and then its first interface.
 use Prim.Native.Nat.{ℕ, ◌<◌}
-use mathlib.Core.Path.{◌≡◌, sym, ap, ◌∙◌}
+use mathlib.Core.Path.{◌≡◌, refl, sym, ap, ◌∙◌}
 use mathlib.Core.Bool.{Bool}
 use mathlib.Core.List.{List}
 use native.Mathlib.Omega.{arith}
 use lib.ListN.{length}
+use Rattle.kinds.proofs.Answering.{refusal-some}
+use Rattle.kinds.proofs.Passing.{passed-is}
 use Rattle.kinds.specs.declared.Guid.{Guid}
-use Rattle.rules.specs.Entries.{Object, Entries, object_places, interface_places}
+use Rattle.rules.specs.Entries.{Object, Entries, interface_places}
 use Rattle.rules.specs.Calls.{Call, Edit, numbered}
 use Rattle.rules.specs.Rules.{next, results, refused_reply, accepted_reply, entered_counts}
-use Rattle.table_view.specs.View.{clock_of, object_count, interface_count, memory, Stepped}
+use Rattle.table_view.specs.View.{clock_of, interface_count, memory, Stepped}
 use Rattle.table_view.proofs.LiveRows.{interfaces-length}
 use Rattle.table_view.proofs.Steps.{sound-below, refused-step, accepted-step}
 use Rattle.table_edit.specs.Edits.{Became, add_object, add_interface}
@@ -35,18 +37,16 @@ module _ (ws s : List ℕ) (o x : ℕ) (i iid : Guid) (p : ℕ) (np : Bool) (n :
   unfolding accepted_reply results next
   entered z a ws₁ ws₂ b d = accepted-step n (a s iid np) z _ (d s ∙ ap (add_interface _) (b s))
 
-pub returns-then-number-ne-DONE : goal.returns-then-number-ne-DONE
-returns-then-number-ne-DONE c = search refused
+pub returns-in_err-object_answer : goal.returns-in_err-object_answer
+returns-in_err-object_answer c =
+    rw (passed-is _ _ c.from_residual.ensures.1) (refused _ _ _ _ _ _ _ _ _ (refusal-some _ refl) c.in_err-object_answer.ensures)
 
 pub append_object-requires : goal.append_object-requires
-append_object-requires c =
-    let fits : c.object_answer-number.result ≡ 0 → let ws = c.args.words.now in (object_count ws < object_places) × (interface_count ws < interface_places) = λ z. object-fits c.args.words.now _ _ _ _ _ z c.object_answer-number.ensures in
-    (search rules, (fits c.if-number-ne-DONE.false).0, search sound-below)
+append_object-requires c = (search rules, (object-fits c.args.words.now _ _ _ _ _ refl c.in_ok-object_answer.ensures).0, search sound-below)
 
 pub append_interface-requires : goal.append_interface-requires
 append_interface-requires c =
-    let fits : c.object_answer-number.result ≡ 0 → let ws = c.args.words.now in (object_count ws < object_places) × (interface_count ws < interface_places) = λ z. object-fits c.args.words.now _ _ _ _ _ z c.object_answer-number.ensures in
-    (search rules, place-left _ (fits c.if-number-ne-DONE.false).1 _ _ c.append_object.ensures)
+    (search rules, place-left _ (object-fits c.args.words.now _ _ _ _ _ refl c.in_ok-object_answer.ensures).1 _ _ c.append_object.ensures)
 
 pub returns : goal.returns
-returns c = search entered
+returns c = entered _ _ _ _ _ _ _ _ _ refl c.in_ok-object_answer.ensures _ _ c.append_object.ensures c.append_interface.ensures

@@ -10,6 +10,8 @@ use mir.Syntax.{w64}
 use mir.Val.{Fits}
 use lib.ListN.{length, drop}
 use Rattle.kinds.specs.Refusals.{order, ◌gives◌}
+use Rattle.kinds.proofs.Answering.{refusal-some}
+use Rattle.kinds.proofs.Passing.{passed-is}
 use Rattle.kinds.proofs.Refusing.{ne-differ, eq-differ}
 use Rattle.bindings.specs.Bindings.{list_answer}
 use Rattle.rules.specs.Entries.{exporter_places, lists_length}
@@ -23,13 +25,13 @@ use Rattle.table_view.proofs.Steps.{row_gives, row-passes, rows_end, two-rows, f
 use borrow.Author.Rules.{rules}
 use Rattle.call_enter.proofs.list_answer.Goals as goal
 
-module _ (ws s list : List ℕ) (n : ℕ) (judged : n ≡ list_answer list) where
-  bad-list : (n ≡ 0 → ⊥) → n ≡ order (list_refusals list (view (memory ws s)))
-  bad-list h = judged ∙ row_gives _ _ _ refl (ne-differ _ 0 (λ z. h (judged ∙ z)))
+module _ (ws s list : List ℕ) where
+  bad-list : (n : ℕ) → n ≡ list_answer list → (n ≡ 0 → ⊥) → n ≡ order (list_refusals list (view (memory ws s)))
+  bad-list n judged h = judged ∙ row_gives _ _ _ refl (ne-differ _ 0 (λ z. h (judged ∙ z)))
 
-  module _ (good : n ≡ 0) where
+  module _ (good : 0 ≡ list_answer list) where
     left-1 : order (list_refusals list (view (memory ws s))) ≡ order (drop 1 (list_refusals list (view (memory ws s))))
-    left-1 = row-passes _ _ _ refl (eq-differ _ 0 (sym judged ∙ good))
+    left-1 = row-passes _ _ _ refl (eq-differ _ 0 (sym good))
 
     long-list : longest_list < length list → 19 ≡ order (list_refusals list (view (memory ws s)))
     long-list h = row_gives _ _ _ left-1 (lt-ltb longest_list _ h)
@@ -63,14 +65,14 @@ sum_fits : (ws s list : List ℕ) (b : ℕ) → length list ≤ longest_list →
     → Fits w64 (b + length list)
 sum_fits ws s list b short kept w k e start = let h = begins ws s kept k e in omega arith
 
-pub returns-then-judged-ne-DONE : goal.returns-then-judged-ne-DONE
-returns-then-judged-ne-DONE c = search bad-list
+pub returns-in_err-list_answer : goal.returns-in_err-list_answer
+returns-in_err-list_answer c = rw (passed-is _ _ c.from_residual.ensures.1) (bad-list _ _ _ _ c.in_err-list_answer.ensures (refusal-some _ refl))
 
 pub returns-then-list-gt-LONGEST_LIST : goal.returns-then-list-gt-LONGEST_LIST
-returns-then-list-gt-LONGEST_LIST c = search long-list
+returns-then-list-gt-LONGEST_LIST c = search (long-list c.args.words.now c.args.store.now c.args.list.now c.in_ok-list_answer.ensures)
 
 pub returns-then-n-ge-EXPORTER_PLACES : goal.returns-then-n-ge-EXPORTER_PLACES
-returns-then-n-ge-EXPORTER_PLACES c = search full
+returns-then-n-ge-EXPORTER_PLACES c = search (full c.args.words.now c.args.store.now c.args.list.now c.in_ok-list_answer.ensures)
 
 pub list_start-requires : goal.list_start-requires
 list_start-requires c = (search rules, search begins)
@@ -79,7 +81,7 @@ pub overflow_add-list_start : goal.overflow_add-list_start
 overflow_add-list_start c = search sum_fits
 
 pub returns-then-list_start-list-gt-BYTES : goal.returns-then-list_start-list-gt-BYTES
-returns-then-list_start-list-gt-BYTES c = search no_room
+returns-then-list_start-list-gt-BYTES c = search (no_room c.args.words.now c.args.store.now c.args.list.now c.in_ok-list_answer.ensures)
 
 pub returns : goal.returns
-returns c = search done
+returns c = search (done c.args.words.now c.args.store.now c.args.list.now c.in_ok-list_answer.ensures)

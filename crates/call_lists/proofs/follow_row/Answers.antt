@@ -3,5 +3,5 @@ use borrow.Author.Rules.{rules}
 use Rattle.call_lists.proofs.Index.{indexed-moved}
 use Rattle.call_lists.proofs.follow_row.Goals as goal
 
-pub loop-b-preserved : goal.loop-b-preserved
-loop-b-preserved c = search (rules, indexed-moved)
+pub loop-number-preserved : goal.loop-number-preserved
+loop-number-preserved c = search (rules, indexed-moved)

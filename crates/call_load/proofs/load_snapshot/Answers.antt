@@ -9,7 +9,7 @@ use Rattle.rules.specs.Rules.{results, refused_reply, accepted_reply}
 use Rattle.rules.proofs.Performing.{unfit}
 use Rattle.rules.specs.Contract.{fit}
 use Rattle.table_view.specs.View.{memory, view}
-use Rattle.call_load.proofs.Loading.{copied_all, load-refused, load-accepted}
+use Rattle.call_load.proofs.Loading.{load-refused, load-accepted}
 use Rattle.call_load.proofs.load_snapshot.Goals as goal
 
 pub returns-then-words-ne-WORDS : goal.returns-then-words-ne-WORDS
@@ -38,8 +38,8 @@ returns c =
     let a = c.args in
     let h = c.read_snapshot in
     let t : h.result ≡ true = c.if-not-read_snapshot.false in
-    let words = c.copy_words.ensures in
-    let store = c.copy.ensures ∙ copied_all _ h.new.store (omega arith) in
+    let words = c.copy_from_slice.ensures.after in
+    let store = c.copy_from_slice-2.ensures.after in
     load-accepted a.snapshot.now (memory a.words.now a.store.now) c.if-words-ne-WORDS.false c.if-store-ne-BYTES.false _ _
     (sym h.ensures.accepted ∙ t) (ap length words ∙ omega arith) (ap length store ∙ omega arith)
     ((λ u. view (memory (words u) (store u))) ∙ h.ensures.entries t)

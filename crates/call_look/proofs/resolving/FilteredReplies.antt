@@ -12,7 +12,7 @@ use Rattle.kinds.specs.declared.Guid.{Guid}
 use Rattle.fields.specs.Fields.{stored}
 use Rattle.bindings.specs.Bindings.{words, list_length, list_answer, split}
 use Rattle.bindings.specs.Filter.{filtered, write_filtered, words_in, towers_of, Marks}
-use Rattle.bindings.specs.declared.filter.Filtered.{Filtered}
+use Rattle.fields.specs.declared.Written.{Written}
 use Rattle.bindings.proofs.ListAnswers.{accepted, front-list}
 use Rattle.bindings.proofs.FilterTowers.{filtered-by-towers}
 use Rattle.bindings.proofs.Marks.{words-length}
@@ -56,12 +56,12 @@ module _ (ws s : List ℕ) (t : SoundTable (memory ws s)) (n r : ℕ) (counted :
       omega arith
 
 -- the filter's answer for an accepted list: 0 where there is room
-module _ (protocols list : List ℕ) (n : ℕ) {w : Filtered} (e : w ≡ write_filtered protocols list n) (good : list_answer list ≡ 0) where
+module _ (protocols list : List ℕ) (n : ℕ) {w : Written} (e : w ≡ write_filtered protocols list n) (good : list_answer list ≡ 0) where
   filter-room : w.answer ≡ 0 → length (filtered protocols list) ≤ n
   filter-room z =
       ⊎_elim
       (λ l.
-      let q : w.answer ≡ 15 = ap (λ (x : Filtered). x.answer) (e ∙ sym (write-refused protocols list n 15 (answer-room protocols list n good l) (λ y. omega arith))) in
+      let q : w.answer ≡ 15 = ap (λ (x : Written). x.answer) (e ∙ sym (write-refused protocols list n 15 (answer-room protocols list n good l) (λ y. omega arith))) in
       absurd (omega arith))
       (λ l. l)
       (below_or_not n (length (filtered protocols list)))
@@ -69,11 +69,16 @@ module _ (protocols list : List ℕ) (n : ℕ) {w : Filtered} (e : w ≡ write_f
   filter-short : (w.answer ≡ 0 → ⊥) → n < length (filtered protocols list)
   filter-short bad =
       ⊎_elim (λ l. l)
-      (λ l. absurd (bad (ap (λ (x : Filtered). x.answer) (e ∙ sym (write_done protocols list n (answer-done protocols list n good l))))))
+      (λ l. absurd (bad (ap (λ (x : Written). x.answer) (e ∙ sym (write_done protocols list n (answer-done protocols list n good l))))))
       (below_or_not n (length (filtered protocols list)))
 
+  -- a list that keeps the rules is refused by 15
+  filter-number : (w.answer ≡ 0 → ⊥) → w.answer ≡ 15
+  filter-number bad =
+      ap (λ (x : Written). x.answer) (e ∙ sym (write-refused protocols list n 15 (answer-room protocols list n good (filter-short bad)) (λ y. omega arith)))
+
   filter-length : w.answer ≡ 0 → w.length ≡ length (filtered protocols list)
-  filter-length z = ap (λ (x : Filtered). x.length) (e ∙ sym (write_done protocols list n (answer-done protocols list n good (filter-room z))))
+  filter-length z = ap (λ (x : Written). x.length) (e ∙ sym (write_done protocols list n (answer-done protocols list n good (filter-room z))))
 
 -- within the limit it is a resolve of what the filter leaves
 filtering : (protocols : List ℕ) → too_many protocols ≡ false → (x : ℕ) (buffer : List ℕ) (e : Entries)
@@ -93,13 +98,13 @@ module _ (ws s protocols buffer : List ℕ) (x : ℕ) where
 
     -- by the filter's answer
     module _ (live : r < n) (row : Holds (λ e. r ≡ exporter_row e x) ws) (t : SoundTable (memory ws s))
-        (list : List ℕ) (held : list ≡ (get_or (exporters_of ws s) r no_exporter).bindings) (w : Filtered) (e : w ≡ write_filtered protocols list (length buffer))
+        (list : List ℕ) (held : list ≡ (get_or (exporters_of ws s) r no_exporter).bindings) (w : Written) (e : w ≡ write_filtered protocols list (length buffer))
         (after : List ℕ) (put : after ≡ stored w.answer (filtered protocols list) buffer) where
       good : list_answer list ≡ 0
       good = good-list ws s t n r counted live list held
 
-      pub filter-refuses : (w.answer ≡ 0 → ⊥) → Stepped (Call.looking (Look.resolve_filtered x protocols buffer)) (memory ws s) (resolve_reply (none 15) after) (memory ws s)
-      filter-refuses bad = rw (put, ne_eqb _ 0 bad) (no_room (filtering protocols few) ws s buffer x n r counted live row list held (filter-short protocols list (length buffer) e good bad))
+      pub filter-refuses : (w.answer ≡ 0 → ⊥) → Stepped (Call.looking (Look.resolve_filtered x protocols buffer)) (memory ws s) (resolve_reply (none w.answer) after) (memory ws s)
+      filter-refuses bad = rw (filter-number protocols list (length buffer) e good bad, put, ne_eqb _ 0 bad) (no_room (filtering protocols few) ws s buffer x n r counted live row list held (filter-short protocols list (length buffer) e good bad))
 
       pub filter-writes : w.answer ≡ 0 → (u : Guid) → ((s : List ℕ) → u ≡ (get_or (exporters_of ws s) r no_exporter).unknown)
           → Stepped (Call.looking (Look.resolve_filtered x protocols buffer)) (memory ws s) (resolve_reply (record { answer = 0; length = w.length; unknown = u }) after) (memory ws s)

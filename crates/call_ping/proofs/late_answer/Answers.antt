@@ -33,14 +33,14 @@ module _ (ws st : List ℕ) (s : ℕ) where
       done : (k ≡ 18446744073709551615 → ⊥) → 0 ≡ late
       done h = rows_end (row-passes _ _ _ next-left (ne_eqb _ _ h))
 
+pub returns-then-set-ne0 : goal.returns-then-set-ne0
+returns-then-set-ne0 = (λ c s. search named)
+
 pub returns-then-set_count-ge-SET_PLACES : goal.returns-then-set_count-ge-SET_PLACES
 returns-then-set_count-ge-SET_PLACES = (λ c s. search full)
 
-pub returns-then-next : goal.returns-then-next
-returns-then-next = (λ c s. search used-up)
-
-pub returns-then-set-eq0 : goal.returns-then-set-eq0
-returns-then-set-eq0 = (λ c s. search done)
+pub returns-then-next_set-eq18446744073709551615 : goal.returns-then-next_set-eq18446744073709551615
+returns-then-next_set-eq18446744073709551615 = (λ c s. search used-up)
 
 pub returns : goal.returns
-returns = (λ c s. search named)
+returns = (λ c s. search done)

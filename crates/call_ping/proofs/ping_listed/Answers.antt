@@ -1,23 +1,24 @@
 -- `call_ping::ping_listed`: what its number refuses; else the set's row is found or made, updated and pinged.
 use Rattle.table_view.proofs.Steps.{whole}
 use Rattle.call_ping.proofs.ComplexPings.{late-refused, set-fits, RowMade, update-asked, still-row, still-proper, pinged-done}
-use Rattle.std.proofs.Common.{rules}
+use Rattle.std.proofs.Common.{rules, refl}
+use Rattle.kinds.proofs.Answering.{refusal-some}
+use Rattle.kinds.proofs.Passing.{passed-is}
 use Rattle.call_ping.proofs.ping_listed.Goals as goal
 
-pub late_answer-number-requires : goal.late_answer-number-requires
-late_answer-number-requires c = search whole
+pub late_answer-requires : goal.late_answer-requires
+late_answer-requires c = search whole
 
-pub returns-then-number-ne-DONE : goal.returns-then-number-ne-DONE
-returns-then-number-ne-DONE = (λ c adds dels left. rw c.refused.ensures (search late-refused))
+pub returns-in_err-late_answer : goal.returns-in_err-late_answer
+returns-in_err-late_answer = (λ c adds dels left. rw (passed-is _ _ c.from_residual.ensures.1) (late-refused _ _ _ _ _ _ _ _ left c.in_err-late_answer.ensures (refusal-some _ refl)))
 
 pub ping_set_number-pinged-requires : goal.ping_set_number-pinged-requires
 ping_set_number-pinged-requires c = search whole
 
 pub ping_set_row-i-requires : goal.ping_set_row-i-requires
 ping_set_row-i-requires = (λ c.
-    let late = c.late_answer-number.ensures in
     let known = c.slice_known-1.given 1 in
-    (search whole, λ z. set-fits _ _ late c.if-number-ne-DONE.false z known.fits))
+    (search whole, λ z. set-fits _ _ c.in_ok-late_answer.ensures refl z known.fits))
 
 pub update_set-requires : goal.update_set-requires
 update_set-requires c =
@@ -35,4 +36,4 @@ pub returns : goal.returns
 returns c adds dels left =
     let made : let a = c.args in RowMade a.words.now a.store.now a.set.0 c.ping_set_row-i.new.words c.ping_set_row-i.result = search in
     pinged-done made _ _ _ c.update_set.ensures _ c.ping_row.ensures adds dels left _ _
-    c.if-number-ne-DONE.false c.late_answer-number.ensures c.ping_set_number-pinged.ensures
+    refl c.in_ok-late_answer.ensures c.ping_set_number-pinged.ensures

@@ -91,11 +91,28 @@ returns-then-client-gt-LAST_CLIENT c = search no-client
 pub returns-then-interface_count-i : goal.returns-then-interface_count-i
 returns-then-interface_count-i c = search no-interface
 
-pub returns-then-more_public-gt4294967295 : goal.returns-then-more_public-gt4294967295
-returns-then-more_public-gt4294967295 c = search public-passes
+pub returns-in_default : goal.returns-in_default
+returns-in_default c =
+    let h : InterfaceCounts = c.interface_counts-counts.result in
+    let passes = c.in_default.ensures in
+    let over : 4294967295 < h.public + c.args.public = omega arith in
+    search public-passes
 
-pub returns-then-more_private-gt4294967295 : goal.returns-then-more_private-gt4294967295
-returns-then-more_private-gt4294967295 c = search private-passes
+pub returns-in_default-checked_add : goal.returns-in_default-checked_add
+returns-in_default-checked_add c =
+    let h : InterfaceCounts = c.interface_counts-counts.result in
+    let fits = c.in-Some.ensures.0 in
+    let within : h.public + c.args.public ≤ 4294967295 = omega arith in
+    let passes = c.in_default-checked_add.ensures in
+    let over : 4294967295 < h.private + c.args.private = omega arith in
+    search private-passes
 
 pub returns : goal.returns
-returns c = search added
+returns c =
+    let h : InterfaceCounts = c.interface_counts-counts.result in
+    let p = c.in-Some.ensures in
+    let q = c.in-Some-checked_add.ensures in
+    let within : h.public + c.args.public ≤ 4294967295 = omega arith in
+    let within₂ : h.private + c.args.private ≤ 4294967295 = omega arith in
+    let stored = rw (p.1, q.1) at c.set_counts.ensures in
+    search added

@@ -4,6 +4,7 @@ use mathlib.Core.Path.{◌≡◌, sym, ap, ◌∙◌}
 use mathlib.Core.Bool.{Bool, true, true≢false}
 use mathlib.Core.List.{List, map}
 use native.Mathlib.Omega.{arith}
+use borrow.Author.Tests.{le-ltb}
 use lib.ListN.{length, get_or, length-map}
 use Rattle.kinds.specs.declared.Guid.{Guid}
 use Rattle.lists.specs.Lists.{first_index}
@@ -32,5 +33,5 @@ has-ipid ws t row i h e b p q x s =
 pub returns-then-row-interface_count : goal.returns-then-row-interface_count
 returns-then-row-interface_count c = search has-ipid
 
-pub returns : goal.returns
-returns = (λ c t. absurd (true≢false (sym t)))
+pub returns-else-row-interface_count : goal.returns-else-row-interface_count
+returns-else-row-interface_count = (λ c t. absurd (true≢false (sym t ∙ le-ltb _ _ c.if-row-interface_count.false)))

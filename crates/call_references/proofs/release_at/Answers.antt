@@ -4,10 +4,10 @@ use borrow.Author.Rules.{rules}
 use Rattle.call_references.proofs.release_at.Goals as goal
 
 pub returns-then-client-gt-LAST_CLIENT : goal.returns-then-client-gt-LAST_CLIENT
-returns-then-client-gt-LAST_CLIENT c = rw c.refused.ensures (search no-client)
+returns-then-client-gt-LAST_CLIENT c = search no-client
 
 pub returns-then-interface_count-i : goal.returns-then-interface_count-i
-returns-then-interface_count-i c = rw c.refused-then-interface_count-i.ensures (search no-interface)
+returns-then-interface_count-i c = search no-interface
 
 pub is_held-requires : goal.is_held-requires
 is_held-requires c =

@@ -8,7 +8,7 @@ pub clock-requires : goal.clock-requires
 clock-requires c = search whole
 
 pub returns-then-time-clock : goal.returns-then-time-clock
-returns-then-time-clock c = rw c.refused.ensures (search clock-back)
+returns-then-time-clock c = search clock-back
 
 pub object_count-objects-requires : goal.object_count-objects-requires
 object_count-objects-requires c = search whole

@@ -38,7 +38,7 @@ module _ (ws store buffer : List ℕ) (n : ℕ) (counted : n ≡ length (snapsho
         (accepted-step 0 (rows_end (row-passes _ 15 [] refl (le-ltb (length buffer) (length bytes) enough))) refl (memory ws store) refl)
 
 pub returns-then-buffer-n : goal.returns-then-buffer-n
-returns-then-buffer-n c = rw c.refused.ensures (search short)
+returns-then-buffer-n c = search short
 
 pub put_snapshot-requires : goal.put_snapshot-requires
 put_snapshot-requires c = search room

@@ -1,18 +1,12 @@
--- `identifiers::all_true`: what is left from i on passes where the whole does.
-use mathlib.Core.Path.{refl}
-use mathlib.Core.Bool.{false}
-use borrow.Author.Rules.{rules}
-use Rattle.table_columns.proofs.Loops.{column-step, column-end, every-passes, every-fails, every-end}
+-- `identifiers::all_true`: the chain's answer, as lists say it.
+use Rattle.std.proofs.Common.{Bool, ◌∙◌, rules, tests}
+use Rattle.std.proofs.lemmas.Iterator.{YieldsList-from_slice}
+use Rattle.std.proofs.lemmas.Iterator.Search.{all_from_yields_List}
+use Rattle.table_columns.proofs.Chains.{list_all-every}
 use Rattle.identifiers.proofs.all_true.Goals as goal
 
-pub loop-i-init : goal.loop-i-init
-loop-i-init c = refl
-
-pub returns-then-not-marks-i : goal.returns-then-not-marks-i
-returns-then-not-marks-i c = let l = c.loop-i in every-fails (column-step _ false l.i (search rules)) _ l.invariant c.if-not-marks-i.true
-
-pub loop-i-preserved : goal.loop-i-preserved
-loop-i-preserved c = let l = c.loop-i in every-passes (column-step _ false l.i (search rules)) _ l.invariant c.if-not-marks-i.false
-
 pub returns : goal.returns
-returns c = let l = c.loop-i in every-end (column-end _ l.i (search rules)) _ l.invariant
+returns c =
+    let marks = c.args.marks.now in
+    all_from_yields_List (λ (b : Bool). b) _ _ _ c.all.ensures.ran (YieldsList-from_slice marks cc) (λ x b q k. search (rules, tests))
+    ∙ list_all-every (λ (b : Bool). b) marks

@@ -12,6 +12,3 @@ abbrev pub invariant-loop-i : goal.invariant-loop-i
 invariant-loop-i l =
     (l.i ≤ length l.lows) × (length l.rows ≡ 4096)
     × Before same_guid nil (guid_noted l.rows l.lows2 l.highs2) (drop l.i (guids l.lows l.highs)) (drop l.i (guids l.lows l.highs) ++ drop l.from (guids l.lows2 l.highs2))
-
-abbrev pub decreases-loop-i : goal.decreases-loop-i
-decreases-loop-i l = l.i

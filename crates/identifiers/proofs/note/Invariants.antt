@@ -8,6 +8,3 @@ use Rattle.identifiers.proofs.note.Given as goal
 
 abbrev pub invariant-loop-i : goal.invariant-loop-i
 invariant-loop-i l = (l.i ≤ length l.col) × (length l.rows ≡ length l.initial.rows) × Before eqb 0 (word_noted (length l.initial.rows) l.col l.rows) (drop l.i l.col) (drop l.i l.col)
-
-abbrev pub decreases-loop-i : goal.decreases-loop-i
-decreases-loop-i l = l.i

@@ -1,53 +1,49 @@
 -- `recording::form_fits`: the clauses of `form_fits` in their order.
-use Prim.Native.Nat.{ℕ, ◌+◌, ◌*◌, ◌≤◌}
-use mathlib.Core.Path.{◌≡◌, sym, ap, ◌∙◌}
-use mathlib.Core.Bool.{Bool, true, false, not}
-use mathlib.Core.List.{List}
-use borrow.Author.Tests.{eq-eqb, ne_eqb, not-true}
+use Prim.Native.Nat.{◌+◌, ◌*◌}
+use mathlib.Core.Path.{◌≡◌, refl, sym, ap, ◌∙◌}
+use mathlib.Core.Bool.{Bool, ◌&&◌}
+use borrow.Author.Tests.{eq-eqb, ne_eqb}
 use lib.Dec.{eqb}
 use lib.ListN.{length}
-use Rattle.fields.specs.Fields.{field}
-use Rattle.recording.specs.Recording.{form_of, whole, mark_fits, form_fits}
-use Rattle.recording.proofs.Tables.{known, unknown, fails, passes}
+use Rattle.recording.specs.Recording.{whole, form_fits}
+use Rattle.recording.specs.declared.forms.Form.{Form}
+use Rattle.recording.proofs.Tables.{unknown, known, fits_but_last, asked, not_asked}
 use Rattle.recording.proofs.form_fits.Goals as goal
+use Rattle.recording.proofs.form_fits.Goals.{then-s-form, else-s-form, then-is_whole, else-is_whole, then-is_whole-2, else-is_whole-2, Joined-is_whole-2}
 
-module _ (s : List ℕ) (first second answer k : ℕ) (code : k ≡ field s 0 1) where
-  no_code : 20 ≤ k → false ≡ form_fits s first second answer
-  no_code h = fails s first second answer k code 0 (unknown s first second answer k code h)
+pub returns-in_default : goal.returns-in_default
+returns-in_default c = unknown _ _ _ _ _ c.byte.ensures c.in_default.ensures
 
-  other_width : (w : ℕ) → w ≡ (form_of k).width → (length s ≡ w → ⊥) → false ≡ form_fits s first second answer
-  other_width w e h = fails s first second answer k code 1 (ne_eqb _ _ (λ z. h (z ∙ sym e)))
+-- all but the last
+module _ (c : Joined-is_whole-2) where
+  abbrev f : Form
+  f = c.in-Some.form
 
-  first-cut : (n : ℕ) → n ≡ (form_of k).first → (b : Bool) → b ≡ whole n first → not b ≡ true → false ≡ form_fits s first second answer
-  first-cut n e b tested h = fails s first second answer k code 2 (ap (λ m. whole m first) (sym e) ∙ sym tested ∙ not-true _ h)
+  one : c.if-s-form.value ≡ (eqb (length c.args.s.now) f.width && whole f.first c.args.first)
+  one = elim c.if-s-form.branch [
+    | then-s-form w ↦ asked _ refl (eq-eqb _ _ w.if-s-form.true) w.is_whole.ensures w.value-is
+    | else-s-form w ↦ not_asked _ refl (ne_eqb _ _ w.if-s-form.false) w.value-is
+  ]
 
-  second-cut : (n : ℕ) → n ≡ (form_of k).second → (b : Bool) → b ≡ whole n second → not b ≡ true → false ≡ form_fits s first second answer
-  second-cut n e b tested h = fails s first second answer k code 3 (ap (λ m. whole m second) (sym e) ∙ sym tested ∙ not-true _ h)
+  two : c.if-is_whole.value ≡ ((eqb (length c.args.s.now) f.width && whole f.first c.args.first) && whole f.second c.args.second)
+  two = elim c.if-is_whole.branch [
+    | then-is_whole w ↦ asked _ one w.if-is_whole.true w.is_whole-then-is_whole.ensures w.value-is
+    | else-is_whole w ↦ not_asked _ one w.if-is_whole.false w.value-is
+  ]
 
-  unmarked : (n : ℕ) → n ≡ (form_of k).mark → (b : Bool) → b ≡ mark_fits n s → not b ≡ true → false ≡ form_fits s first second answer
-  unmarked n e b tested h = fails s first second answer k code 4 (ap (λ m. mark_fits m s) (sym e) ∙ sym tested ∙ not-true _ h)
+  three : c.if-is_whole-2.value ≡ fits_but_last c.args.s.now c.args.first c.args.second f
+  three = elim c.if-is_whole-2.branch [
+    | then-is_whole-2 w ↦ asked _ two w.if-is_whole-2.true w.mark_fits.ensures w.value-is
+    | else-is_whole-2 w ↦ not_asked _ two w.if-is_whole-2.false w.value-is
+  ]
 
-pub returns : goal.returns
-returns c =
-    let a = c.args in
-    ap (λ n. eqb a.answer (8 + 8 * n)) c.values.ensures.0
-    ∙ passes a.s.now a.first a.second a.answer _ c.byte-code.ensures (known a.s.now a.first a.second a.answer _ c.byte-code.ensures c.if-code-ge20.false)
-    (eq-eqb _ _ (c.if-s-width.false ∙ c.width.ensures))
-    (ap (λ n. whole n a.first) (sym c.first.ensures) ∙ sym c.is_whole.ensures ∙ c.if-not-is_whole.false)
-    (ap (λ n. whole n a.second) (sym c.second.ensures) ∙ sym c.is_whole-2.ensures ∙ c.if-not-is_whole-2.false)
-    (ap (λ n. mark_fits n a.s.now) (sym c.mark.ensures) ∙ sym c.mark_fits.ensures ∙ c.if-not-mark_fits.false)
+  last : {b : Bool} → c.if-is_whole-2.value ≡ b → (b && eqb c.args.answer (8 + 8 * f.values)) ≡ form_fits c.args.s.now c.args.first c.args.second c.args.answer
+  last e =
+      ap (λ x. x && eqb c.args.answer (8 + 8 * f.values)) (sym e ∙ three)
+      ∙ known _ _ _ _ _ c.byte.ensures _ c.in-Some.ensures.0 c.in-Some.ensures.1
 
-pub returns-then-code-ge20 : goal.returns-then-code-ge20
-returns-then-code-ge20 c = search no_code
+pub returns-then-mark_fits : goal.returns-then-mark_fits
+returns-then-mark_fits c = last (goal.at.returns-then-mark_fits c).Joined-is_whole-2 c.if-mark_fits.true
 
-pub returns-then-s-width : goal.returns-then-s-width
-returns-then-s-width c = search other_width
-
-pub returns-then-not-is_whole : goal.returns-then-not-is_whole
-returns-then-not-is_whole c = search first-cut
-
-pub returns-then-not-is_whole-2 : goal.returns-then-not-is_whole-2
-returns-then-not-is_whole-2 c = search second-cut
-
-pub returns-then-not-mark_fits : goal.returns-then-not-mark_fits
-returns-then-not-mark_fits c = search unmarked
+pub returns-else-mark_fits : goal.returns-else-mark_fits
+returns-else-mark_fits c = c.if-mark_fits.false ∙ last (goal.at.returns-else-mark_fits c).Joined-is_whole-2 c.if-mark_fits.false

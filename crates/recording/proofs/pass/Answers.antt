@@ -8,11 +8,11 @@ loop-n-init c = search going_start
 pub returns-then-e-eq0 : goal.returns-then-e-eq0
 returns-then-e-eq0 c = search going-short
 
-pub record_fits-fits-requires : goal.record_fits-fits-requires
-record_fits-fits-requires c = search record-at
+pub record_fits-requires : goal.record_fits-requires
+record_fits-requires c = search record-at
 
-pub returns-then-not-fits : goal.returns-then-not-fits
-returns-then-not-fits c = search going-broken
+pub returns-then-not-record_fits : goal.returns-then-not-record_fits
+returns-then-not-record_fits c = search going-broken
 
 pub loop-n-preserved : goal.loop-n-preserved
 loop-n-preserved c = search going_step

@@ -8,7 +8,7 @@ use Rattle.resolver.proofs.clock.Goals as goal
 
 pub returns-then-not-sound : goal.returns-then-not-sound
 unfolding refused_reply results
-returns-then-not-sound c = rw c.refused.ensures (unsound-call c.sound.ensures _ refl c.if-not-sound.true-raw)
+returns-then-not-sound c = unsound-call c.sound.ensures _ refl c.if-not-sound.true-raw
 
 pub clock_step-requires : goal.clock_step-requires
 clock_step-requires c = sound-table c.sound.ensures c.if-not-sound.false-raw

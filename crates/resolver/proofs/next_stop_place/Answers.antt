@@ -7,7 +7,7 @@ use Rattle.resolver.proofs.next_stop_place.Goals as goal
 
 pub returns-then-not-sound : goal.returns-then-not-sound
 returns-then-not-sound c =
-    rw c.refused.ensures (refused-stop _ _ _ 1 (λ z. omega arith) (unsound-call c.sound.ensures _ refl c.if-not-sound.true-raw))
+    refused-stop _ _ _ 1 (λ z. omega arith) (unsound-call c.sound.ensures _ refl c.if-not-sound.true-raw)
 
 pub next_stop_step-requires : goal.next_stop_step-requires
 next_stop_step-requires c = sound-table c.sound.ensures c.if-not-sound.false-raw

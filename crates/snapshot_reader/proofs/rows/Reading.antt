@@ -21,8 +21,7 @@ use Rattle.table_view.proofs.KeptLists.{bytes-live}
 use Rattle.call_enter.proofs.Places.{list-fits}
 use Rattle.table_view.proofs.MemberRows.{below-from}
 use Rattle.snapshot_rows.specs.declared.Section.TheVariants.{Exporters, Objects, Sets}
-use Rattle.snapshot_reader.specs.declared.rows.Found.{Found}
-use Rattle.snapshot_reader.specs.ReadRows.{with_row, after_row, in_order, fits, members_in, MembersFound}
+use Rattle.snapshot_reader.specs.ReadRows.{with_row, after_row, in_order, fits, members_in}
 use Rattle.snapshot_reader.proofs.rows.RowFields.{drop-within, part-within, set-row}
 use Rattle.snapshot_reader.proofs.rows.SectionFits.{exporter-fits, set-fits}
 
@@ -75,12 +74,11 @@ module _ (ws s t : List ℕ) (h : fits Sets (view (memory ws t)) ≡ true) (n : 
   set_full b = sym (holding-fails _ _ (set-fits (read_set s).value (view (memory ws t)) h) (rw counted-sets (le-ltb n set_places b)))
 
   -- a place: the members decide
-  pub set-judged : n < set_places → (r : Found) (k : ℕ) → k ≡ field s 18 2 → MembersFound (oids_of ws) (members_in s k) r → fits Sets (with_row Sets s (view (memory ws t))) ≡ r.all
-  set-judged b r k f m =
+  pub set-judged : n < set_places → (k : ℕ) → k ≡ field s 18 2 → fits Sets (with_row Sets s (view (memory ws t))) ≡ in_order (oids_of ws) (members_in s k)
+  set-judged b k f =
       sym (holding-last _ (holding-passes _ _ (set-fits (read_set s).value (view (memory ws t)) h) (rw counted-sets (lt-ltb n set_places b))))
       ∙ ap (λ (x : Front PingSet). in_order (oids_of ws) x.value.members) (set-row s)
       ∙ ap (λ (i : ℕ). in_order (oids_of ws) (members_in s i)) (sym f)
-      ∙ sym m.all
 
 module _ (s : List ℕ) (k : ℕ) (f : k ≡ field s 18 2) where
   pub set_entered : (number q p : ℕ) (ms : List ℕ) → number ≡ field s 0 8 → q ≡ field s 8 2 → p ≡ field s 10 8 → ms ≡ members_in s k

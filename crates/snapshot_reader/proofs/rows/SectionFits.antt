@@ -1,5 +1,5 @@
 -- Which entries fit a section: of one row more, and of the sections of a snapshot.
-use Prim.Native.Nat.{ℕ, zero, suc, ◌≤◌}
+use Prim.Native.Nat.{ℕ, zero, suc}
 use mathlib.Core.Path.{◌≡◌, sym, ap, ◌∙◌}
 use mathlib.Core.Bool.{Bool, true, false, ◌&&◌}
 use mathlib.Core.List.{List, [], ◌∷◌, ◌++◌}
@@ -7,7 +7,7 @@ use mathlib.Core.Logic.{⊎_elim}
 use native.Mathlib.Omega.{arith}
 use borrow.Author.Tests.{eqb-true, eq-eqb, leb-true, le-leb, ltb-true, lt-ltb}
 use lib.Dec.{eqb, ltb, leb}
-use lib.ListN.{length, drop, length-append}
+use lib.ListN.{length, length-append}
 use Rattle.kinds.specs.Refusals.{order}
 use Rattle.kinds.proofs.Refusing.{true-false, same_test}
 use Rattle.bindings.specs.Bindings.{list_answer}
@@ -24,8 +24,7 @@ use Rattle.call_enter.proofs.Places.{list-fits, fits-list}
 use Rattle.table_edit.specs.Edits.{add_exporter, add_object, add_interface, add_set}
 use Rattle.snapshot_rows.specs.declared.Section.{Section}
 use Rattle.snapshot_rows.specs.declared.Section.TheVariants.{Exporters, Objects, Interfaces, Sets}
-use Rattle.snapshot_reader.specs.declared.rows.Row.{Row}
-use Rattle.snapshot_reader.specs.ReadRows.{with_row, after_row, with_rows, in_order, fits, RowRead}
+use Rattle.snapshot_reader.specs.ReadRows.{with_row, after_row, with_rows, in_order, fits}
 
 -- ---- one row more
 
@@ -133,21 +132,3 @@ rows-unfit k zero s e h = h
 rows-unfit k (suc n) s e h =
     rows-unfit k n (after_row k s) (with_row k s e)
     (⊎_elim (λ t. absurd (true-false (sym (row-less k s e t) ∙ h))) (λ (f : fits k (with_row k s e) ≡ false). f) (true-or-false (fits k (with_row k s e))))
-
--- ---- what a row's reader answers
-
-module _ (k : Section) (s : List ℕ) (e : Entries) where
-  -- a row that does not fit
-  pub row-refused : (r : Row) → (r.read ≡ false) × (r.length ≡ 0) → fits k (with_row k s e) ≡ false → RowRead k s e r e
-  row-refused r z h =
-      let l = z.1 in
-      record {
-        read = z.0 ∙ sym h;
-        entries = λ t. absurd (true-false (sym t ∙ z.0));
-        rest = λ t. absurd (true-false (sym t ∙ z.0));
-        inside = omega arith;
-      }
-
-  -- one that does, of n bytes
-  pub row_read : (n : ℕ) (e' : Entries) → fits k (with_row k s e) ≡ true → e' ≡ with_row k s e → drop n s ≡ after_row k s → n ≤ length s → RowRead k s e (record { read = true; length = n }) e'
-  row_read n e' h v d l = record { read = sym h; entries = λ t. v; rest = λ t. d; inside = l }

@@ -11,15 +11,15 @@ use lib.Dec.{eqb, ltb}
 use lib.ListN.{length, get_or, take, drop, length-drop, drop_of_length-le}
 use lib.Seq.{drop-cons, take-suc, take_all}
 use Rattle.fields.specs.Fields.{field}
-use Rattle.kinds.proofs.Refusing.{true-false, same_test, by-test}
+use Rattle.kinds.proofs.Refusing.{true-false, by-test}
 use Rattle.lists.specs.Lists.{keep, tabulate}
 use Rattle.lists.proofs.Tests.{true-or-false, below_or_not, and_left, and_right}
 use Rattle.lists.proofs.Lists.{keep-ext-on, every-tabulate, map-append, length-tabulate, get_d_tabulate}
-use Rattle.table_columns.specs.Members.{has_member, InWords, MemberPut}
+use Rattle.table_columns.specs.Members.{has_member, member_rows, InWords, MemberPut}
 use Rattle.table_columns.specs.declared.members.Members.{Members}
 use Rattle.table_columns.proofs.members.Bits.{keep-next, below_holds, members-below}
 use Rattle.table_columns.proofs.members.Making.{zero-member}
-use Rattle.snapshot_reader.specs.ReadRows.{passed, in_order, members_in, MembersFound}
+use Rattle.snapshot_reader.specs.ReadRows.{passed, in_order, members_in}
 
 -- ---- members in the order of the objects
 
@@ -136,22 +136,25 @@ module _ (ids ms : List ℕ) (j k : ℕ) (m m' : Members) (member : Bool) (few :
       }
 
 -- the end of the walk
-pub walk-ended : (ids ms : List ℕ) (n k : ℕ) (m : Members) → n ≡ length ids → n ≤ 128 → Walked ids ms n k m → MembersFound ids ms (record { all = eqb k (length ms); members = m })
-unfolding in_order
-walk-ended ids ms n k m e b w =
-    let p = w.place in
-    let d = length-drop k ms in
-    let left : eqb (length (drop k ms)) 0 ≡ in_order ids ms = ap (λ (l : List ℕ). in_order l (drop k ms)) (sym (drop_of_length-le ids {i = n} (omega arith))) ∙ w.order in
-    record {
-      all =
-          same_test (eqb k (length ms)) (eqb (length (drop k ms)) 0)
-          (λ t. let z = eqb-true k (length ms) t in eq-eqb (length (drop k ms)) 0 (omega arith))
-          (λ t. let z = eqb-true (length (drop k ms)) 0 t in eq-eqb k (length ms) (omega arith))
-          ∙ left;
-      members = λ t.
-          let z = eqb-true k (length ms) t in
-          ap (map (λ i. get_or ids i 0)) (members-below n m (below_holds n m w.none) b) ∙ w.values ∙ take_all k ms (omega arith);
-    }
+module _ (ids ms : List ℕ) (n k : ℕ) (m : Members) (e : n ≡ length ids) (b : n ≤ 128) (w : Walked ids ms n k m) where
+  walk_left : eqb (length (drop k ms)) 0 ≡ in_order ids ms
+  unfolding in_order
+  walk_left = ap (λ (l : List ℕ). in_order l (drop k ms)) (sym (drop_of_length-le ids {i = n} (omega arith))) ∙ w.order
+
+  -- all were found
+  pub walk-found : k ≡ length ms → (in_order ids ms ≡ true) × (map (λ i. get_or ids i 0) (member_rows m) ≡ ms)
+  walk-found z =
+      let d = length-drop k ms in (
+        sym walk_left ∙ eq-eqb (length (drop k ms)) 0 (omega arith),
+        ap (map (λ i. get_or ids i 0)) (members-below n m (below_holds n m w.none) b) ∙ w.values ∙ take_all k ms (omega arith),
+      )
+
+  -- or not
+  pub walk-missed : (k ≡ length ms → ⊥) → in_order ids ms ≡ false
+  walk-missed z =
+      let d = length-drop k ms in
+      let p = w.place in
+      sym walk_left ∙ ne_eqb (length (drop k ms)) 0 (omega arith)
 
 -- ---- the members in a row's bytes
 

@@ -1,12 +1,13 @@
 -- The four sections, read one after the other into a table without entries, are the entries of the bytes; those of a snapshot fit.
 use Prim.Native.Nat.{ℕ, ◌≤◌, min}
 use mathlib.Core.Path.{◌≡◌, refl, sym, ap, subst, ◌∙◌}
-use mathlib.Core.Bool.{true, false, not}
+use mathlib.Core.Bool.{true, false}
 use mathlib.Core.List.{List, [], ◌∷◌, map}
 use native.Mathlib.Omega.{arith}
-use borrow.Author.Tests.{not-true}
 use lib.ListN.{length, get_or, drop}
 use lib.Seq.{drop-drop}
+use Rattle.std.specs.Prelude.{Option, Some, None, is_some}
+use Rattle.kinds.proofs.Refusing.{true-false}
 use Rattle.fields.specs.Fields.{field}
 use Rattle.fields.proofs.Fields.{field-drop}
 use Rattle.lists.specs.Lists.{every, keep, among}
@@ -18,9 +19,8 @@ use Rattle.rules.proofs.SoundLaws.{sound-fields, clause-at, none, ◌and◌}
 use Rattle.rules.proofs.Swapping.{Snapshot, snapshot-fields, loads-ordered}
 use Rattle.snapshot_rows.specs.declared.Section.{Section}
 use Rattle.snapshot_rows.specs.declared.Section.TheVariants.{Exporters, Objects, Interfaces, Sets}
-use Rattle.snapshot_reader.specs.declared.sections.Place.{Place}
 use Rattle.snapshot_reader.specs.ReadRows.{Left, with_section, in_order, fits}
-use Rattle.snapshot_reader.specs.ReadSections.{begun, SectionRead, TableRead}
+use Rattle.snapshot_reader.specs.ReadSections.{begun, ReadsSection, SectionRead, TableRead}
 use Rattle.snapshot_reader.proofs.rows.RowFields.{drop-within}
 use Rattle.snapshot_reader.proofs.rows.Walk.{kept-in-order}
 use Rattle.snapshot_reader.proofs.sections.Refused.{no-snapshot, table-refused}
@@ -166,18 +166,32 @@ pub record Reached (s : List ℕ) (l : Left) (e : Entries) (at : ℕ) : Type 0 w
 pub reached-begun : (s : List ℕ) (e : Entries) (at : ℕ) → e ≡ begun s → at ≡ min 18 (length s) → Reached s (left0 s) e at
 reached-begun s e at b a = record { entries = b; rest = rw a (drop-within s 18); inside = omega arith }
 
-module _ (k : Section) {s : List ℕ} {l l' : Left} {e e' : Entries} {at : ℕ} {r : Place} (q : Reached s l e at) (h : SectionRead k s at e r e') (n : with_section k l.rest l.entries ≡ l') where
+module _ (k : Section) {s : List ℕ} {l l' : Left} {e : Entries} {at : ℕ} (q : Reached s l e at) (n : with_section k l.rest l.entries ≡ l') where
   as-left : with_section k (drop at s) e ≡ l'
   as-left = (λ u. with_section k (q.rest u) (q.entries u)) ∙ n
 
   -- a section is read
-  pub reached-next : r.read ≡ true → Reached s l' e' r.at
-  reached-next t = record { entries = h.entries t ∙ ap (λ (x : Left). x.entries) as-left; rest = h.rest t ∙ ap (λ (x : Left). x.rest) as-left; inside = h.inside }
+  pub reached-next : {e' : Entries} {to : ℕ} → ReadsSection k s at e to e' → Reached s l' e' to
+  reached-next h = record { entries = h.entries ∙ ap (λ (x : Left). x.entries) as-left; rest = h.rest ∙ ap (λ (x : Left). x.rest) as-left; inside = h.inside }
 
-  -- one that is not has entries that do not fit
-  pub reached-read : r.read ≡ fits k l'.entries
-  reached-read = h.read ∙ ap (λ (x : Left). fits k x.entries) as-left
+  -- bytes whose section does not fit, where that of a snapshot does, are no snapshot
+  pub reached-refused : (is_snapshot s ≡ true → fits k l'.entries ≡ true) → fits k (with_section k (drop at s) e).entries ≡ false → (x : Entries) → TableRead s false x
+  reached-refused f h x = table-refused s x (no-snapshot s _ _ (ap (λ (y : Left). fits k y.entries) as-left) f h)
 
-  -- bytes whose section is not read, where that of a snapshot fits, are no snapshot
-  pub reached-refused : (is_snapshot s ≡ true → fits k l'.entries ≡ true) → not r.read ≡ true → (x : Entries) → TableRead s false x
-  reached-refused f t x = table-refused s x (no-snapshot s _ _ reached-read f (not-true _ t))
+-- ---- section by section
+
+module _ {s : List ℕ} {e₀ e₁ : Entries} {at a : ℕ} (b : e₀ ≡ begun s) (p : at ≡ min 18 (length s)) (x : ReadsSection Exporters s at e₀ a e₁) where
+  pub exporters-reached : Reached s (left1 s) e₁ a
+  exporters-reached = reached-next Exporters (reached-begun s e₀ at b p) (exporters-section s) x
+
+  module _ {e₂ : Entries} {b₂ : ℕ} (o : ReadsSection Objects s a e₁ b₂ e₂) where
+    pub objects-reached : Reached s (left2 s) e₂ b₂
+    objects-reached = reached-next Objects exporters-reached (objects-section s) o
+
+    pub interfaces-reached : {e₃ : Entries} {b₃ : ℕ} → ReadsSection Interfaces s b₂ e₂ b₃ e₃ → Reached s (left3 s) e₃ b₃
+    interfaces-reached i = reached-next Interfaces objects-reached (interfaces-section s) i
+
+-- the sets are the last
+pub sets-read : {s : List ℕ} {e e' : Entries} {at : ℕ} (r : Option ℕ) → Reached s (left3 s) e at → field s 0 2 ≡ 2 → SectionRead Sets s at e r e' → TableRead s (is_some r) e'
+sets-read {s} None q c h = reached-refused Sets q (sets-section s) (sets-fit s c) h _
+sets-read {s} (Some to) q c h = record { entries = λ t. (reached-next Sets q (sets-section s) h).entries ∙ entries-read s c; refused = λ f. absurd (true-false f) }

@@ -7,15 +7,13 @@ use native.Mathlib.Omega.{arith}
 use native.Mathlib.Nat.{add-zero}
 use lib.ListN.{length, drop, length-drop}
 use lib.Seq.{drop-drop}
-use Rattle.kinds.proofs.Refusing.{true-false}
 use Rattle.fields.specs.Fields.{field}
 use Rattle.fields.proofs.Fields.{field-drop}
 use Rattle.rules.specs.Entries.{Entries}
 use Rattle.rules.specs.Snapshot.{Front, read_row}
 use Rattle.snapshot_rows.specs.declared.Section.{Section}
-use Rattle.snapshot_reader.specs.declared.rows.Row.{Row}
-use Rattle.snapshot_reader.specs.ReadRows.{with_row, after_row, Left, with_rows, with_section, fits, RowRead}
-use Rattle.snapshot_reader.specs.ReadSections.{SectionRead}
+use Rattle.snapshot_reader.specs.ReadRows.{with_row, after_row, Left, with_rows, with_section, fits, ReadsRow}
+use Rattle.snapshot_reader.specs.ReadSections.{ReadsSection}
 use Rattle.snapshot_reader.proofs.rows.RowFields.{drop-within}
 use Rattle.snapshot_reader.proofs.rows.SectionFits.{rows-unfit}
 
@@ -41,7 +39,7 @@ pub record RowsLeft (k : Section) (s : List ℕ) (n i at : ℕ) (e : Entries) (a
   pub fit : fits k e ≡ true
   pub rest : with_rows k (n - i) (drop at s) e ≡ all
 
-module _ {k : Section} {s : List ℕ} {n i at : ℕ} {e e' : Entries} {all : Left} {r : Row} (w : RowsLeft k s n i at e all) (b : i < n) (h : RowRead k (drop at s) e r e') where
+module _ {k : Section} {s : List ℕ} {n i at : ℕ} {e : Entries} {all : Left} (w : RowsLeft k s n i at e all) (b : i < n) where
   -- one row off
   one-off : with_rows k (n - i) (drop at s) e ≡ with_rows k (n - (i + 1)) (after_row k (drop at s)) (with_row k (drop at s) e)
   unfolding with_rows
@@ -50,24 +48,24 @@ module _ {k : Section} {s : List ℕ} {n i at : ℕ} {e e' : Entries} {all : Lef
       rw m
 
   -- a row is read
-  pub row-off : r.read ≡ true → RowsLeft k s n (i + 1) (at + r.length) e' all
-  row-off t =
+  pub row-off : {m : ℕ} {e' : Entries} → ReadsRow k (drop at s) e m e' → RowsLeft k s n (i + 1) (at + m) e' all
+  row-off {m} h =
       let l = length-drop at s in
       let p = h.inside in
       let q = w.inside in
-      let d : drop (at + r.length) s ≡ after_row k (drop at s) = sym (drop-drop r.length at s) ∙ h.rest t in
+      let d : drop (at + m) s ≡ after_row k (drop at s) = sym (drop-drop m at s) ∙ h.rest in
       record {
         count = omega arith;
         inside = omega arith;
-        fit = ap (fits k) (h.entries t) ∙ sym h.read ∙ t;
-        rest = rw (d, h.entries t) (sym one-off ∙ w.rest);
+        fit = ap (fits k) h.entries ∙ h.fit;
+        rest = rw (d, h.entries) (sym one-off ∙ w.rest);
       }
 
   -- a row that does not fit ends it
-  pub row-stops : r.read ≡ false → fits k all.entries ≡ false
-  row-stops t =
+  pub row-stops : fits k (with_row k (drop at s) e) ≡ false → fits k all.entries ≡ false
+  row-stops f =
       ap (λ (x : Left). fits k x.entries) (sym w.rest ∙ one-off)
-      ∙ rows-unfit k (n - (i + 1)) (after_row k (drop at s)) (with_row k (drop at s) e) (sym h.read ∙ t)
+      ∙ rows-unfit k (n - (i + 1)) (after_row k (drop at s)) (with_row k (drop at s) e) f
 
 module _ (k : Section) (s : List ℕ) where
   -- before the first row
@@ -78,20 +76,15 @@ module _ (k : Section) (s : List ℕ) where
       let m : field (drop at s) 0 2 ≡ n = field-drop s at 0 2 (omega arith) ∙ rw (add-zero at) (sym c) in
       record { count = omega arith; inside = omega arith; fit = f; rest = rw (z, d, m) }
 
-  module _ (at₀ : ℕ) (e₀ : Entries) where
-    -- after the last
-    pub rows-ended : (n i at : ℕ) (e : Entries) → RowsLeft k s n i at e (with_section k (drop at₀ s) e₀) → n ≤ i → SectionRead k s at₀ e₀ (record { read = true; at = at }) e
-    unfolding with_rows
-    rows-ended n i at e w b =
-        let z : n - i ≡ 0 = omega arith in
-        let all = rw z at w.rest in
-        record {
-          read = sym (ap (λ (x : Left). fits k x.entries) (sym all) ∙ w.fit);
-          entries = λ t. ap (λ (x : Left). x.entries) all;
-          rest = λ t. ap (λ (x : Left). x.rest) all;
-          inside = w.inside;
-        }
-
-    -- at a row that does not fit
-    pub rows-stopped : (at : ℕ) (e : Entries) → at ≤ length s → fits k (with_section k (drop at₀ s) e₀).entries ≡ false → SectionRead k s at₀ e₀ (record { read = false; at = at }) e
-    rows-stopped at e b f = record { read = sym f; entries = λ t. absurd (true-false (sym t)); rest = λ t. absurd (true-false (sym t)); inside = b }
+  -- after the last
+  pub rows-ended : (at₀ : ℕ) (e₀ : Entries) (n i at : ℕ) (e : Entries) → RowsLeft k s n i at e (with_section k (drop at₀ s) e₀) → n ≤ i → ReadsSection k s at₀ e₀ at e
+  unfolding with_rows
+  rows-ended at₀ e₀ n i at e w b =
+      let z : n - i ≡ 0 = omega arith in
+      let all = rw z at w.rest in
+      record {
+        fit = sym (ap (λ (x : Left). fits k x.entries) all) ∙ w.fit;
+        entries = ap (λ (x : Left). x.entries) all;
+        rest = ap (λ (x : Left). x.rest) all;
+        inside = w.inside;
+      }

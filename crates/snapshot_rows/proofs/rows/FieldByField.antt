@@ -9,6 +9,7 @@ use borrow.Author.Tests.{leb-true}
 use lib.Dec.{eqb, leb}
 use lib.ListN.{length, get_or, drop, set}
 use lib.Seq.{set_split}
+use Rattle.std.specs.Int.{from_bool}
 use Rattle.kinds.specs.declared.Guid.{Guid}
 use Rattle.fields.specs.Fields.{encode, guid_bytes, written}
 use Rattle.fields.proofs.Fields.{length-encode, length-guid, written_in_lem, written_none}
@@ -49,10 +50,10 @@ module _ {b b' : List ℕ} {at at' : ℕ} where
   wrote-bytes {x} {y} p e q = record { held = e ∙ ap (written b at) p; ends = q ∙ ap (λ (l : List ℕ). at + length l) p }
 
 -- a byte that is 1 or 0
-pub flag-put : (b : List ℕ) (at : ℕ) (f : Bool) → at < length b → set b at (cond f 1 0) ≡ written b at (encode 1 (cond f 1 0))
+pub flag-put : (b : List ℕ) (at : ℕ) (f : Bool) {r : ℕ} → r ≡ from_bool f → at < length b → set b at r ≡ written b at (encode 1 (cond f 1 0))
 unfolding encode
-flag-put b at true h = set_split b at 1 h ∙ sym (written_in_lem b at (1 ∷ []) (omega arith) ∙ rw (add-one at))
-flag-put b at false h = set_split b at 0 h ∙ sym (written_in_lem b at (0 ∷ []) (omega arith) ∙ rw (add-one at))
+flag-put b at true e h = rw e (set_split b at 1 h ∙ sym (written_in_lem b at (1 ∷ []) (omega arith) ∙ rw (add-one at)))
+flag-put b at false e h = rw e (set_split b at 0 h ∙ sym (written_in_lem b at (0 ∷ []) (omega arith) ∙ rw (add-one at)))
 
 -- ---- entries
 

@@ -1,21 +1,12 @@
--- `table_columns::all_at_most`: what is left from i on passes where the whole column does.
-use Rattle.std.proofs.Common.{refl, rules, le-leb}
-use borrow.Author.Tests.{lt-leb}
-use Rattle.table_columns.proofs.Loops.{column-step, column-end, every-passes, every-fails, every-end}
+-- `table_columns::all_at_most`: the chain's answer, as lists say it.
+use Rattle.std.proofs.Common.{leb, ◌∙◌, rules, tests}
+use Rattle.std.proofs.lemmas.Iterator.{YieldsList-from_slice}
+use Rattle.std.proofs.lemmas.Iterator.Search.{all_from_yields_List}
+use Rattle.table_columns.proofs.Chains.{list_all-every}
 use Rattle.table_columns.proofs.all_at_most.Goals as goal
 
-pub returns-then-col-i : goal.returns-then-col-i
-returns-then-col-i c =
-    let l = c.loop-i in
-    every-fails (column-step _ 0 l.i (search rules)) _ l.invariant (lt-leb _ _ c.if-col-i.true)
-
-pub loop-i-preserved : goal.loop-i-preserved
-loop-i-preserved c =
-    let l = c.loop-i in
-    every-passes (column-step _ 0 l.i (search rules)) _ l.invariant (le-leb _ _ c.if-col-i.false)
-
-pub loop-i-init : goal.loop-i-init
-loop-i-init c = refl
-
 pub returns : goal.returns
-returns c = let l = c.loop-i in every-end (column-end _ l.i (search rules)) _ l.invariant
+returns c =
+    let v = c.args in
+    all_from_yields_List (λ x. leb x v.limit) _ _ _ c.all.ensures.ran (YieldsList-from_slice v.col.now cc) (λ x b q k. search (rules, tests))
+    ∙ list_all-every (λ x. leb x v.limit) v.col.now

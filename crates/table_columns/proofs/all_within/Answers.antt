@@ -1,20 +1,13 @@
--- `table_columns::all_within`: what is left from i on passes where the whole column does.
-use Rattle.std.proofs.Common.{sym, refl, ◌∙◌, rules}
-use Rattle.table_columns.proofs.Loops.{column-step, column-end, every-passes, every-fails, every-end}
+-- `table_columns::all_within`: the chain's answer, as lists say it.
+use Rattle.std.proofs.Common.{ℕ, ◌-◌, Bool, not, leb, ◌∙◌, rules, tests}
+use Rattle.std.proofs.lemmas.Iterator.{YieldsList-from_slice}
+use Rattle.std.proofs.lemmas.Iterator.Search.{all_from_yields_List}
+use Rattle.table_columns.proofs.Chains.{list_all-every}
 use Rattle.table_columns.proofs.all_within.Goals as goal
 
-pub returns-then-not-is_within : goal.returns-then-not-is_within
-returns-then-not-is_within c =
-    let l = c.loop-i in
-    every-fails (column-step _ 0 l.i (search rules)) _ l.invariant (sym c.is_within.ensures ∙ c.if-not-is_within.true)
-
-pub loop-i-preserved : goal.loop-i-preserved
-loop-i-preserved c =
-    let l = c.loop-i in
-    every-passes (column-step _ 0 l.i (search rules)) _ l.invariant (sym c.is_within.ensures ∙ c.if-not-is_within.false)
-
-pub loop-i-init : goal.loop-i-init
-loop-i-init c = refl
-
 pub returns : goal.returns
-returns c = let l = c.loop-i in every-end (column-end _ l.i (search rules)) _ l.invariant
+returns c =
+    let v = c.args in
+    let test : ℕ → Bool = λ t. not (leb v.limit (v.clock - t)) in
+    all_from_yields_List test _ _ _ c.all.ensures.ran (YieldsList-from_slice v.col.now cc) (λ x b q k. search (rules, tests))
+    ∙ list_all-every test v.col.now

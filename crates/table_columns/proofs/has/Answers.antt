@@ -1,7 +1,7 @@
--- `table_columns::has`: the first index of x is below the length where x is there.
-use Rattle.std.proofs.Common.{ℕ, eqb, ltb, length, ap, ◌∙◌}
-use Rattle.lists.proofs.First.{some_first}
+-- `table_columns::has`: the search's answer, as lists say it.
+use Rattle.std.proofs.Common.{◌∙◌}
+use Rattle.table_columns.proofs.Chains.{any-among}
 use Rattle.table_columns.proofs.has.Goals as goal
 
 pub returns : goal.returns
-returns c = let v = c.args in ap (λ (n : ℕ). ltb n (length v.col.now)) c.index_of.ensures ∙ some_first (eqb v.x) v.col.now
+returns c = let v = c.args in c.contains.ensures.value ∙ any-among v.x v.col.now

@@ -1,17 +1,13 @@
--- `table_columns::index_of`: the first index of x in the column is i more than that in what is left from i on.
-use Rattle.std.proofs.Common.{rules, eq-eqb, ne_eqb}
-use Rattle.table_columns.proofs.Loops.{column-step, column-end, first_found, first-passed, first-end}
+-- `table_columns::index_of`: the chain's answer, as lists say it.
+use Rattle.std.proofs.Common.{eqb, ◌∙◌, rules, tests}
+use Rattle.std.proofs.lemmas.Iterator.{YieldsList-from_slice}
+use Rattle.std.proofs.lemmas.Iterator.Search.{position_from_yields_List}
+use Rattle.table_columns.proofs.Chains.{found-first}
 use Rattle.table_columns.proofs.index_of.Goals as goal
 
-pub returns-then-x-col : goal.returns-then-x-col
-returns-then-x-col c =
-    let l = c.loop-i in
-    first_found (column-step _ 0 l.i (search rules)) l.i _ l.invariant (eq-eqb _ _ c.if-x-col.true)
-
-pub loop-i-preserved : goal.loop-i-preserved
-loop-i-preserved c =
-    let l = c.loop-i in
-    first-passed (column-step _ 0 l.i (search rules)) l.i _ l.invariant (ne_eqb _ _ c.if-x-col.false)
-
 pub returns : goal.returns
-returns c = let l = c.loop-i in first-end (column-end _ l.i (search rules)) l.i _ l.invariant
+returns c =
+    let v = c.args in
+    c.unwrap_or.ensures
+    ∙ found-first (eqb v.x) v.col.now
+    (position_from_yields_List (eqb v.x) _ _ _ c.position.ensures.ran (YieldsList-from_slice v.col.now cc) (λ x b q k. search (rules, tests)))

@@ -1,5 +1,6 @@
 -- What the functions over members make and test.
-use Rattle.std.proofs.Common.{◌≡◌, ℕ, suc, ◌+◌, ◌-◌, ◌*◌, ◌/◌, ◌%◌, ◌^◌, ◌<◌, ◌≤◌, Bool, false, eqb, ltb, sym, ap, ◌∙◌, ⊎_elim, lt_of_le_of_lt, arith, le-ltb, lt-ltb, eq-eqb, ne_eqb}
+use Rattle.std.proofs.Common.{◌≡◌, ℕ, suc, ◌+◌, ◌-◌, ◌*◌, ◌/◌, ◌%◌, ◌^◌, ◌<◌, ◌≤◌, Bool, true, false, eqb, ltb, refl, sym, ap, ◌∙◌, ⊎_elim, lt_of_le_of_lt, arith, le-ltb, lt-ltb, eq-eqb, ne_eqb}
+use Rattle.std.specs.Int.{from_bool}
 use lib.Pow.{high, low, shr_le}
 use Rattle.lists.specs.Lists.{every, skip}
 use Rattle.table_columns.specs.Members.{bit_of, has_member, member_rows, put_bit, cut_bit, InWords, MemberPut, Cut}
@@ -20,6 +21,11 @@ zero-member m e g i =
     (below_or_not i 64)
 
 -- ---- a bit is put
+
+-- the number of a test is 0 or 1
+pub bit-of-test : (t : Bool) {b : ℕ} → b ≡ from_bool t → (b < 2) × (eqb b 1 ≡ t)
+bit-of-test true e = rw e (omega arith, refl)
+bit-of-test false e = rw e (omega arith, refl)
 
 module _ (j b : ℕ) (member : Bool) (is : (b < 2) × (eqb b 1 ≡ member)) (m r : Members) (fits : InWords m) where
   -- row j is put, and the other rows are as they were

@@ -1,5 +1,7 @@
 -- What the loops over the columns of a kind keep.
-use Rattle.std.proofs.Common.{◌≡◌, ℕ, suc, ◌+◌, ◌-◌, ◌*◌, ◌<◌, ◌≤◌, ◌⊎◌, List, ◌++◌, length, get_or, take, drop, set, sym, refl, ap, ◌∙◌, inl, inr, ⊎_elim, suc-mul, add-one, arith, length-drop, length-set, length-take-le, get_or-drop, get_or-set_other, get_or-take, get_or-set_same, get_or-append-add, ext_get_or}
+use Rattle.std.proofs.Common.{◌≡◌, ℕ, suc, ◌+◌, ◌-◌, ◌*◌, ◌<◌, ◌≤◌, ◌⊎◌, List, ◌++◌, length, get_or, take, drop, set, sym}
+use Rattle.std.proofs.Common.{ap, ◌∙◌, inl, inr, ⊎_elim, suc-mul, add-one, arith}
+use Rattle.std.proofs.Common.{length-drop, length-set, length-take-le, get_or-drop, get_or-set_other, get_or-take, get_or-set_same, get_or-append-add, ext_get_or}
 use borrow.Rule.Slice.PartMut.{put_mid, same_len_mid}
 use lib.ListN.{get_or-append}
 use Rattle.lists.specs.Lists.{skip}
@@ -28,10 +30,6 @@ pub record PutTo (k : Kind) (i : ℕ) (row ws₀ ws : List ℕ) (j : ℕ) : Type
   pub kept : (x : ℕ) → ((c : ℕ) → c < j → x ≡ cell k c i → ⊥) → get_or ws x 0 ≡ get_or ws₀ x 0
 
 module _ (k : Kind) (i : ℕ) (row ws₀ : List ℕ) (b : i < k.places) where
-  -- no word is written
-  pub put-none : PutTo k i row ws₀ ws₀ 0
-  put-none = record { size = refl; put = λ c h. absurd (omega arith); kept = λ x h. refl }
-
   -- one more word is written
   pub put_one : (ws : List ℕ) (j at : ℕ) → PutTo k i row ws₀ ws j → at ≡ k.base + j * k.places → at + i < length ws
       → PutTo k i row ws₀ (set ws (at + i) (get_or row j 0)) (j + 1)
@@ -105,10 +103,6 @@ pub record RemovedTo (k : Kind) (n i : ℕ) (ws₀ ws : List ℕ) (j : ℕ) : Ty
   pub kept : (x : ℕ) → (x < k.base) ⊎ (k.base + j * k.places ≤ x) → get_or ws x 0 ≡ get_or ws₀ x 0
 
 module _ (k : Kind) (n i : ℕ) (ws₀ : List ℕ) (b : n ≤ k.places) where
-  -- no column is changed
-  pub removed-none : RemovedTo k n i ws₀ ws₀ 0
-  removed-none = record { size = refl; moved = λ c y h. absurd (omega arith); kept = λ x h. refl }
-
   module _ (ws ys : List ℕ) (j at : ℕ) (p : RemovedTo k n i ws₀ ws j) (e : at ≡ k.base + j * k.places) (f : at + n ≤ length ws)
       (r : ys ≡ removed_at i (take n (drop at ws))) where
     -- there are n words

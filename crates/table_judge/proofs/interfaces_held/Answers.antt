@@ -1,32 +1,15 @@
--- `table_judge::interfaces_held`: the rows from i on pass where all rows do.
-use mathlib.Core.Path.{refl, ◌∙◌}
-use native.Mathlib.Omega.{arith}
-use borrow.Author.Rules.{rules}
-use Rattle.table_view.proofs.Checks.{check-passes, check-fails, checks-done}
-use Rattle.table_judge.proofs.LiveChecks.{held_rows}
+-- `table_judge::interfaces_held`: the chain tests each row.
+use Rattle.std.proofs.Common.{refl, ◌∙◌, arith, rules, tests}
+use Rattle.std.proofs.lemmas.Iterator.{YieldsList-from_range}
+use Rattle.std.proofs.lemmas.Iterator.Search.{all_from_yields_List}
+use Rattle.table_columns.proofs.Chains.{all-table}
+use Rattle.table_judge.proofs.LiveChecks.{held_row, held_rows}
 use Rattle.table_judge.proofs.interfaces_held.Goals as goal
 
-pub loop-i-init : goal.loop-i-init
-loop-i-init c = let e = c.interface_count-n.ensures.0 in (omega arith, refl)
-
-pub is_held-requires : goal.is_held-requires
-is_held-requires c = let l = c.loop-i.invariant.0 in (search rules, omega arith)
-
-pub returns-then-not-is_held : goal.returns-then-not-is_held
-returns-then-not-is_held c =
-    let l = c.loop-i in
-    λ s.
-    check-fails _ _ l.i l.invariant.1 (search rules) c.is_held.ensures c.if-not-is_held.true-raw
-    ∙ held_rows c.args.words.now s _ c.interface_count-n.ensures.0
-
-pub loop-i-preserved : goal.loop-i-preserved
-loop-i-preserved c =
-    let l = c.loop-i in
-    (l.invariant.0, check-passes _ _ l.i l.invariant.1 (search rules) c.is_held.ensures c.if-not-is_held.false-raw)
-
 pub returns : goal.returns
-returns c =
-    let l = c.loop-i in
-    λ s.
-    checks-done _ _ l.i l.invariant.1 (search rules)
-    ∙ held_rows c.args.words.now s _ c.interface_count-n.ensures.0
+returns c s =
+    let ws = c.args.words.now in
+    let n = c.interface_count-n.result in
+    let test = held_row ws in
+    all_from_yields_List test _ _ _ c.all.ensures.ran (YieldsList-from_range 0 n n refl (omega arith)) (λ x b q k. search (rules, tests))
+    ∙ all-table test (λ i. i) n 0 n (omega arith) ∙ held_rows ws s n c.interface_count-n.ensures.0

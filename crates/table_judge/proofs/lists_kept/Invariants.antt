@@ -1,4 +1,4 @@
-use Prim.Native.Nat.{◌≤◌, ◌-◌}
+use Prim.Native.Nat.{◌≤◌}
 use mathlib.Core.Path.{◌≡◌}
 use lib.ListN.{length}
 use Rattle.rules.specs.Entries.{exporter_places}
@@ -8,7 +8,4 @@ use Rattle.table_view.proofs.KeptLists.{kept_row}
 use Rattle.table_judge.proofs.lists_kept.Given as goal
 
 abbrev pub invariant-loop-k : goal.invariant-loop-k
-invariant-loop-k l = (l.n ≤ exporter_places) × (every_row l.n (kept_row l.store) ≡ every_from l.k l.n (kept_row l.store)) × (l.at ≡ list_start l.store l.k) × (l.at ≤ length l.store)
-
-abbrev pub decreases-loop-k : goal.decreases-loop-k
-decreases-loop-k l = l.n - l.k
+invariant-loop-k l = (l.n ≤ exporter_places) × (every_row l.n (kept_row l.store) ≡ every_from l._k l.n (kept_row l.store)) × (l.at ≡ list_start l.store l._k) × (l.at ≤ length l.store)

@@ -1,33 +1,16 @@
--- `table_judge::members_live`: the rows from i on pass where all rows do.
-use mathlib.Core.Path.{refl, ◌∙◌}
-use borrow.Author.Rules.{rules}
+-- `table_judge::members_live`: the chain tests each row.
+use Rattle.std.proofs.Common.{refl, ◌∙◌, arith, rules, tests}
+use Rattle.std.proofs.lemmas.Iterator.{YieldsList-from_range}
+use Rattle.std.proofs.lemmas.Iterator.Search.{all_from_yields_List}
+use Rattle.table_columns.proofs.Chains.{all-table}
 use Rattle.lists.proofs.Tests.{and_left}
-use Rattle.table_view.proofs.Checks.{check-passes, check-fails, checks-done}
-use Rattle.table_judge.proofs.LiveChecks.{members-rows}
-use native.Mathlib.Omega.{arith}
+use Rattle.table_judge.proofs.LiveChecks.{below_row, members-rows}
 use Rattle.table_judge.proofs.members_live.Goals as goal
 
-pub returns-then-not-below : goal.returns-then-not-below
-returns-then-not-below c =
-    let l = c.loop-i in
-    λ s.
-    check-fails _ _ l.i l.invariant.1 (search rules) (rw c.members.ensures at c.below.ensures) c.if-not-below.true-raw
-    ∙ members-rows c.args.words.now s _ _ c.set_count-n.ensures.0 c.object_count-objects.ensures.0 (and_left _ _ c.requires.1)
-
-pub loop-i-preserved : goal.loop-i-preserved
-loop-i-preserved c =
-    let l = c.loop-i in
-    (l.invariant.0, check-passes _ _ l.i l.invariant.1 (search rules) (rw c.members.ensures at c.below.ensures) c.if-not-below.false-raw)
-
 pub returns : goal.returns
-returns c =
-    let l = c.loop-i in
-    λ s.
-    checks-done _ _ l.i l.invariant.1 (search rules)
-    ∙ members-rows c.args.words.now s _ _ c.set_count-n.ensures.0 c.object_count-objects.ensures.0 (and_left _ _ c.requires.1)
-
-pub loop-i-init : goal.loop-i-init
-loop-i-init c = let e = c.set_count-n.ensures.0 in (omega arith, refl)
-
-pub members-requires : goal.members-requires
-members-requires c = let l = c.loop-i.invariant.0 in (search rules, omega arith)
+returns c s =
+    let ws = c.args.words.now in
+    let n = c.set_count-n.result in
+    let test = below_row c.object_count-objects.result ws in
+    all_from_yields_List test _ _ _ c.all.ensures.ran (YieldsList-from_range 0 n n refl (omega arith)) (λ x b q k. search (rules, tests))
+    ∙ all-table test (λ i. i) n 0 n (omega arith) ∙ members-rows ws s n _ c.set_count-n.ensures.0 c.object_count-objects.ensures.0 (and_left _ _ c.requires.1)

@@ -3,7 +3,6 @@ use mathlib.Core.Path.{sym, ◌∙◌}
 use native.Mathlib.Omega.{arith}
 use native.Mathlib.Numerals.{add-one}
 use borrow.Author.Rules.{rules}
-use Rattle.rules.specs.Rules.{no_interface}
 use Rattle.table_view.specs.View.{memory, view}
 use Rattle.table_view.proofs.LiveRows.{interfaces-length}
 use Rattle.table_settle.specs.Leaving.{cleared}
@@ -14,7 +13,7 @@ pub loop-i-init : goal.loop-i-init
 loop-i-init c =
     let a = c.args in
     let n = c.interface_count-i.ensures.0 ∙ sym (interfaces-length a.words.now) in
-    (search rules, λ s. going-none (λ e. e.interfaces) (λ e. none_of a.client) (cleared a.client) no_interface (view (memory a.words.now s)) _ n)
+    (search rules, λ s. going-none (λ e. e.interfaces) (λ e. none_of a.client) (cleared a.client) (view (memory a.words.now s)) _ n)
 
 pub store_count-requires : goal.store_count-requires
 store_count-requires c =

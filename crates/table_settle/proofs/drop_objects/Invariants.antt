@@ -14,6 +14,3 @@ abbrev pub invariant-loop-i : goal.invariant-loop-i
 invariant-loop-i l =
     (length l.words ≡ 8192) × ((s : List ℕ) → ObjectsGoing l.why (view (memory l.initial.words s)) l.i (view (memory l.words s)))
     × (members_below l.words ≡ true) × (distinct eqb (oids (view (memory l.words l.words))) ≡ true)
-
-abbrev pub decreases-loop-i : goal.decreases-loop-i
-decreases-loop-i l = l.i

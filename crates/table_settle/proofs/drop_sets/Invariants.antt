@@ -8,6 +8,3 @@ use Rattle.table_settle.proofs.drop_sets.Given as goal
 
 abbrev pub invariant-loop-i : goal.invariant-loop-i
 invariant-loop-i l = (length l.words ≡ 8192) × ((s : List ℕ) → SetsGoing l.time (view (memory l.initial.words s)) l.i (view (memory l.words s)))
-
-abbrev pub decreases-loop-i : goal.decreases-loop-i
-decreases-loop-i l = l.i

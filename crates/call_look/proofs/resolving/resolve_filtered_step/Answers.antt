@@ -5,7 +5,7 @@ use Rattle.call_look.proofs.resolving.FilteredReplies.{too_many_lem}
 use Rattle.call_look.proofs.resolving.resolve_filtered_step.Goals as goal
 
 pub returns-then-protocols-gt-MOST_LISTED : goal.returns-then-protocols-gt-MOST_LISTED
-returns-then-protocols-gt-MOST_LISTED c = rw c.refused.ensures (search too_many_lem)
+returns-then-protocols-gt-MOST_LISTED c = search too_many_lem
 
 pub mark_all-requires : goal.mark_all-requires
 mark_all-requires c = marks-none

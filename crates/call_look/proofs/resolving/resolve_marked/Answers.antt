@@ -15,7 +15,7 @@ pub exporter_count-requires : goal.exporter_count-requires
 exporter_count-requires c = search whole
 
 pub returns-then-exporter_count-i : goal.returns-then-exporter_count-i
-returns-then-exporter_count-i = (λ c ps few marked. rw c.refused.ensures (search filtered-gone))
+returns-then-exporter_count-i = (λ c ps few marked. search filtered-gone)
 
 pub list-list-requires : goal.list-list-requires
 list-list-requires c = search (row_below exporter_count, lists-kept)

@@ -12,16 +12,16 @@ pub exporter_count-requires : goal.exporter_count-requires
 exporter_count-requires c = search whole
 
 pub returns-then-exporter_count-i : goal.returns-then-exporter_count-i
-returns-then-exporter_count-i c = rw c.refused.ensures (search (gone plain))
+returns-then-exporter_count-i c = search (gone plain)
 
 pub list-list-requires : goal.list-list-requires
 list-list-requires c = search (row_below exporter_count, lists-kept)
 
 pub returns-then-buffer-list : goal.returns-then-buffer-list
-returns-then-buffer-list c = rw c.refused-then-buffer-list.ensures (search (no_room plain))
+returns-then-buffer-list c = search (no_room plain)
 
-pub unknown-unknown-requires : goal.unknown-unknown-requires
-unknown-unknown-requires c = search (row_below exporter_count)
+pub unknown-requires : goal.unknown-requires
+unknown-requires c = search (row_below exporter_count)
 
 pub returns : goal.returns
 returns c = search (copied plain)

@@ -12,23 +12,23 @@ overflow_add-next c =
     let counted : let a = c.args in Counted a.section a.words.now a.store.now a.rows.now a.buffer.now a.at c.write_u16.new.buf = search count-put in
     let p = count-inside (counted) in omega arith
 
-pub loop-k-init : goal.loop-k-init
-loop-k-init c = (omega arith, left-all _ _ _)
+pub loop-row-init : goal.loop-row-init
+loop-row-init c = left-all _ _ _
 
 pub put_row-next-requires : goal.put_row-next-requires
 put_row-next-requires c =
     let counted : let a = c.args in Counted a.section a.words.now a.store.now a.rows.now a.buffer.now a.at c.write_u16.new.buf = search count-put in
-    let l = c.loop-k in
-    let q = row_room (counted) l.k l.invariant.1 (omega arith) in
+    let l = c.loop-row in
+    let q = row_room (counted) l.row-index l.invariant (omega arith) in
     (search, search, q.0, q.1)
 
-pub loop-k-preserved : goal.loop-k-preserved
-loop-k-preserved c =
+pub loop-row-preserved : goal.loop-row-preserved
+loop-row-preserved c =
     let counted : let a = c.args in Counted a.section a.words.now a.store.now a.rows.now a.buffer.now a.at c.write_u16.new.buf = search count-put in
-    let l = c.loop-k in
-    (omega arith, row_put (counted) l.k l.invariant.1 (omega arith) c.put_row-next.ensures)
+    let l = c.loop-row in
+    row_put (counted) l.row-index l.invariant (omega arith) c.put_row-next.ensures
 
 pub returns : goal.returns
 returns c =
     let counted : let a = c.args in Counted a.section a.words.now a.store.now a.rows.now a.buffer.now a.at c.write_u16.new.buf = search count-put in
-    let l = c.loop-k in rows-put (counted) l.k l.invariant.1 (omega arith)
+    let l = c.loop-row in rows-put (counted) l.row-index l.invariant (omega arith)

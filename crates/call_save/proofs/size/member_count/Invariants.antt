@@ -1,4 +1,4 @@
-use Prim.Native.Nat.{◌+◌, ◌*◌, ◌-◌, ◌≤◌}
+use Prim.Native.Nat.{◌+◌, ◌*◌, ◌≤◌}
 use mathlib.Core.Path.{◌≡◌}
 use mathlib.Core.List.{map}
 use lib.ListN.{length, drop}
@@ -9,8 +9,5 @@ use Rattle.call_save.proofs.size.member_count.Given as goal
 
 abbrev pub invariant-loop-i : goal.invariant-loop-i
 invariant-loop-i l =
-    (l.i ≤ l.n) × (l.total ≤ 128 * l.i)
+    (l.total ≤ 128 * l.i)
     × (length (joined (map (λ (s : PingSet). s.members) (sets_of l.words))) ≡ l.total + length (joined (map (λ (s : PingSet). s.members) (drop l.i (sets_of l.words)))))
-
-abbrev pub decreases-loop-i : goal.decreases-loop-i
-decreases-loop-i l = l.n - l.i

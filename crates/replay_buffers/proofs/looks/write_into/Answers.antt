@@ -7,14 +7,14 @@ use Rattle.replay_buffers.proofs.looks.write_into.Goals as goal
 
 pub slice_bounds-shown_step-end : goal.slice_bounds-shown_step-end
 unfolding results
-slice_bounds-shown_step-end c = length-left c.write_snapshot_step-w.ensures _ refl
+slice_bounds-shown_step-end c = length-left (rw (← c.from-w.ensures) at c.write_snapshot_step.ensures) _ refl
 
 pub returns : goal.returns
 unfolding results
 returns c =
     let t = c.requires.0 in
-    length-done c.write_snapshot_step-w.ensures _ refl t refl refl refl refl c.requires.1 t.words t.store c.shown_step.ensures
+    length-done (rw (← c.from-w.ensures) at c.write_snapshot_step.ensures) _ refl t refl refl refl refl c.requires.1 t.words t.store c.shown_step.ensures
 
 pub slice_bounds-shown_step-end-2 : goal.slice_bounds-shown_step-end-2
 unfolding results
-slice_bounds-shown_step-end-2 c = sym (length-take-le _ _ (length-left c.write_snapshot_step-w.ensures _ refl))
+slice_bounds-shown_step-end-2 c = sym (length-take-le _ _ (length-left (rw (← c.from-w.ensures) at c.write_snapshot_step.ensures) _ refl))

@@ -10,6 +10,6 @@ pub returns : goal.returns
 unfolding results
 returns c =
     let t = c.requires.0 in
-    let words : length c.complex_ping_bytes_step-r.new.words ≡ 8192 = omega arith in
-    let st = rw (c.read_u64.ensures, c.read_u16-sequence.ensures) at c.complex_ping_bytes_step-r.ensures in
+    let words : length c.complex_ping_bytes_step.new.words ≡ 8192 = omega arith in
+    let st = rw (c.read_u64.ensures, c.read_u16-sequence.ensures, ← c.from-r.ensures) at c.complex_ping_bytes_step.ensures in
     step-done _ _ _ _ _ _ _ t st refl refl refl c.requires.1 refl refl words t.store c.step_of.ensures

@@ -10,6 +10,6 @@ pub returns : goal.returns
 unfolding results
 returns c =
     let t = c.requires.0 in
-    let words : length c.drop_client_step-number.new.words ≡ 8192 = omega arith in
-    let st = rw c.read_u32.ensures at c.drop_client_step-number.ensures in
+    let words : length c.drop_client_step.new.words ≡ 8192 = omega arith in
+    let st = rw (c.read_u32.ensures, ← c.number-number.ensures) at c.drop_client_step.ensures in
     step-done _ _ _ _ _ _ _ t st refl refl refl c.requires.1 refl refl words t.store c.step_of.ensures

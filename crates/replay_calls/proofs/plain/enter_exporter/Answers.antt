@@ -10,7 +10,7 @@ pub returns : goal.returns
 unfolding results
 returns c =
     let t = c.requires.0 in
-    let words : length c.enter_exporter_step-number.new.words ≡ 8192 = omega arith in
-    let store : length c.enter_exporter_step-number.new.store ≡ 8192 = omega arith in
-    let st = rw (c.read_u64.ensures, c.read_guid-unknown.ensures) at c.enter_exporter_step-number.ensures in
+    let words : length c.enter_exporter_step.new.words ≡ 8192 = omega arith in
+    let store : length c.enter_exporter_step.new.store ≡ 8192 = omega arith in
+    let st = rw (c.read_u64.ensures, c.read_guid-unknown.ensures, ← c.number-number.ensures) at c.enter_exporter_step.ensures in
     step-done _ _ _ _ _ _ _ t st refl refl refl c.requires.1 refl refl words store c.step_of.ensures

@@ -10,12 +10,13 @@ pub returns : goal.returns
 unfolding results
 returns c =
     let t = c.requires.0 in
-    let words : length c.enter_interface_step-number.new.words ≡ 8192 = omega arith in
+    let words : length c.enter_interface_step.new.words ≡ 8192 = omega arith in
     let st =
     rw (
       c.read_u64.ensures,
       c.read_guid-ipid.ensures,
       c.read_guid-iid.ensures,
       c.read_u32-public.ensures,
-    ) at c.enter_interface_step-number.ensures in
+      ← c.number-number.ensures,
+    ) at c.enter_interface_step.ensures in
     step-done _ _ _ _ _ _ _ t st refl refl refl c.requires.1 refl refl words t.store c.step_of.ensures

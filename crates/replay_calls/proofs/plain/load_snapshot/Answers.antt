@@ -10,6 +10,7 @@ pub returns : goal.returns
 unfolding results
 returns c =
     let t = c.requires.0 in
-    let words : length c.load_snapshot-number.new.words ≡ 8192 = omega arith in
-    let store : length c.load_snapshot-number.new.store ≡ 8192 = omega arith in
-    start-done _ _ _ _ _ _ _ t c.load_snapshot-number.ensures refl refl refl c.requires.1 refl refl words store c.step_of.ensures
+    let words : length c.load_snapshot.new.words ≡ 8192 = omega arith in
+    let store : length c.load_snapshot.new.store ≡ 8192 = omega arith in
+    let st = rw (← c.number-number.ensures) at c.load_snapshot.ensures in
+    start-done _ _ _ _ _ _ _ t st refl refl refl c.requires.1 refl refl words store c.step_of.ensures

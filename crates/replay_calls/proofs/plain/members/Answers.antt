@@ -8,5 +8,5 @@ pub returns : goal.returns
 unfolding results
 returns c =
     let t = c.requires.0 in
-    let st = rw c.read_u64.ensures at c.members_step-r.ensures in
+    let st = rw (c.read_u64.ensures, ← c.from-r.ensures) at c.members_step.ensures in
     step-done _ _ _ _ _ _ _ t st refl refl refl c.requires.1 refl refl t.words t.store c.step_of.ensures

@@ -10,6 +10,6 @@ pub returns : goal.returns
 unfolding results
 returns c =
     let t = c.requires.0 in
-    let words : length c.reset-number.new.words ≡ 8192 = omega arith in
-    let pf = rw c.read_u64.ensures at c.reset-number.ensures in
+    let words : length c.reset.new.words ≡ 8192 = omega arith in
+    let pf = rw (c.read_u64.ensures, ← c.number-number.ensures) at c.reset.ensures in
     start-done _ _ _ _ _ _ _ t pf refl refl refl c.requires.1 refl refl words t.store c.step_of.ensures

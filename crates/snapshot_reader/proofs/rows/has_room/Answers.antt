@@ -2,6 +2,7 @@
 use mathlib.Core.Path.{sym, ap, ◌∙◌}
 use lib.Dec.{eqb}
 use Prim.Native.Nat.{ℕ}
+use Rattle.kinds.proofs.Passing.{ok-number}
 use Rattle.table_view.specs.View.{memory, view}
 use Rattle.snapshot_reader.proofs.rows.SectionFits.{exporter-fits}
 use Rattle.snapshot_reader.proofs.rows.Reading.{lists-kept}
@@ -14,5 +15,5 @@ list_answer-requires c =
 pub returns : goal.returns
 returns c x u =
     let a = c.args in
-    ap (λ (n : ℕ). eqb n 0) c.list_answer.ensures
+    c.is_ok.ensures.value ∙ ok-number c.list_answer.result ∙ ap (λ (n : ℕ). eqb n 0) c.list_answer.ensures
     ∙ sym (exporter-fits (record { oxid = x; unknown = u; bindings = a.list.now }) (view (memory a.words.now a.store.now)) c.requires.2)

@@ -3,20 +3,15 @@ use mathlib.Core.Path.{sym, ◌∙◌}
 use native.Mathlib.Omega.{arith}
 use Rattle.fields.specs.Fields.{field, guid_at}
 use Rattle.rules.specs.Snapshot.{read_exporter}
-use Rattle.table_view.specs.View.{memory, view}
-use Rattle.snapshot_rows.specs.declared.Section.TheVariants.{Exporters}
-use Rattle.snapshot_reader.proofs.rows.SectionFits.{row-refused, row_read}
 use Rattle.snapshot_reader.proofs.rows.Reading.{list_read, exporter-after, room-made}
 use Rattle.snapshot_reader.proofs.rows.read_exporter.Goals as goal
 
 pub returns-then-not-has_room : goal.returns-then-not-has_room
 unfolding read_exporter
 returns-then-not-has_room c =
-    let a = c.args in
-    let s = a.s.now in
+    let s = c.args.s.now in
     let l = list_read s _ _ _ c.read_u16-size.ensures c.within-from.ensures c.within-to.ensures in
-    row-refused Exporters s (view (memory a.words.now a.store.now)) c.no_row.result c.no_row.ensures
-    (rw l at (sym (c.has_room.ensures (field s 0 8) (guid_at s 8)) ∙ c.if-not-has_room.true))
+    rw l at (sym (c.has_room.ensures (field s 0 8) (guid_at s 8)) ∙ c.if-not-has_room.true)
 
 pub append_exporter-requires : goal.append_exporter-requires
 append_exporter-requires c =
@@ -27,15 +22,14 @@ append_exporter-requires c =
 pub returns : goal.returns
 unfolding read_exporter
 returns c =
-    let a = c.args in
-    let s = a.s.now in
+    let s = c.args.s.now in
     let size = c.read_u16-size.ensures in
     let from = c.within-from.ensures in
     let to = c.within-to.ensures in
     let l = list_read s _ _ _ size from to in
-    row_read Exporters s (view (memory a.words.now a.store.now)) _ _
-    (rw l at (sym (c.has_room.ensures (field s 0 8) (guid_at s 8)) ∙ c.if-not-has_room.false))
-    (rw (l, c.read_u64.ensures, c.read_guid-unknown.ensures)
-    at c.append_exporter.ensures)
-    (exporter-after s _ _ _ size from to)
-    (omega arith)
+    record {
+      fit = rw l at (sym (c.has_room.ensures (field s 0 8) (guid_at s 8)) ∙ c.if-not-has_room.false);
+      entries = rw (l, c.read_u64.ensures, c.read_guid-unknown.ensures) at c.append_exporter.ensures;
+      rest = exporter-after s _ _ _ size from to;
+      inside = omega arith;
+    }

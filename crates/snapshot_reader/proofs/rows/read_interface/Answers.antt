@@ -7,9 +7,8 @@ use Rattle.rules.specs.Entries.{interface_places}
 use Rattle.rules.specs.Snapshot.{read_interface}
 use Rattle.table_view.specs.View.{memory, view}
 use Rattle.table_view.proofs.LiveRows.{interfaces-length}
-use Rattle.snapshot_rows.specs.declared.Section.TheVariants.{Interfaces}
 use Rattle.snapshot_reader.proofs.rows.RowFields.{drop-within}
-use Rattle.snapshot_reader.proofs.rows.SectionFits.{interface-fits, row-refused, row_read}
+use Rattle.snapshot_reader.proofs.rows.SectionFits.{interface-fits}
 use Rattle.snapshot_reader.proofs.rows.read_interface.Goals as goal
 
 pub returns-then-interface_count-ge-INTERFACE_PLACES : goal.returns-then-interface_count-ge-INTERFACE_PLACES
@@ -17,8 +16,7 @@ unfolding read_interface
 returns-then-interface_count-ge-INTERFACE_PLACES c t =
     let ws = c.args.words.now in
     let n = c.interface_count in
-    row-refused Interfaces c.args.s.now (view (memory ws t)) c.no_row.result c.no_row.ensures
-    (interface-fits _ (view (memory ws t)) ∙ rw (interfaces-length ws, ← n.ensures.0) (le-ltb n.result interface_places c.if-interface_count-ge-INTERFACE_PLACES.true))
+    interface-fits _ (view (memory ws t)) ∙ rw (interfaces-length ws, ← n.ensures.0) (le-ltb n.result interface_places c.if-interface_count-ge-INTERFACE_PLACES.true)
 
 pub returns : goal.returns
 unfolding read_interface tabulate
@@ -27,22 +25,15 @@ returns c t =
     let s = c.args.s.now in
     let n = c.interface_count in
     let e = c.within.ensures in
-    row_read Interfaces s (view (memory ws t)) c.within.result _
-    (interface-fits _ (view (memory ws t)) ∙ rw (interfaces-length ws, ← n.ensures.0) (lt-ltb n.result interface_places c.if-interface_count-ge-INTERFACE_PLACES.false))
-    (rw (
-      c.read_guid-ipid.ensures,
-      c.read_guid-iid.ensures,
-      c.read_u64.ensures,
-      c.read_u32.ensures,
-      c.read_u32-2.ensures,
-      c.read_u32-3.ensures,
-      c.read_u32-4.ensures,
-      c.read_u32-5.ensures,
-      c.read_u32-6.ensures,
-      c.read_u32-7.ensures,
-      c.read_u32-8.ensures,
-      c.read_u32-9.ensures,
-    )
-    at (c.add_interface.ensures t))
-    (rw e (drop-within s 76))
-    (omega arith)
+    record {
+      fit = interface-fits _ (view (memory ws t)) ∙ rw (interfaces-length ws, ← n.ensures.0) (lt-ltb n.result interface_places c.if-interface_count-ge-INTERFACE_PLACES.false);
+      entries = rw (
+        c.read_guid-ipid.ensures,
+        c.read_guid-iid.ensures,
+        c.read_u64.ensures,
+        c.read_counts.ensures,
+      )
+          at (c.add_interface.ensures t);
+      rest = rw e (drop-within s 76);
+      inside = omega arith;
+    }

@@ -7,9 +7,8 @@ use Rattle.rules.specs.Entries.{object_places}
 use Rattle.rules.specs.Snapshot.{read_object}
 use Rattle.table_view.specs.View.{memory, view}
 use Rattle.table_view.proofs.LiveRows.{objects-length}
-use Rattle.snapshot_rows.specs.declared.Section.TheVariants.{Objects}
 use Rattle.snapshot_reader.proofs.rows.RowFields.{drop-within}
-use Rattle.snapshot_reader.proofs.rows.SectionFits.{object-fits, row-refused, row_read}
+use Rattle.snapshot_reader.proofs.rows.SectionFits.{object-fits}
 use Rattle.snapshot_reader.proofs.rows.Reading.{before-sets}
 use Rattle.snapshot_reader.proofs.rows.read_object.Goals as goal
 
@@ -18,8 +17,7 @@ unfolding read_object
 returns-then-object_count-ge-OBJECT_PLACES c t =
     let ws = c.args.words.now in
     let n = c.object_count in
-    row-refused Objects c.args.s.now (view (memory ws t)) c.no_row.result c.no_row.ensures
-    (object-fits _ (view (memory ws t)) (c.requires.1 t) ∙ rw (objects-length ws, ← n.ensures.0) (le-ltb n.result object_places c.if-object_count-ge-OBJECT_PLACES.true))
+    object-fits _ (view (memory ws t)) (c.requires.1 t) ∙ rw (objects-length ws, ← n.ensures.0) (le-ltb n.result object_places c.if-object_count-ge-OBJECT_PLACES.true)
 
 pub add_object-requires : goal.add_object-requires
 add_object-requires c =
@@ -29,11 +27,11 @@ pub returns : goal.returns
 unfolding read_object
 returns c t =
     let ws = c.args.words.now in
-    let s = c.args.s.now in
     let n = c.object_count in
     let e = c.within.ensures in
-    row_read Objects s (view (memory ws t)) c.within.result _
-    (object-fits _ (view (memory ws t)) (c.requires.1 t) ∙ rw (objects-length ws, ← n.ensures.0) (lt-ltb n.result object_places c.if-object_count-ge-OBJECT_PLACES.false))
-    (cc (c.add_object.ensures t))
-    (rw e (drop-within s 25))
-    (omega arith)
+    record {
+      fit = object-fits _ (view (memory ws t)) (c.requires.1 t) ∙ rw (objects-length ws, ← n.ensures.0) (lt-ltb n.result object_places c.if-object_count-ge-OBJECT_PLACES.false);
+      entries = cc (c.add_object.ensures t);
+      rest = rw e (drop-within c.args.s.now 25);
+      inside = omega arith;
+    }

@@ -1,4 +1,3 @@
-use Prim.Native.Nat.{◌-◌}
 use lib.ListN.{drop}
 use Rattle.rules.specs.Contract.{Whole}
 use Rattle.table_view.specs.View.{memory, view}
@@ -8,7 +7,4 @@ use Rattle.snapshot_reader.proofs.sections.read_section.Given as goal
 
 abbrev pub invariant-loop-i : goal.invariant-loop-i
 invariant-loop-i l =
-    Whole l.words × Whole l.store × RowsLeft l.section l.s l.n l.i l.next (view (memory l.words l.store)) (with_section l.section (drop l.at l.s) (view (memory l.initial.words l.initial.store)))
-
-abbrev pub decreases-loop-i : goal.decreases-loop-i
-decreases-loop-i l = l.n - l.i
+    Whole l.words × Whole l.store × RowsLeft l.section l.s l.n l._i l.next (view (memory l.words l.store)) (with_section l.section (drop l.at l.s) (view (memory l.initial.words l.initial.store)))

@@ -26,4 +26,4 @@ pub returns-then-s-gt-LONGEST_SNAPSHOT : goal.returns-then-s-gt-LONGEST_SNAPSHOT
 returns-then-s-gt-LONGEST_SNAPSHOT c = let s = c.args.s.now in table-refused s _ (too_long_lem s c.if-s-gt-LONGEST_SNAPSHOT.true)
 
 pub returns : goal.returns
-returns c = c.read_sections.ensures
+returns c = rw c.is_some.ensures c.read_sections.ensures

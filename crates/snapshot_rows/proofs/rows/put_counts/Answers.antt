@@ -15,7 +15,7 @@ pub overflow_add-next : goal.overflow_add-next
 overflow_add-next c =
     let l = c.loop-k in
     let row = count_bytes_at c.args.words.now c.args.i in
-    let left = left-same (numbered_next row 9 l.k (omega arith)) l.invariant.1 in
+    let left = left-same (numbered_next row 9 l.k (omega arith)) l.invariant in
     let room = left-room (row l.k) _ c.requires.2 left in
     let n = length-encode 4 (count_of l.k (get_or (interfaces_of c.args.words.now) c.args.i no_interface)) in
     omega arith
@@ -24,13 +24,13 @@ pub loop-k-preserved : goal.loop-k-preserved
 loop-k-preserved c =
     let l = c.loop-k in
     let row = count_bytes_at c.args.words.now c.args.i in
-    let left = left-same (numbered_next row 9 l.k (omega arith)) l.invariant.1 in
-    (omega arith, left_step (row l.k) _ c.requires.2 left (wrote-number 4 c.count.ensures c.write_u32.ensures refl))
+    let left = left-same (numbered_next row 9 l.k (omega arith)) l.invariant in
+    left_step (row l.k) _ c.requires.2 left (wrote-number 4 c.count.ensures c.write_u32.ensures refl)
 
 pub returns : goal.returns
 returns c =
     let l = c.loop-k in
-    left-none (numbered-end _ 9 l.k (omega arith)) l.invariant.1
+    left-none (numbered-end _ 9 l.k (omega arith)) l.invariant
 
 pub loop-k-init : goal.loop-k-init
-loop-k-init c = (omega arith, left-all _ _ _)
+loop-k-init c = left-all _ _ _

@@ -1,4 +1,3 @@
-use Prim.Native.Nat.{◌-◌, ◌≤◌}
 use lib.ListN.{drop}
 use Rattle.lists.specs.Lists.{tabulate}
 use Rattle.rules.specs.Snapshot.{in_row}
@@ -8,7 +7,4 @@ use Rattle.snapshot_rows.proofs.rows.put_counts.Given as goal
 
 abbrev pub invariant-loop-k : goal.invariant-loop-k
 invariant-loop-k l =
-    (l.k ≤ 9) × Left l.initial.buffer l.at (in_row (count_bytes_at l.words l.i) (tabulate 9 (λ j. j))) l.buffer l.next (in_row (count_bytes_at l.words l.i) (drop l.k (tabulate 9 (λ j. j))))
-
-abbrev pub decreases-loop-k : goal.decreases-loop-k
-decreases-loop-k l = 9 - l.k
+    Left l.initial.buffer l.at (in_row (count_bytes_at l.words l.i) (tabulate 9 (λ j. j))) l.buffer l.next (in_row (count_bytes_at l.words l.i) (drop l.k (tabulate 9 (λ j. j))))

@@ -7,13 +7,11 @@ use Rattle.lists.specs.Lists.{among}
 use Rattle.lists.proofs.Lists.{some-map}
 use Rattle.rules.specs.Entries.{Interface}
 use Rattle.table_view.specs.View.{interfaces_of}
-use Rattle.table_view.proofs.Columns.{column-read, interface-objects-column}
 use Rattle.table_view.proofs.find.is_served.Goals as goal
 
 pub returns : goal.returns
 returns c s =
-    let ws = c.args.words.now in
     let oid = c.args.oid.0 in
     c.has.ensures
-    ∙ ap (λ (col : List ℕ). among col oid) (column-read ws 1792 c.column.ensures c.interface_count.ensures.0 (interface-objects-column ws c.requires))
-    ∙ some-map (eqb oid) (λ (i : Interface). i.object) (interfaces_of ws)
+    ∙ ap (λ (col : List ℕ). among col oid) c.interface_objects.ensures
+    ∙ some-map (eqb oid) (λ (i : Interface). i.object) (interfaces_of c.args.words.now)

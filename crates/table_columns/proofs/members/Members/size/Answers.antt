@@ -1,9 +1,7 @@
 -- `table_columns::members::Members::size`: the members are as many as the ones of both words.
-use Rattle.std.proofs.Common.{◌+◌, sym, ◌∙◌, arith}
+use Rattle.std.proofs.Common.{sym, arith}
 use Rattle.table_columns.proofs.members.Ones.{members-ones}
 use Rattle.table_columns.proofs.members.Members.size.Goals as goal
 
 pub returns : goal.returns
-returns c =
-    let g = c.well_formed in
-    (λ u. c.ones_in.ensures.0 u + c.ones_in-2.ensures.0 u) ∙ sym (members-ones c.args.self (omega arith, omega arith))
+returns c = let g = c.well_formed in sym (members-ones c.args.self (omega arith, omega arith))

@@ -1,8 +1,0 @@
--- `rows::counted`: by the test.
-use Rattle.snapshot_reader.proofs.rows.counted.Goals as goal
-
-pub returns-then-more : goal.returns-then-more
-returns-then-more c = rw c.if-more.true
-
-pub returns-else-more : goal.returns-else-more
-returns-else-more c = rw c.if-more.false
