@@ -33,7 +33,7 @@ fn listed(out: &mut Buffer, s: &[u8], first: Walk, n: usize) -> io::Result<()> {
         };
         walk = met.rest();
         property(out, found, k, Margin(n))?;
-        dump::content(out, &s[met.place], n)?;
+        dump::content(out, &s[met.place], n);
     }
     Ok(())
 }

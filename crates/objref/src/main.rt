@@ -55,7 +55,7 @@ fn single(out: &mut Buffer, r: Reference, s: &[u8], n: usize) -> io::Result<()> 
     if r.flags == Reference::CUSTOM {
         data::object(out, r.clsid, rest, n)?;
     } else {
-        print_bindings::parts(out, rest, n)?;
+        print_bindings::parts(out, rest, n);
     }
     if r.flags == Reference::EXTENDED {
         data::element(out, r.element, references::element_data(s, 0), n)?;

@@ -2,24 +2,29 @@
 // read standard input. No contract can speak of what is written.
 #![tactic(auto)]
 
-ghost use Rattle.std.specs.Prelude.{◌≤◌};
+ghost use Rattle.std.specs.Prelude.{◌≡◌, ◌≤◌, None, Some, Err, IsOk, IfErr, IfSome, MatchOption};
+ghost use Rattle.std.specs.Result.{result_err};
+ghost use Rattle.std.specs.Io.{WritesAtMost};
 ghost use Rattle.print.specs.declared.TheConstants.{ROOM};
 
 use kinds::Guid;
 use std::io::{Stdout, Write};
-use std::{fmt, io};
+use std::{fmt, io, str};
 
 pub mod dump;
+mod hex;
 pub mod input;
 pub mod words;
 
-// Holds what is gathered and not written yet. What is not flushed in the end is lost. Std's BufWriter would need a heap.
+// Holds what is gathered and not written yet. Behind the first error nothing more is written, and flush answers that error. What is
+// not flushed in the end is lost. Std's BufWriter would need a heap.
 #[derive(Drop)]
 pub struct Buffer {
     to: Stdout,
     bytes: [u8; ROOM],
     // How many bytes are gathered, at the front.
     length: usize,
+    failed: Option<io::Error>,
 
     ghost within: { length ≤ ROOM },
 }
@@ -32,30 +37,79 @@ impl Buffer {
             to,
             bytes: [0; ROOM],
             length: 0,
+            failed: None,
         }
+    }
+
+    // Keeps the first error for flush.
+    pub fn keep(&mut self, written: io::Result<()>)
+        ensures first { self.old.failed ≡ None → self.new.failed ≡ result_err written }
+        ensures kept { IfSome self.old.failed (λ e. self.new.failed ≡ Some e) }
+    {
+        self.failed = self.failed.or(written.err());
+    }
+
+    // Writes what is gathered.
+    fn empty(&mut self) -> io::Result<()>
+        ensures failed { IfErr result (λ e. self.new.failed ≡ Some e) }
+        ensures behind { IfSome self.old.failed (λ e. (self.new.failed ≡ Some e) × IsOk result) }
+    {
+        let n = self.length;
+        self.length = 0;
+        pass(&mut self.to, &mut self.failed, &self.bytes[..n])
     }
 }
 
+// Writes bytes, or drops them behind the first error, which is kept.
+fn pass(to: &mut Stdout, failed: &mut Option<io::Error>, s: &[u8]) -> io::Result<()>
+    ensures failed { IfErr result (λ e. failed.new ≡ Some e) }
+    ensures behind { IfSome failed.old (λ e. (failed.new ≡ Some e) × IsOk result) }
+{
+    if failed.is_some() {
+        return Ok(());
+    }
+    let written = to.write_all(s);
+    *failed = written.err();
+    written
+}
+
 impl Write for Buffer {
+    fn write(&mut self, s: &[u8]) -> io::Result<usize>
+        ensures bound { WritesAtMost result s.now }
+        ensures failed { IfErr result (λ e. self.new.failed ≡ Some e) }
+        ensures behind { IfSome self.old.failed (λ e. (self.new.failed ≡ Some e) × IsOk result) }
+    {
+        self.write_all(s)?;
+        Ok(s.len())
+    }
+
     // Text that is longer than the buffer is written by itself.
-    fn write(&mut self, s: &[u8]) -> io::Result<usize> {
+    fn write_all(&mut self, s: &[u8]) -> io::Result<()>
+        ensures failed { IfErr result (λ e. self.new.failed ≡ Some e) }
+        ensures behind { IfSome self.old.failed (λ e. (self.new.failed ≡ Some e) × IsOk result) }
+    {
         if ROOM - self.length < s.len() {
-            self.flush()?;
+            self.empty()?;
         }
         let at = self.length;
         let n = s.len();
         if ROOM - at < n {
-            return self.to.write(s);
+            return pass(&mut self.to, &mut self.failed, s);
         }
         self.bytes[at..at + n].copy_from_slice(s);
         self.length = at + n;
-        Ok(n)
+        Ok(())
     }
 
-    fn flush(&mut self) -> io::Result<()> {
-        let n = self.length;
-        self.length = 0;
-        self.to.write_all(&self.bytes[..n])
+    fn flush(&mut self) -> io::Result<()>
+        ensures answers { MatchOption self.new.failed (IsOk result) (λ e. result ≡ Err e) }
+        ensures kept { IfSome self.old.failed (λ e. self.new.failed ≡ Some e) }
+    {
+        self.empty()?;
+        match self.failed {
+            Some(e) => Err(e),
+            None => Ok(()),
+        }
     }
 }
 
@@ -65,19 +119,18 @@ pub struct Braced(pub Guid);
 
 impl fmt::Display for Braced {
     fn fmt<W: fmt::Write>(&self, f: &mut fmt::Formatter<W>) -> fmt::Result {
-        let low = self.0.low;
-        let high = self.0.high.swap_bytes();
-        let first = low & 0xFFFF_FFFF;
-        let second = low >> 32 & 0xFFFF;
-        let third = low >> 48;
-        let fourth = high >> 48;
-        let last = high & 0xFFFF_FFFF_FFFF;
-        write!(
-            f,
-            "{{{first:08x}-{second:04x}-{third:04x}-{fourth:04x}-{last:012x}}}"
-        )
+        let mut bytes = [0u8; 16];
+        fields::write_guid(&mut bytes, 0, self.0);
+        let mut text = *b"{00000000-0000-0000-0000-000000000000}";
+        for (at, byte) in PLACES.iter().zip(bytes) {
+            fields::copy(&mut text, *at, &hex::pair(byte));
+        }
+        f.write_str(str::from_utf8(&text).map_err(|_| fmt::Error)?)
     }
 }
+
+// Where the digits of each byte of a GUID stand in its text.
+const PLACES: [usize; 16] = [7, 5, 3, 1, 12, 10, 17, 15, 20, 22, 25, 27, 29, 31, 33, 35];
 
 // Two spaces for each level, before a line.
 #[derive(Clone, Copy)]

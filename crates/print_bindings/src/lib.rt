@@ -9,7 +9,12 @@ use std::io;
 use std::io::Write;
 
 // The list's N and S (document 01), then its bindings.
-pub fn parts(out: &mut Buffer, s: &[u8], n: usize) -> io::Result<()> {
+pub fn parts(out: &mut Buffer, s: &[u8], n: usize) {
+    let written = lines(out, s, n);
+    out.keep(written);
+}
+
+fn lines(out: &mut Buffer, s: &[u8], n: usize) -> io::Result<()> {
     let count = fields::read_u16(s, 0);
     let security = fields::read_u16(s, 2);
     writeln!(out, "{}binding list: N {count}, S {security}", Margin(n))?;

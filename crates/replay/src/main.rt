@@ -43,7 +43,7 @@ fn replayed(out: &mut Buffer, s: &mut [u8]) -> io::Result<()> {
     // The number of the record that differs, from 1; none where it is 0.
     match r.differs {
         0 => writeln!(out, "agrees")?,
-        k => record::differing(out, s, k)?,
+        k => record::differing(out, s, k),
     }
     tallied(out, r.tally)
 }

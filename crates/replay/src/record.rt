@@ -3,17 +3,16 @@ use kinds::limits;
 use print::Buffer;
 use recording::Ends;
 use replay_answers::Answered;
-use std::io;
 
 // Record k, from 1: its call, what was recorded, and what we answer, in a recording of the records before it.
-pub fn differing(out: &mut Buffer, s: &mut [u8], k: u32) -> io::Result<()> {
-    let at = replay_lines::differing(out, s, k)?;
+pub fn differing(out: &mut Buffer, s: &mut [u8], k: u32) {
+    let at = replay_lines::differing(out, s, k);
     fields::write_u64(s, 0, k.wrapping_sub(1) as u64);
-    ours(out, s, at)
+    ours(out, s, at);
 }
 
 // Our answer to the record from at.
-fn ours(out: &mut Buffer, s: &[u8], at: usize) -> io::Result<()> {
+fn ours(out: &mut Buffer, s: &[u8], at: usize) {
     let e = recording::record_ends(s, at);
     let mut buffer = [0u8; replay_answers::MOST_SHOWN];
     let a = performed(s, at, e, &mut buffer);
@@ -25,7 +24,7 @@ fn ours(out: &mut Buffer, s: &[u8], at: usize) -> io::Result<()> {
         &a.numbers,
         shown,
         replay_lines::section(s, e.answer, e.shown),
-    )
+    );
 }
 
 // The same on a table after the records before it, which are replayed once more.

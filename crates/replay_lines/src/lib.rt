@@ -10,14 +10,16 @@ use std::io;
 use std::io::Write;
 
 // Record k of a recording, from 1, which differs: its call and what was recorded. Where it begins.
-pub fn differing(out: &mut Buffer, s: &[u8], k: u32) -> io::Result<usize> {
+pub fn differing(out: &mut Buffer, s: &[u8], k: u32) -> usize {
     let at = (1..k).fold(8, |at, _| recording::record_ends(s, at).shown);
-    writeln!(out, "record {k} differs")?;
-    record(out, s, at)?;
-    Ok(at)
+    let written = record(out, s, k, at);
+    out.keep(written);
+    at
 }
 
-fn record(out: &mut Buffer, s: &[u8], at: usize) -> io::Result<()> {
+// Record k, which begins there.
+fn record(out: &mut Buffer, s: &[u8], k: u32, at: usize) -> io::Result<()> {
+    writeln!(out, "record {k} differs")?;
     let e = recording::record_ends(s, at);
     let c = section(s, at, e.call);
     let code = recording::byte(c, 0);
@@ -136,8 +138,15 @@ fn recorded(s: &[u8]) -> [u64; 5] {
     [0, 8, 16, 24, 32].map(|at| read_u64(s, at))
 }
 
-// Our answer, and where the bytes that it shows differ from those that were recorded.
-pub fn ours(
+// Our answer, and where the bytes that it shows differ from those that were recorded. Of its numbers the first five count; those that
+// are not there are 0.
+pub fn ours(out: &mut Buffer, code: u8, numbers: &[u64], shown: &[u8], recorded: &[u8]) {
+    let numbers = [0, 1, 2, 3, 4].map(|k| numbers.get(k).copied().unwrap_or(0));
+    let written = compared(out, code, &numbers, shown, recorded);
+    out.keep(written);
+}
+
+fn compared(
     out: &mut Buffer,
     code: u8,
     numbers: &[u64; 5],
@@ -160,7 +169,10 @@ pub fn ours(
 // An answer: its number, its results and the bytes that it shows.
 fn answered(out: &mut Buffer, code: u8, numbers: &[u64; 5], shown: &[u8]) -> io::Result<()> {
     let [number, a, b, c, d] = *numbers;
-    write!(out, "{number}")?;
+    // No call has a higher code than 19.
+    if code <= 19 {
+        write!(out, "{number}")?;
+    }
     match code {
         6 => writeln!(
             out,
@@ -193,5 +205,6 @@ fn listed(out: &mut Buffer, what: &str, s: &[u8]) -> io::Result<()> {
         return Ok(());
     }
     write!(out, "  {what}: ")?;
-    dump::content(out, s, 1)
+    dump::content(out, s, 1);
+    Ok(())
 }

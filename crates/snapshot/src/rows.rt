@@ -32,7 +32,7 @@ fn exporter(out: &mut Buffer, s: &[u8]) -> io::Result<usize> {
     )?;
     let end = 26 + length as usize;
     if let Some(list) = s.get(26..end) {
-        print_bindings::parts(out, list, 2)?;
+        print_bindings::parts(out, list, 2);
     }
     Ok(end)
 }

@@ -12,23 +12,26 @@ use kinds::{SetId, limits};
 use print::Buffer;
 use recorder::Log;
 use std::io;
+use std::io::Write;
 use tally::Tally;
 use walkthrough_server::{Store, Words, say};
 
 fn main(rt: HostRuntime) -> io::Result<()> {
-    day(&mut Buffer::new(rt.stdout()))
+    let mut out = Buffer::new(rt.stdout());
+    day(&mut out);
+    out.flush()
 }
 
-fn day(out: &mut Buffer) -> io::Result<()> {
+fn day(out: &mut Buffer) {
     say::text(
         out,
-        "     0 done, 4 the server has left, 6 the tank level group has ended, 11 the client was silent too long and begins anew\n",
-    )?;
+        b"     0 done, 4 the server has left, 6 the tank level group has ended, 11 the client was silent too long and begins anew\n",
+    );
     let mut snapshot = [0u8; walkthrough_server::SNAPSHOT];
     let mut log: Log = [0; recorder::ROOM];
-    let set = until_noon(out, &mut log, &mut snapshot)?;
-    after_noon(out, &mut log, &snapshot, set)?;
-    replay(out, &log)
+    let set = until_noon(out, &mut log, &mut snapshot);
+    after_noon(out, &mut log, &snapshot, set);
+    replay(out, &log);
 }
 
 // The first box; the client's set.
@@ -36,17 +39,17 @@ fn until_noon(
     out: &mut Buffer,
     log: &mut Log,
     snapshot: &mut [u8; walkthrough_server::SNAPSHOT],
-) -> io::Result<SetId> {
+) -> SetId {
     let mut words = [0u64; limits::WORDS];
     let mut store = [0u8; limits::BYTES];
     let mut reference = [0u8; walkthrough_server::REFERENCE];
-    walkthrough_server::open(out, log, &mut words, &mut store)?;
-    walkthrough_server::offer(out, log, &mut words, &store, &mut reference)?;
-    let set = walkthrough_client::take_up(out, log, &mut words, &store, &reference)?;
+    walkthrough_server::open(out, log, &mut words, &mut store);
+    walkthrough_server::offer(out, log, &mut words, &store, &mut reference);
+    let set = walkthrough_client::take_up(out, log, &mut words, &store, &reference);
     let opened = walkthrough_server::OPENED;
-    walkthrough_client::wait(out, log, &mut words, &store, set, opened, 4, true)?;
-    walkthrough_server::save(out, log, &words, &store, snapshot)?;
-    Ok(set)
+    walkthrough_client::wait(out, log, &mut words, &store, set, opened, 4, true);
+    walkthrough_server::save(out, log, &words, &store, snapshot);
+    set
 }
 
 // The box that takes over.
@@ -55,33 +58,27 @@ fn after_noon(
     log: &mut Log,
     snapshot: &[u8; walkthrough_server::SNAPSHOT],
     set: SetId,
-) -> io::Result<()> {
+) {
     let mut words = [0u64; limits::WORDS];
     let mut store = [0u8; limits::BYTES];
-    let clock = walkthrough_server::take_over(out, log, &mut words, &mut store, snapshot)?;
-    walkthrough_client::leave(out, log, &mut words, &store, set)?;
-    walkthrough_client::lose_other(out, log, &mut words, &store, set)?;
-    next_client(out, log, &mut words, &mut store, clock)
+    let clock = walkthrough_server::take_over(out, log, &mut words, &mut store, snapshot);
+    walkthrough_client::leave(out, log, &mut words, &store, set);
+    walkthrough_client::lose_other(out, log, &mut words, &store, set);
+    next_client(out, log, &mut words, &mut store, clock);
 }
 
 // Another client, and the end of the server.
-fn next_client(
-    out: &mut Buffer,
-    log: &mut Log,
-    words: &mut Words,
-    store: &mut Store,
-    clock: u64,
-) -> io::Result<()> {
+fn next_client(out: &mut Buffer, log: &mut Log, words: &mut Words, store: &mut Store, clock: u64) {
     let mut reference = [0u8; walkthrough_server::REFERENCE];
-    say::text(out, "     the next client falls silent\n")?;
-    walkthrough_server::offer(out, log, words, store, &mut reference)?;
-    walkthrough_client::fall_silent(out, log, words, store, &reference, clock)?;
-    walkthrough_server::close(out, log, words, store)?;
-    walkthrough_client::come_late(out, log, words, store, &reference)
+    say::text(out, b"     the next client falls silent\n");
+    walkthrough_server::offer(out, log, words, store, &mut reference);
+    walkthrough_client::fall_silent(out, log, words, store, &reference, clock);
+    walkthrough_server::close(out, log, words, store);
+    walkthrough_client::come_late(out, log, words, store, &reference);
 }
 
 // Support replays the day in a table of its own.
-fn replay(out: &mut Buffer, log: &[u8]) -> io::Result<()> {
+fn replay(out: &mut Buffer, log: &[u8]) {
     let mut words = [0u64; limits::WORDS];
     let mut store = [0u8; limits::BYTES];
     let end = fields::within(log, recorder::end(log));

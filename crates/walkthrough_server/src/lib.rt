@@ -9,7 +9,6 @@ use print::Buffer;
 use recorder::Log;
 use references::{Block, Reference};
 use resolver::LiveCounts;
-use std::io;
 
 // The table's words, and the bytes that it stores.
 pub type Words = [u64; limits::WORDS];
@@ -60,40 +59,29 @@ pub const SNAPSHOT: usize = 225;
 pub const OPENED: u64 = 42720;
 
 // Registers at eight minutes to noon.
-pub fn open(
-    out: &mut Buffer,
-    log: &mut Log,
-    words: &mut Words,
-    store: &mut Store,
-) -> io::Result<()> {
-    reset(out, log, words, store)?;
+pub fn open(out: &mut Buffer, log: &mut Log, words: &mut Words, store: &mut Store) {
+    reset(out, log, words, store);
     let mut list = [0u8; 44];
     // The list is as long as its binding, so it is not refused.
     let _ = list_writer::write(&EXPORTER, &[], &mut list);
-    register(out, log, words, store, &list)
+    register(out, log, words, store, &list);
 }
 
-fn reset(out: &mut Buffer, log: &mut Log, words: &mut Words, store: &Store) -> io::Result<()> {
+fn reset(out: &mut Buffer, log: &mut Log, words: &mut Words, store: &Store) {
     let number = kinds::number(resolver::reset(words, store, OPENED));
     recorder::reset(log, OPENED, number);
     say::step(
         out,
         number,
         "server: resets its table at eight minutes to noon",
-    )
+    );
 }
 
-fn register(
-    out: &mut Buffer,
-    log: &mut Log,
-    words: &mut Words,
-    store: &mut Store,
-    list: &[u8],
-) -> io::Result<()> {
+fn register(out: &mut Buffer, log: &mut Log, words: &mut Words, store: &mut Store, list: &[u8]) {
     let entered = resolver::enter_exporter(words, store, OXID, UNKNOWN, list);
     let number = kinds::number(entered);
     recorder::enter_exporter(log, OXID, UNKNOWN, list, number);
-    say::step(out, number, "server: registers as exporter")
+    say::step(out, number, "server: registers as exporter");
 }
 
 // Enters the group and writes its reference, which carries the resolver's address (MS-DCOM, sections 2.2.18.4 and 2.2.19.3).
@@ -103,15 +91,15 @@ pub fn offer(
     words: &mut Words,
     store: &Store,
     reference: &mut [u8; REFERENCE],
-) -> io::Result<()> {
-    enter(out, log, words, store)?;
+) {
+    enter(out, log, words, store);
     let mut list = [0u8; 30];
     // The list is as long as its binding, so it is not refused.
     let _ = list_writer::write(&RESOLVER, &[], &mut list);
-    write(out, &list, reference)
+    write(out, &list, reference);
 }
 
-fn enter(out: &mut Buffer, log: &mut Log, words: &mut Words, store: &Store) -> io::Result<()> {
+fn enter(out: &mut Buffer, log: &mut Log, words: &mut Words, store: &Store) {
     let entered = resolver::enter_object(words, store, OID, OXID, IPID, IID, 5, false);
     let number = kinds::number(entered);
     recorder::enter_object(log, OID, OXID, IPID, IID, 5, number);
@@ -119,10 +107,10 @@ fn enter(out: &mut Buffer, log: &mut Log, words: &mut Words, store: &Store) -> i
         out,
         number,
         "server: enters the tank level group with 5 public references",
-    )
+    );
 }
 
-fn write(out: &mut Buffer, list: &[u8], reference: &mut [u8; REFERENCE]) -> io::Result<()> {
+fn write(out: &mut Buffer, list: &[u8], reference: &mut [u8; REFERENCE]) {
     let r = Reference::standard(IID, block());
     let written = reference_writer::write(r, list, b"", reference);
     let n = written.unwrap_or(0);
@@ -130,17 +118,11 @@ fn write(out: &mut Buffer, list: &[u8], reference: &mut [u8; REFERENCE]) -> io::
         out,
         kinds::number(written),
         format_args!("server: writes the reference, {n} bytes"),
-    )
+    );
 }
 
 // The snapshot of the box that goes.
-pub fn save(
-    out: &mut Buffer,
-    log: &mut Log,
-    words: &Words,
-    store: &Store,
-    snapshot: &mut [u8],
-) -> io::Result<()> {
+pub fn save(out: &mut Buffer, log: &mut Log, words: &Words, store: &Store, snapshot: &mut [u8]) {
     let r = Written::from(resolver::write_snapshot(words, store, snapshot));
     recorder::write_snapshot(log, r.answer, snapshot, r.length);
     say::step(
@@ -150,7 +132,7 @@ pub fn save(
             "server: writes a snapshot of its table at noon, {} bytes",
             r.length
         ),
-    )
+    );
 }
 
 // The box that comes; the clock from which it goes on by the seconds that pass there: the snapshot's, not its own.
@@ -160,47 +142,37 @@ pub fn take_over(
     words: &mut Words,
     store: &mut Store,
     snapshot: &[u8],
-) -> io::Result<u64> {
+) -> u64 {
     let number = kinds::number(resolver::load_snapshot(words, store, snapshot));
     recorder::load_snapshot(log, snapshot, number);
     say::step(
         out,
         number,
         "server: loads it into another box, which takes over",
-    )?;
-    Ok(fields::read_u64(snapshot, 2))
+    );
+    fields::read_u64(snapshot, 2)
 }
 
 // Drops a client that was lost.
-pub fn drop_client(
-    out: &mut Buffer,
-    log: &mut Log,
-    words: &mut Words,
-    store: &Store,
-) -> io::Result<()> {
+pub fn drop_client(out: &mut Buffer, log: &mut Log, words: &mut Words, store: &Store) {
     let number = kinds::number(resolver::drop_client(words, store, 1));
     recorder::drop_client(log, 1, number);
     say::step(
         out,
         number,
         "server: drops the private references of client 1",
-    )
+    );
 }
 
 // Leaves.
-pub fn close(
-    out: &mut Buffer,
-    log: &mut Log,
-    words: &mut Words,
-    store: &mut Store,
-) -> io::Result<()> {
+pub fn close(out: &mut Buffer, log: &mut Log, words: &mut Words, store: &mut Store) {
     let number = kinds::number(resolver::remove_exporter(words, store, OXID));
     recorder::remove_exporter(log, OXID, number);
-    say::step(out, number, "server: leaves")
+    say::step(out, number, "server: leaves");
 }
 
 // What is live.
-pub fn census(out: &mut Buffer, log: &mut Log, words: &Words, store: &Store) -> io::Result<()> {
+pub fn census(out: &mut Buffer, log: &mut Log, words: &Words, store: &Store) {
     let r = LiveCounts::from(resolver::census(words, store));
     let [exporters, objects, interfaces, sets] = [r.exporters, r.objects, r.interfaces, r.sets].map(
         |n| n as u64,
@@ -212,5 +184,5 @@ pub fn census(out: &mut Buffer, log: &mut Log, words: &Words, store: &Store) -> 
     let what = format_args!(
         "server: census, {exporters} exporters, {objects} objects, {interfaces} interfaces, {sets} sets"
     );
-    say::step(out, r.answer, what)
+    say::step(out, r.answer, what);
 }
