@@ -4,3 +4,4 @@ pub mod Sizes
 pub mod FreePlaces
 pub mod Placed
 pub mod Fitting
+pub mod Hints

@@ -9,6 +9,7 @@ ghost use Rattle.rules.specs.Entries.{Interface, PingSet, oxids, count_of, expor
 ghost use Rattle.rules.specs.Sound.{lists_kept, held, heard_within, pinged_within};
 ghost use Rattle.rules.specs.Rules.{no_exporter, no_object, no_interface, no_set};
 ghost use Rattle.table_view.specs.Counts.{counts_at};
+ghost use Rattle.table_view.specs.Hints.{hinted};
 
 use kinds::{Guid, Oid, Oxid, SetId, limits};
 use table_columns::buckets;
@@ -121,8 +122,10 @@ pub fn object_row(words: &[u64], oid: Oid) -> usize
     table_columns::index_of(oids(words), oid.0)
 }
 
-// Notes the row of each identifier under its bucket. What the hints then hold is undecided: whoever tries a row compares what stands there.
-pub fn hint(ids: &[u64], hints: &mut [u8; buckets::BUCKETS]) {
+// Notes the row of each identifier under its bucket. Buckets are shared: whoever tries a row compares what stands there.
+pub fn hint(ids: &[u64], hints: &mut [u8; buckets::BUCKETS])
+    ensures { hints.new ≡ hinted ids.now hints.old (length ids.now) }
+{
     for (row, id) in ids.iter().enumerate() {
         hints[buckets::of_word(*id)] = (row % 256) as u8;
     }
