@@ -183,7 +183,8 @@ impl<'a> Iterator for Walk<'a> {
 
     ghost remaining = { λ w. at_most w.left };
 
-    // Each step is as long as its binding.
+    // Each step is as long as its binding. Compiled into each walk, whose state then stays in registers.
+    #[inline(always)]
     fn next(&mut self) -> Option<Range<usize>> {
         if self.left == 0 || fields::word(self.s, self.at) == 0 {
             return None;

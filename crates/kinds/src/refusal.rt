@@ -2,6 +2,8 @@
 ghost use Rattle.std.specs.Prelude.{◌≡◌};
 ghost use Rattle.kinds.specs.Answers.{refusal_number, answer_number};
 
+use crate::answer;
+
 #[derive(Clone, Copy, PartialEq, Eq)]
 pub enum Refusal {
     // A lent table has the wrong length or is not sound.
@@ -54,29 +56,29 @@ impl From<Refusal> for u32 {
 
     fn from(why: Refusal) -> u32 {
         match why {
-            Refusal::Unsound => 1,
-            Refusal::ClockBack => 2,
-            Refusal::BadIdentifier => 3,
-            Refusal::NoExporter => 4,
-            Refusal::NoObject => 5,
-            Refusal::NoInterface => 6,
-            Refusal::NoReferences => 7,
-            Refusal::CountOverflow => 8,
-            Refusal::NoPlace => 9,
-            Refusal::TooMany => 10,
-            Refusal::NoSet => 11,
-            Refusal::Stale => 12,
-            Refusal::Short => 13,
-            Refusal::Layout => 14,
-            Refusal::NoRoom => 15,
-            Refusal::Version => 16,
-            Refusal::SetsUsedUp => 18,
-            Refusal::LongList => 19,
-            Refusal::NoClient => 20,
-            Refusal::TooDeep => 21,
-            Refusal::NilIdentifier => 22,
-            Refusal::NoSnapshot => 23,
-            Refusal::NoBinding => 24,
+            Refusal::Unsound => answer::UNSOUND,
+            Refusal::ClockBack => answer::CLOCK_BACK,
+            Refusal::BadIdentifier => answer::BAD_IDENTIFIER,
+            Refusal::NoExporter => answer::NO_EXPORTER,
+            Refusal::NoObject => answer::NO_OBJECT,
+            Refusal::NoInterface => answer::NO_INTERFACE,
+            Refusal::NoReferences => answer::NO_REFERENCES,
+            Refusal::CountOverflow => answer::COUNT_OVERFLOW,
+            Refusal::NoPlace => answer::NO_PLACE,
+            Refusal::TooMany => answer::TOO_MANY,
+            Refusal::NoSet => answer::NO_SET,
+            Refusal::Stale => answer::STALE,
+            Refusal::Short => answer::SHORT,
+            Refusal::Layout => answer::LAYOUT,
+            Refusal::NoRoom => answer::NO_ROOM,
+            Refusal::Version => answer::VERSION,
+            Refusal::SetsUsedUp => answer::SETS_USED_UP,
+            Refusal::LongList => answer::LONG_LIST,
+            Refusal::NoClient => answer::NO_CLIENT,
+            Refusal::TooDeep => answer::TOO_DEEP,
+            Refusal::NilIdentifier => answer::NIL_IDENTIFIER,
+            Refusal::NoSnapshot => answer::NO_SNAPSHOT,
+            Refusal::NoBinding => answer::NO_BINDING,
         }
     }
 }
@@ -86,7 +88,7 @@ pub fn number<T: Copy>(answer: Result<T, Refusal>) -> u32
     ensures { result ≡ answer_number answer }
 {
     match answer {
-        Ok(_) => 0,
+        Ok(_) => answer::DONE,
         Err(why) => u32::from(why),
     }
 }

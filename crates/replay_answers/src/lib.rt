@@ -5,6 +5,8 @@ mod results;
 
 use fields::{Written, read_guid, read_u16, read_u32, read_u64};
 use kinds::{Oid, Oxid, Refusal, SetId};
+use resolver::Stop;
+use std::ops::Range;
 
 // The number of an answer and its results, 0 where it has fewer, and how many bytes it shows.
 #[derive(Clone, Copy)]
@@ -139,8 +141,16 @@ fn resolve_filtered(
 
 // A part of the store or of the reference.
 fn next_stop(words: &[u64], store: &[u8], reference: &[u8], buffer: &mut [u8]) -> Answered {
-    let number = resolver::next_stop_answer(words, store, reference);
-    let stop = resolver::next_stop(words, store, reference);
-    fields::copy(buffer, 0, stop);
-    Answered::showing(number, stop.len())
+    match resolver::next_stop_place(words, store, reference) {
+        Ok(Stop::InStore(place)) => shown(buffer, store, place),
+        Ok(Stop::InReference(place)) => shown(buffer, reference, place),
+        Err(why) => why.into(),
+    }
+}
+
+// The bytes of a place, at the front of a buffer.
+fn shown(buffer: &mut [u8], s: &[u8], place: Range<usize>) -> Answered {
+    let part = s.get(place).unwrap_or(&[]);
+    fields::copy(buffer, 0, part);
+    Answered::showing(0, part.len())
 }

@@ -76,11 +76,11 @@ pub fn guid_at(lows: &[u64], highs: &[u64], i: usize) -> Guid
     }
 }
 
-// g stands at i.
+// g stands at i. Where the first half differs, the second is not looked at.
 pub fn is_guid_at(lows: &[u64], highs: &[u64], i: usize, g: Guid) -> bool
     ensures { result ≡ same_guid g (guid_at lows.now highs.now i) }
 {
-    g == guid_at(lows, highs, i)
+    g.low == word_at(lows, i) && g.high == word_at(highs, i)
 }
 
 // The first index of g, or the length of lows where it is not there.
