@@ -4,6 +4,7 @@ use mathlib.Core.Path.{◌≡◌, refl, sym, ap, ◌∙◌}
 use mathlib.Core.Bool.{Bool, true, false, ◌&&◌}
 use mathlib.Core.List.{List, [], ◌∷◌, ◌++◌, append_assoc}
 use native.Mathlib.Omega.{arith}
+use native.Mathlib.Numerals.{add-one}
 use native.Mathlib.Nat.{pow-suc, pow-zero, add-zero, zero-add, div-lt_iff_lt-mul, pow-le-pow_right}
 use borrow.Author.Tests.{le-leb, lt-leb, leb-true, leb-false, eq-eqb, ne_eqb, eqb-true}
 use lib.Dec.{eqb, leb}
@@ -307,6 +308,9 @@ module _ (s : List ℕ) (at i : ℕ) where
       drop-set-lt (at + i + suc (length bs)) s (at + i) b (omega arith) in
       rw (o, written_in_lem (set s (at + i) b) (suc (at + i)) bs room, written_in_lem s (at + i) (b ∷ bs) h, e, d, take-suc-set s (at + i) b (omega arith))
       (append_snoc (take (at + i) s) b (bs ++ drop (at + i + suc (length bs)) s))
+
+  pub written-copy : (src : List ℕ) → i < length src → at + length src ≤ length s → written (set s (at + i) (get_or src i 0)) (at + (i + 1)) (drop (i + 1) src) ≡ written s (at + i) (drop i src)
+  written-copy src l h = written-more (get_or src i 0) (drop (i + 1) src) (rw length-drop (omega arith)) ∙ rw (drop-cons src i 0 l, add-one i)
 
 pub length-written : (s : List ℕ) (at : ℕ) (b : List ℕ) → length (written s at b) ≡ length s
 unfolding written

@@ -153,6 +153,9 @@ pub fn copy(buf: &mut [u8], at: usize, src: &[u8])
     ensures { buf.new ≡ written buf.old at src.now }
 {
     if inside(buf.len(), at, src.len()) {
-        buf[at..at + src.len()].copy_from_slice(src);
+        // Not by the library's copy of slices, which is C's memmove: the archive for C needs no such name from outside.
+        for k in 0..src.len() {
+            buf[at + k] = src[k];
+        }
     }
 }
