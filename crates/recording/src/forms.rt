@@ -27,7 +27,8 @@ macro_rules! form {
     };
 }
 
-const FORMS: [Form; 20] = [
+// It stands in the program once; a `const` was put on the stack at each call.
+static FORMS: [Form; 20] = [
     form!(9, 0, 0, 0, 0),
     form!(25, 1, 0, 0, 0),
     form!(9, 0, 0, 0, 0),

@@ -174,7 +174,9 @@ fn sets_sound(words: &[u64]) -> bool
     members_live(words)
 }
 
-// Whether a lent table is sound: both lengths are 8,192, and every clause holds of the live entries.
+// Whether a lent table is sound: both lengths are 8,192, and every clause holds of the live entries. In a frame of its own, so that its
+// index is off the stack before a call's step begins.
+#[inline(never)]
 pub fn sound(words: &[u64], store: &[u8]) -> bool
     ensures { result ≡ sound_memory (memory words.now store.now) }
 {
