@@ -68,7 +68,8 @@ fn enter(rows: &mut [u8], b: usize, k: usize, number: u8)
 }
 
 // Whether the words of a column are proper; notes each. From the last word to the first: where one is not yet noted, no later word is
-// the same.
+// the same. Compiled into each caller, whose index has a known length: as a call it divided by that length twice for each word.
+#[inline(always)]
 pub fn note(rows: &mut [u8], col: &[u64]) -> bool
     requires { (0 < length rows.old) × (length col.now < 256) }
     ensures { Noted col.now rows.new result }

@@ -1,9 +1,10 @@
 -- The words of std for what lists say: what chains of iterators give.
-use Rattle.std.proofs.Common.{◌≡◌, ℕ, zero, suc, ◌+◌, ◌-◌, Bool, true, false, cond, not, ◌&&◌, ◌||◌, eqb, List}
-use Rattle.std.proofs.Common.{[], ◌∷◌, length, drop, Option, refl, sym, ap, ◌∙◌, ⊎_elim, arith, lt-ltb, le-ltb, eq-eqb, ne_eqb}
-use Rattle.std.specs.List.{list_all, list_any, position_or_len, position, range_with_len}
-use Rattle.std.specs.Option.{unwrap_or}
-use Rattle.std.proofs.lemmas.List.FromFn.{length-range_with_len}
+use Rattle.std.proofs.Common.{◌≡◌, ℕ, zero, suc, ◌+◌, ◌-◌, ◌≤◌, Bool, true, false, cond, not, ◌&&◌, ◌||◌, eqb, List}
+use Rattle.std.proofs.Common.{[], ◌∷◌, length, drop, Option, Some, refl, sym, ap, ◌∙◌, ⊎_elim, arith, rules, tests, lt-ltb, le-ltb, eq-eqb, ne_eqb}
+use mathlib.Core.Bool.{or_assoc}
+use Rattle.std.specs.List.{list_all, list_any, position_or_len, position, find, fold, range_with_len}
+use Rattle.std.specs.Option.{unwrap_or, option_map}
+use Rattle.std.proofs.lemmas.Iterator.Adapters.{option_map_id}
 use Rattle.lists.specs.Lists.{every, some, first_index, among, tabulate}
 use Rattle.lists.proofs.Tests.{same_or_not, below_or_not}
 use Rattle.lists.proofs.First.{first-le}
@@ -53,18 +54,24 @@ module _ {A : Type 0} (p : A → Bool) (f : ℕ → A) (n : ℕ) where
   all-table a zero e = rw (table-end n f a (omega arith))
   all-table a (suc k) e = rw (table_step n f a (omega arith)) (ap (λ (b : Bool). p (f a) && b) (all-table (a + 1) k (omega arith)))
 
-  -- `any`
-  pub any-table : (a k : ℕ) → n - a ≡ k → list_any (λ i. p (f i)) (range_with_len a k) ≡ some p (drop a (tabulate n f))
+  -- `fold` by a test, without an early end
+  pub fold-table : (b : Bool) (a k : ℕ) → n - a ≡ k → fold (λ c i. c || p (f i)) b (range_with_len a k) ≡ (b || some p (drop a (tabulate n f)))
   unfolding some
-  any-table a zero e = rw (table-end n f a (omega arith))
-  any-table a (suc k) e = rw (table_step n f a (omega arith)) (ap (λ (b : Bool). p (f a) || b) (any-table (a + 1) k (omega arith)))
+  fold-table b a zero e = rw (table-end n f a (omega arith)) (search (rules, tests))
+  fold-table b a (suc k) e = rw (table_step n f a (omega arith)) (fold-table (b || p (f a)) (a + 1) k (omega arith) ∙ or_assoc b (p (f a)) (some p (drop (a + 1) (tabulate n f))))
 
-  first-table : (a k : ℕ) → n - a ≡ k → first_index (λ i. p (f i)) (range_with_len a k) ≡ first_index p (drop a (tabulate n f))
+  found-from : (a k : ℕ) → n - a ≡ k → unwrap_or (find (λ i. p (f i)) (range_with_len a k)) (a + k) ≡ a + first_index p (drop a (tabulate n f))
   unfolding first_index
-  first-table a zero e = rw (table-end n f a (omega arith))
-  first-table a (suc k) e = rw (table_step n f a (omega arith)) (ap (λ (m : ℕ). cond (p (f a)) 0 (suc m)) (first-table (a + 1) k (omega arith)))
+  found-from a zero e = rw (table-end n f a (omega arith))
+  found-from a (suc k) e = rw (table_step n f a (omega arith)) (by (p (f a)) (found-from (a + 1) k (omega arith)))
+    where
+      by : (b : Bool) → unwrap_or (find (λ i. p (f i)) (range_with_len (a + 1) k)) (a + 1 + k) ≡ a + 1 + first_index p (drop (a + 1) (tabulate n f))
+          → unwrap_or (cond b (Some a) (find (λ i. p (f i)) (range_with_len (a + 1) k))) (a + suc k) ≡ a + cond b 0 (suc (first_index p (drop (a + 1) (tabulate n f))))
+      by true h = omega arith
+      by false h = let e : a + suc k ≡ a + 1 + k = omega arith in rw e (h ∙ omega arith)
 
-  -- `position` from the front, and n where it finds none
-  pub found-table : {o : Option ℕ} → o ≡ position (λ i. p (f i)) (range_with_len 0 n) → unwrap_or o n ≡ first_index p (tabulate n f)
-  found-table {o} e =
-      ap (unwrap_or o) (sym (length-range_with_len 0 n)) ∙ found-first (λ i. p (f i)) (range_with_len 0 n) e ∙ first-table 0 n (omega arith)
+  -- `find`, and n where it finds none
+  pub found-table : (a : ℕ) (o : Option ℕ) → a ≤ n → option_map (λ x. x) o ≡ find (λ i. p (f i)) (range_with_len a (n - a)) → unwrap_or o n ≡ a + first_index p (drop a (tabulate n f))
+  found-table a o h e =
+      let l : a + (n - a) ≡ n = omega arith in
+      ap (λ (w : Option ℕ). unwrap_or w n) (sym (option_map_id o) ∙ e) ∙ rw l at (found-from a (n - a) refl)

@@ -2,3 +2,4 @@ pub mod Chains
 pub mod Loops
 pub mod Moves
 pub mod GuidColumns
+pub mod Passing

@@ -1,7 +1,8 @@
 -- Loops over a column or a table: what the elements from i on say is what the whole says.
-use Rattle.std.proofs.Common.{◌≡◌, ℕ, ◌+◌, ◌-◌, ◌<◌, ◌≤◌, Bool, true, false, List, [], ◌∷◌}
+use Rattle.std.proofs.Common.{◌≡◌, ℕ, ◌+◌, ◌-◌, ◌<◌, ◌≤◌, Bool, true, false, min, ⊎_elim, List, [], ◌∷◌}
 use Rattle.std.proofs.Common.{length, get_or, take, drop, sym, ap, ◌∙◌, add-one, arith, length-drop, drop_of_length-le, take_all, drop-cons}
 use Rattle.lists.specs.Lists.{every, tabulate}
+use Rattle.lists.proofs.Tests.{below_or_not}
 use Rattle.lists.proofs.Lists.{length-tabulate, get_d_tabulate}
 
 -- ---- the elements from i on
@@ -21,6 +22,15 @@ column-end xs i h = drop_of_length-le xs h
 -- the part of a column that code lends as its tail
 pub tail-part : {A : Type 0} (k : ℕ) (xs : List A) → take (length xs - k) (drop k xs) ≡ drop k xs
 tail-part k xs = take_all (length xs - k) (drop k xs) (simp length-drop (omega arith))
+
+-- the same where k may be past the end
+pub tail-cut : {A : Type 0} (k : ℕ) (xs : List A) → take (length xs - min k (length xs)) (drop (min k (length xs)) xs) ≡ drop k xs
+tail-cut k xs =
+    tail-part (min k (length xs)) xs
+    ∙ ⊎_elim
+    (λ h. ap (λ (i : ℕ). drop i xs) (omega arith))
+    (λ h. column-end xs (min k (length xs)) (omega arith) ∙ sym (column-end xs k (omega arith)))
+    (below_or_not k (length xs))
 
 -- the first of a table's from i on, and the rest
 pub table_step : {A : Type 0} (n : ℕ) (f : ℕ → A) (i : ℕ) → i < n → drop i (tabulate n f) ≡ f i ∷ drop (i + 1) (tabulate n f)

@@ -6,7 +6,7 @@ pub mod members;
 pub mod order;
 pub mod rows;
 
-ghost use Rattle.std.specs.Prelude.{◌≡◌, ◌+◌, ◌-◌, not, leb, drop, nat_eq, nat_le, nat_lt, slice_index};
+ghost use Rattle.std.specs.Prelude.{◌≡◌, false, ◌+◌, ◌-◌, ◌≤◌, length, not, leb, take, drop, nat_eq, nat_le, nat_lt, slice_index};
 ghost use Rattle.lists.specs.Lists.{every, some, first_index, among};
 ghost use Rattle.table_columns.specs.Moved.{removed_at, copied_down};
 ghost use Rattle.lists.specs.Guids.{nil, same_guid};
@@ -83,25 +83,58 @@ pub fn is_guid_at(lows: &[u64], highs: &[u64], i: usize, g: Guid) -> bool
     g.low == word_at(lows, i) && g.high == word_at(highs, i)
 }
 
+// So many rows are compared for each branch.
+const BLOCK: usize = 8;
+
+// g stands in a block of rows. No row ends the search, so that all are compared side by side.
+fn in_block(lows: &[u64], highs: &[u64], g: Guid) -> bool
+    ensures { result ≡ some (same_guid g) (guids lows.now highs.now) }
+{
+    (0..lows.len()).fold(false, |found, i| {
+        found | ((g.low == word_at(lows, i)) & (g.high == word_at(highs, i)))
+    })
+}
+
+// How many rows at the front, in whole blocks, are passed: g stands in none of them.
+fn passed(lows: &[u64], highs: &[u64], g: Guid) -> usize
+    ensures { (result ≤ length lows.now) × (some (same_guid g) (take result (guids lows.now highs.now)) ≡ false) }
+{
+    let mut n = 0;
+    for (low, high) in lows.chunks_exact(BLOCK).zip(highs.chunks_exact(BLOCK)) {
+        if in_block(low, high, g) {
+            break;
+        }
+        n += BLOCK;
+    }
+    n
+}
+
 // The first index of g, or the length of lows where it is not there.
 pub fn guid_index_of(lows: &[u64], highs: &[u64], g: Guid) -> usize
     ensures { result ≡ first_index (same_guid g) (guids lows.now highs.now) }
 {
-    (0..lows.len())
-        .position(|i| is_guid_at(lows, highs, i, g))
+    (passed(lows, highs, g)..lows.len())
+        .find(|&i| is_guid_at(lows, highs, i, g))
         .unwrap_or(lows.len())
+}
+
+// The words from an index on; none where it is past the end.
+fn rest(col: &[u64], from: usize) -> &[u64]
+    ensures { result.now ≡ drop from col.now }
+{
+    &col[from.min(col.len())..]
 }
 
 pub fn has_guid_from(lows: &[u64], highs: &[u64], from: usize, g: Guid) -> bool
     ensures { result ≡ some (same_guid g) (drop from (guids lows.now highs.now)) }
 {
-    (from..lows.len()).any(|i| is_guid_at(lows, highs, i, g))
+    has_guid(rest(lows, from), rest(highs, from), g)
 }
 
 pub fn has_guid(lows: &[u64], highs: &[u64], g: Guid) -> bool
     ensures { result ≡ some (same_guid g) (guids lows.now highs.now) }
 {
-    has_guid_from(lows, highs, 0, g)
+    guid_index_of(lows, highs, g) < lows.len()
 }
 
 // Takes the word at k out: the words after it move down by one, and the last stays.
