@@ -1,8 +1,9 @@
-/* Does functions of the header on stacks that end, at a page that can't be touched, as many bytes below the caller's frame
- * as the header promises: each call on a table, with the longest lists and where objects go; the deepest nest, the most
- * extensions, and a recording, which is read from standard input. Each runs in a process of its own, and is told by its name
- * where it goes deeper or answers something else. With the argument "measure" it writes what is promised and the least that
- * suffices. Linked with -z now, since what finds a function at its first call takes stack too. */
+/* Calls functions of the header on stacks that end, at a page that can't be touched, as many bytes below the caller's frame
+ * as the header promises: each call on a table, with the longest lists and where objects go; of what takes no table what
+ * reads and what writes each form, with the deepest nest and the most extensions. A recording is read from standard input.
+ * Each runs in a process of its own, and is told by its name where it goes deeper or answers something else. With the
+ * argument "measure" it writes what is promised and the least that suffices. Linked with -z now, since what finds a function
+ * at its first call takes stack too. */
 #define _DEFAULT_SOURCE
 #include "rimonakh_more.h"
 
@@ -23,11 +24,15 @@ enum {
 };
 
 static rimonakh_table full, few, held; /* held: by client 7 alone */
-static uint8_t list[LIST], nest[NEST], recording[1024 * KIB], snapshot[SNAPSHOT];
+static uint8_t list[LIST], nest[NEST], inner[NEST], recording[1024 * KIB], snapshot[SNAPSHOT];
 static uint8_t items[MOST * RIMONAKH_ITEM_SIZE], buffer[SNAPSHOT + MOST];
 static uint64_t oids[MOST], entries[4 * RIMONAKH_MOST_EXTENSIONS];
 static uint16_t protocols[MOST];
-static size_t nest_length, recording_length, snapshot_length;
+static const uint16_t words[] = {7, 'a', 0}; /* a binding */
+static uint8_t single[KIB], header[4 * KIB], property[64], context[128];
+static size_t nest_length, inner_length, recording_length, snapshot_length;
+static size_t single_length, header_length, property_length, context_length;
+static rimonakh_fragments begun, whole; /* of the single reference */
 static bool other;        /* the call answered something else */
 static const char *frame; /* of the function that calls */
 
@@ -66,14 +71,30 @@ DOES(finds_stop, rimonakh_next_stop(FULL, nest, nest_length).answer, 0)
 DOES(counts_live, rimonakh_census(FULL).interfaces, RIMONAKH_INTERFACES)
 DOES(counts_members, rimonakh_members(FULL, 1).count, RIMONAKH_OBJECTS)
 
-/* ---- others */
+/* ---- without a table */
 
+#define NEST_OF(content, length) \
+    RIMONAKH_EXTENDED, 1, 1, 0, 1, 1, 1, 3, 3, 0, 0, 0, 0, 1, 1, list, LIST, content, length
+#define EXTENSIONS entries, 4 * RIMONAKH_MOST_EXTENSIONS, nest, RIMONAKH_MOST_EXTENSIONS
+#define ROOM buffer, SNAPSHOT
 DOES(finds_whole, rimonakh_whole_records(recording, recording_length).end, recording_length)
+DOES(judges_list, rimonakh_list_answer(list, LIST), 0)
+DOES(finds_binding, rimonakh_list_string_binding(list, LIST, 0).to, LIST - 4)
+DOES(begins_walk, rimonakh_list_strings(list, LIST).answer, 0)
+DOES(writes_list, rimonakh_list_write(words, 3, NULL, 0, ROOM).answer, 0)
 DOES(reads_nest, rimonakh_reference_read(nest, nest_length).answer, 0)
 DOES(finds_element, rimonakh_reference_element(nest, nest_length, 0).answer, 0)
-#define EXTENSIONS entries, 4 * RIMONAKH_MOST_EXTENSIONS, nest, RIMONAKH_MOST_EXTENSIONS
-DOES(writes_header, rimonakh_this_write_extensions(7, 0, 1, 1, 1, 1, EXTENSIONS, buffer, SNAPSHOT).answer, 0)
-DOES(judges_list, rimonakh_list_answer(list, LIST), 0)
+DOES(writes_nest, rimonakh_reference_write(NEST_OF(inner, inner_length), ROOM).length, nest_length)
+DOES(pushes_first, rimonakh_fragments_push(rimonakh_fragments_none(), ROOM, single, single_length).seen, single_length)
+DOES(pushes_rest, rimonakh_fragments_push(begun, ROOM, single + 1, single_length - 1).seen, single_length)
+DOES(finishes, rimonakh_fragments_finish(whole, ROOM, snapshot, SNAPSHOT).answer, 0)
+DOES(reads_header, rimonakh_this_read(header, header_length).answer, 0)
+DOES(finds_extension, rimonakh_this_extension(header, header_length, RIMONAKH_MOST_EXTENSIONS - 1).answer, 0)
+DOES(writes_header, rimonakh_this_write_extensions(7, 0, 1, 1, 1, 1, EXTENSIONS, ROOM).length, header_length)
+DOES(reads_context, rimonakh_context_read(context, context_length).answer, 0)
+DOES(reads_property, rimonakh_context_property(context, context_length, 0).answer, 0)
+DOES(writes_context, rimonakh_context_write(1, 1, 0, 0, 1, 0, property, property_length, ROOM).length, context_length)
+DOES(writes_property, rimonakh_property_write(1, 1, 1, 1, 1, list, 8, ROOM).length, property_length)
 
 static const struct {
     const char *name;
@@ -102,10 +123,23 @@ static const struct {
     {"census", 12 * KIB, counts_live},
     {"members", 12 * KIB, counts_members},
     {"whole_records", 4 * KIB, finds_whole},
+    {"list_answer", 4 * KIB, judges_list},
+    {"list_string_binding", 4 * KIB, finds_binding},
+    {"list_strings", 4 * KIB, begins_walk},
+    {"list_write", 4 * KIB, writes_list},
     {"reference_read", 4 * KIB, reads_nest},
     {"reference_element", 4 * KIB, finds_element},
+    {"reference_write", 4 * KIB, writes_nest},
+    {"fragments_push", 4 * KIB, pushes_first},
+    {"fragments_push", 4 * KIB, pushes_rest},
+    {"fragments_finish", 4 * KIB, finishes},
+    {"this_read", 4 * KIB, reads_header},
+    {"this_extension", 4 * KIB, finds_extension},
     {"this_write_extensions", 4 * KIB, writes_header},
-    {"list_answer", 4 * KIB, judges_list},
+    {"context_read", 4 * KIB, reads_context},
+    {"context_property", 4 * KIB, reads_property},
+    {"context_write", 4 * KIB, writes_context},
+    {"property_write", 4 * KIB, writes_property},
 };
 
 /* ---- a stack of so many bytes */
@@ -124,8 +158,7 @@ static void on_stack(size_t bytes, void (*call)(void)) {
     makecontext(&there, call, 0);
     if (swapcontext(&here, &there) != 0)
         _exit(2);
-    if (call == nothing)
-        above = (size_t)(pages + PAGE + room - frame);
+    above = (size_t)(pages + PAGE + room - frame);
 }
 
 /* The call ends well on a stack of so many bytes. */
@@ -186,7 +219,6 @@ static bool fill_full(void) {
     for (uint64_t x = 1; x <= RIMONAKH_EXPORTERS; x++)
         refused |= rimonakh_enter_exporter(FULL, x, x, 2, list, LIST);
     for (uint64_t o = 1; o <= RIMONAKH_OBJECTS; o++) {
-        oids[o - 1] = o;
         refused |= rimonakh_enter_object(FULL, o, 1 + o % RIMONAKH_EXPORTERS, 1000 + o, 1, 1, 1, 1, false);
         refused |= rimonakh_enter_interface(FULL, o, 2000 + o, 1, 1, 1, 1);
         refused |= rimonakh_add(FULL, 7, 2000 + o, 1, 0, 1);
@@ -200,17 +232,27 @@ static bool fill_full(void) {
 
 /* A custom reference in as many extended ones as may be. */
 static bool make_nest(void) {
-    const rimonakh_guid none = {0, 0}, some = {1, 1};
-    const rimonakh_block block = {0, 1, 1, 1, {3, 3}};
-    const rimonakh_reference inner = {RIMONAKH_CUSTOM, some, {0, 0, 0, 0, none}, some, 0, 0, none};
-    const rimonakh_reference outer = {RIMONAKH_EXTENDED, some, block, none, 0, 0, some};
-    rimonakh_written written = rimonakh_write_reference(&inner, NULL, 0, NULL, 0, nest, NEST);
+    rimonakh_written written =
+        rimonakh_reference_write(RIMONAKH_CUSTOM, 1, 1, 0, 0, 0, 0, 0, 0, 1, 1, 0, 0, 0, 0, NULL, 0, NULL, 0, nest, NEST);
     for (int level = 1; level < RIMONAKH_MOST_LEVELS && written.answer == 0; level++) {
-        memcpy(buffer, nest, written.length);
-        written = rimonakh_write_reference(&outer, list, LIST, buffer, written.length, nest, NEST);
+        inner_length = written.length;
+        memcpy(inner, nest, inner_length);
+        written = rimonakh_reference_write(NEST_OF(inner, inner_length), nest, NEST);
     }
     nest_length = written.length;
     return written.answer == 0;
+}
+
+/* A standard reference and its fragments, a header with the most extensions, a context with a property. */
+static bool make_others(void) {
+    single_length = rimonakh_reference_write(RIMONAKH_STANDARD, 1, 1, 0, 1, 1, 1, 3, 3, 0, 0, 0, 0, 0, 0, list, LIST, NULL, 0,
+                                             single, sizeof single).length;
+    begun = rimonakh_fragments_push(rimonakh_fragments_none(), buffer, SNAPSHOT, single, 1);
+    whole = rimonakh_fragments_push(begun, buffer, SNAPSHOT, single + 1, single_length - 1);
+    header_length = rimonakh_this_write_extensions(7, 0, 1, 1, 1, 1, EXTENSIONS, header, sizeof header).length;
+    property_length = rimonakh_property_write(1, 1, 1, 1, 1, list, 8, property, sizeof property).length;
+    context_length = rimonakh_context_write(1, 1, 0, 0, 1, 0, property, property_length, context, sizeof context).length;
+    return single_length != 0 && header_length != 0 && property_length != 0 && context_length != 0;
 }
 
 static void make_lists(void) {
@@ -232,9 +274,9 @@ int main(int argc, char **argv) {
     bool failed = false;
     recording_length = fread(recording, 1, sizeof recording, stdin);
     make_list();
-    if (!fill_few() || !fill_held() || !fill_full() || !make_nest())
-        return 2;
     make_lists();
+    if (!fill_few() || !fill_held() || !fill_full() || !make_nest() || !make_others())
+        return 2;
     on_stack(PAGE, nothing);
     for (size_t i = 0; i < sizeof rows / sizeof rows[0]; i++) {
         const bool kept = suffices(rows[i].promised, rows[i].call);
